@@ -1,0 +1,12 @@
+use Rattle.farm_base.proofs.Counting.{rises_add_up}
+use Rattle.farm_base.proofs.Telling.{additions_add_up, takings_add_up}
+use Rattle.farm_base.proofs.shared_laws.laws.Goals as goal
+
+pub returns-clause-counts_add_up : goal.returns-clause-counts_add_up
+returns-clause-counts_add_up c = rises_add_up
+
+pub returns-clause-additions_add_up : goal.returns-clause-additions_add_up
+returns-clause-additions_add_up c = additions_add_up
+
+pub returns-clause-takings_add_up : goal.returns-clause-takings_add_up
+returns-clause-takings_add_up c = takings_add_up

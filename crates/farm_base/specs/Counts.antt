@@ -1,0 +1,24 @@
+-- Counts of faults. An object of the outside counts its faults; the count never falls and stands still at the last u64.
+use Rattle.std.specs.Prelude.{ℕ, ◌+◌, ◌-◌, ◌^◌, ◌≤◌, min, Result, OnErr}
+
+-- the count is greater by at least n, or stands at its last value
+abbrev pub RoseBy : ℕ → ℕ → ℕ → Type 0
+RoseBy n before now = min (before + n) (2 ^ 64 - 1) ≤ now
+
+-- the count is greater, or stands at its last value
+abbrev pub Rose : ℕ → ℕ → Type 0
+Rose before now = RoseBy 1 before now
+
+-- the count hasn't fallen, and the call failed only where it rose
+pub record HasCause {T E : Type 0} (before now : ℕ) (result : Result T E) : Type 0 where
+  pub later : before ≤ now
+  pub failed : OnErr result (Rose before now)
+
+-- a count before a call and after it
+pub record Count : Type 0 where
+  pub before : ℕ
+  pub now : ℕ
+
+-- the count rose in the call
+abbrev pub HasRisen : Count → Type 0
+HasRisen count = Rose count.before count.now

@@ -1,0 +1,19 @@
+-- What the words of this crate have in common, stated for every value.
+use Rattle.std.specs.Prelude.{ℕ, ◌+◌, ◌≤◌, List, ◌++◌, Option}
+use Rattle.farm_base.specs.Counts.{RoseBy}
+use Rattle.farm_base.specs.Told.{Stream, Adds, Takes}
+
+-- two rises after one another are one rise by their sum
+abbrev pub CountsAddUp : Type 0
+CountsAddUp = (m n before middle now : ℕ) → before ≤ middle → middle ≤ now →
+    RoseBy m before middle → RoseBy n middle now → RoseBy (m + n) before now
+
+-- two additions after one another are one addition of both texts
+abbrev pub AdditionsAddUp : Type 0
+AdditionsAddUp = (old middle new : Option (List ℕ)) (first second : List ℕ) →
+    Adds old middle first → Adds middle new second → Adds old new (first ++ second)
+
+-- two takings after one another are one taking of both texts
+abbrev pub TakingsAddUp : Type 0
+TakingsAddUp = (old middle new : Option Stream) (first second : List ℕ) →
+    Takes old middle first → Takes middle new second → Takes old new (first ++ second)

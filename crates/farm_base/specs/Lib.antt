@@ -1,0 +1,4 @@
+pub mod Counts
+pub mod Told
+pub mod Appended
+pub mod Laws

@@ -1,0 +1,52 @@
+-- What an object tells of its bytes. Objects in memory tell, real ones don't (None); one may stop telling and never starts again.
+use Rattle.std.specs.Prelude.{◌≡◌, ℕ, ◌≤◌, List, [], ◌∷◌, ◌++◌, length, take, Option, Some, None}
+
+-- holds of the value where one is told
+abbrev pub WhereTold : {A : Type 0} → Option A → (A → Type 0) → Type 0
+WhereTold None P = Unit {0}
+WhereTold (Some x) P = P x
+
+-- what is told afterwards is what was told before
+abbrev pub Stays : {A : Type 0} → Option A → Option A → Type 0
+Stays old None = Unit {0}
+Stays old (Some new) = old ≡ Some new
+
+-- where the object still tells, it holds these bytes more
+abbrev pub Adds : Option (List ℕ) → Option (List ℕ) → List ℕ → Type 0
+Adds old None bytes = Unit {0}
+Adds None (Some new) bytes = ⊥
+Adds (Some old) (Some new) bytes = new ≡ old ++ bytes
+
+-- what was taken from a source, and what is left in it
+pub record Stream : Type 0 where
+  pub taken : List ℕ
+  pub left : List ℕ
+
+-- these bytes went from the front of what was left to the end of what was taken
+pub record Moved (old new : Stream) (bytes : List ℕ) : Type 0 where
+  pub taken : new.taken ≡ old.taken ++ bytes
+  pub left : old.left ≡ bytes ++ new.left
+
+-- where the source still tells, these bytes were taken from it
+abbrev pub Takes : Option Stream → Option Stream → List ℕ → Type 0
+Takes old None bytes = Unit {0}
+Takes None (Some new) bytes = ⊥
+Takes (Some old) (Some new) bytes = Moved old new bytes
+
+-- bytes are a front of the first text, then a front of the second, and so on
+abbrev pub Fronts : List (List ℕ) → List ℕ → Type 0
+Fronts [] bytes = bytes ≡ []
+Fronts (text ∷ texts) bytes =
+    (n : ℕ) × (n ≤ length text) × (rest : List ℕ) × (bytes ≡ take n text ++ rest) × Fronts texts rest
+
+-- a front of each of these texts was added, in their order
+pub record AddsAll (old new : Option (List ℕ)) (texts : List (List ℕ)) : Type 0 where
+  pub bytes : List ℕ
+  pub added : Adds old new bytes
+  pub fronts : Fronts texts bytes
+
+-- a front of each of these texts was added, and then the last text whole
+pub record AddsWhole (old new : Option (List ℕ)) (texts : List (List ℕ)) (last : List ℕ) : Type 0 where
+  pub bytes : List ℕ
+  pub added : Adds old new (bytes ++ last)
+  pub fronts : Fronts texts bytes

@@ -1,0 +1,2 @@
+pub mod Multiple
+pub mod Table

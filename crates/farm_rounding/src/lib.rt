@@ -1,0 +1,20 @@
+//! Rounding a quotient to a multiple of a step, and the table that says how each figure of the custody calculation is rounded.
+//!
+//! A rule is a step (1, 2, 5, 10, 20, 50 or 100 units of the figure) and a mode. The twelve rows of the table are the
+//! profile of this terminal; docs/definitions.md states them under "Rounding".
+#![tactic(auto)]
+
+mod mode;
+mod multiple;
+mod table;
+
+pub use mode::Mode;
+pub use multiple::nearest;
+pub use table::{
+    DEADWOOD_PART, FACTOR_TIES, GROSS_OBSERVED, GROSS_STANDARD, LIQUID_TEMPERATURE, MASS,
+    NET_STANDARD, ROOF_ADJUSTMENT, RoundTable, SHELL_CORRECTION, STRAPPED_ROW, TABLE_VOLUME,
+    TAPE_MEAN,
+};
+
+#[cfg(test)]
+mod tests;

@@ -1,0 +1,76 @@
+ghost use Rattle.std.specs.Prelude.{◌≡◌, ◌≤◌, pos};
+ghost use Rattle.farm_rounding.specs.Multiple.{IsAllowedStep};
+ghost use Rattle.farm_rounding.specs.Table.{row_at, usual_rows};
+
+use crate::Mode;
+use std::marker::Model;
+
+/// The mean of three tapes, in mm.
+pub const TAPE_MEAN: u8 = 1;
+/// A liquid temperature, in 0.01 C.
+pub const LIQUID_TEMPERATURE: u8 = 2;
+/// A row of a strapped capacity table, in litres.
+pub const STRAPPED_ROW: u8 = 3;
+/// The part of one deadwood, in litres.
+pub const DEADWOOD_PART: u8 = 4;
+/// A total observed volume or a volume of free water, in litres.
+pub const TABLE_VOLUME: u8 = 5;
+/// The correction for the temperature of the shell, in 0.00001.
+pub const SHELL_CORRECTION: u8 = 6;
+/// Which of two listed values a tie of the factor grid takes. Only the mode is used.
+pub const FACTOR_TIES: u8 = 7;
+/// The adjustment for a floating roof, in litres.
+pub const ROOF_ADJUSTMENT: u8 = 8;
+/// A gross observed volume, in litres.
+pub const GROSS_OBSERVED: u8 = 9;
+/// A gross standard volume, in litres.
+pub const GROSS_STANDARD: u8 = 10;
+/// A net standard volume, in litres.
+pub const NET_STANDARD: u8 = 11;
+/// A mass, in kg.
+pub const MASS: u8 = 12;
+
+/// How each of twelve figures is rounded: a step and a mode.
+///
+/// Each step is 1, 2, 5, 10, 20, 50 or 100 units of its figure, and that of the factor ties is 1.
+#[derive(Clone, Copy, Debug)]
+pub struct RoundTable {
+    rows: [(u8, Mode); 12],
+}
+
+impl Model for RoundTable {
+    ghost use Rattle.std.specs.Prelude.{List};
+    ghost use Rattle.farm_rounding.specs.Table.{Row, IsTable};
+
+    ghost Value = { List Row };
+
+    ghost view = { λ t. t.rows };
+
+    ghost invariant = { λ t. IsTable t.rows };
+
+    ghost inverse = { λ rows. record { rows = rows } };
+}
+
+impl RoundTable {
+    /// The table in use where a site gives no other: half away from zero, to 5 units for the liquid temperature and to 1 elsewhere.
+    pub fn usual() -> RoundTable
+        ensures { result ≡ usual_rows }
+    {
+        let mut rows = [(1, Mode::HalfAway); 12];
+        rows[1] = (5, Mode::HalfAway);
+        RoundTable { rows }
+    }
+
+    /// The step and the mode of row `n`, counted from 1.
+    pub fn row(&self, n: u8) -> (i64, Mode)
+        requires low { 1 ≤ n }
+        requires high { n ≤ 12 }
+        ensures step { result.0 ≡ pos (row_at self.now n).0 }
+        ensures mode { result.1 ≡ (row_at self.now n).1 }
+        ensures allowed { IsAllowedStep result.0 }
+        ensures ties { n ≡ 7 → result.0 ≡ pos 1 }
+    {
+        let (step, mode) = self.rows[n as usize - 1];
+        (i64::from(step), mode)
+    }
+}
