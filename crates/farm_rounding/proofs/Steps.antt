@@ -1,0 +1,100 @@
+-- How a magnitude lies to the multiples of a whole, and which of them it is rounded to.
+use Rattle.std.proofs.Common.{◌≡◌, ◌⊎◌, inl, inr, ℕ, ◌+◌, ◌-◌, ◌*◌, ◌/◌, ◌%◌, ◌<◌, ◌≤◌, Bool, true, false, IsTrue, cond, leb, refl, sym, ap, ◌∙◌, subst, mul-pos, arith}
+use Rattle.std.proofs.Math.Nat.{mul-le-mul_right}
+use Rattle.std.proofs.lemmas.Nat.{div-add-mod', mod_below, le-div, div_below}
+use Rattle.std.proofs.lemmas.Bool.Decides.{leb_tells, nat_tests}
+use Rattle.farm_rounding.specs.declared.mode.Mode.{Mode}
+use Rattle.farm_rounding.specs.declared.mode.Mode.TheVariants.{HalfAway, TowardZero}
+use Rattle.farm_rounding.specs.Multiple.{steps_to, rounds_up, is_step, IsWithinAStep}
+
+-- how far two numbers lie apart
+abbrev pub apart : ℕ → ℕ → ℕ
+apart a b = (a - b) + (b - a)
+
+-- j is at most q or above it
+either_side : (j q : ℕ) → (j ≤ q) ⊎ (q + 1 ≤ j)
+either_side j q = elim (leb_tells j q) [ inl t ↦ inl (t.1) | inr t ↦ inr (omega arith) ]
+
+-- of q wholes and a part of one, rounded half away, j wholes are no closer
+nearest_part : (b : Bool) (q r w j : ℕ) → leb w (2 * r) ≡ b → r < w →
+    apart ((q + cond b 1 0) * w) (q * w + r) ≤ apart (j * w) (q * w + r)
+nearest_part true q r w j up part =
+    let half : w ≤ 2 * r = elim (leb_tells w (2 * r)) [ inl t ↦ t.1 | inr t ↦ cc ] in
+    elim (either_side j q) [
+      inl below ↦ let fewer : j * w ≤ q * w = mul-le-mul_right w below in omega arith
+    | inr above ↦ let more : (q + 1) * w ≤ j * w = mul-le-mul_right w above in omega arith
+    ]
+nearest_part false q r w j up part =
+    let half : 2 * r < w = elim (leb_tells w (2 * r)) [ inl t ↦ cc | inr t ↦ t.1 ] in
+    elim (either_side j q) [
+      inl below ↦ let fewer : j * w ≤ q * w = mul-le-mul_right w below in omega arith
+    | inr above ↦ let more : (q + 1) * w ≤ j * w = mul-le-mul_right w above in omega arith
+    ]
+
+-- and where j wholes are as close, they are no more
+no_further : (b : Bool) (q r w j : ℕ) → leb w (2 * r) ≡ b → r < w →
+    apart (j * w) (q * w + r) ≡ apart ((q + cond b 1 0) * w) (q * w + r) → j ≤ q + cond b 1 0
+no_further true q r w j up part same =
+    elim (either_side j (q + 1)) [
+      inl below ↦ below
+    | inr above ↦ let more : (q + 1 + 1) * w ≤ j * w = mul-le-mul_right w above in omega arith
+    ]
+no_further false q r w j up part same =
+    let half : 2 * r < w = elim (leb_tells w (2 * r)) [ inl t ↦ cc | inr t ↦ t.1 ] in
+    elim (either_side j q) [
+      inl below ↦ omega arith
+    | inr above ↦ let more : (q + 1) * w ≤ j * w = mul-le-mul_right w above in omega arith
+    ]
+
+-- the multiple that n is rounded to half away is at the least distance
+pub nearest_steps : (n w j : ℕ) → 0 < w → apart (steps_to HalfAway n w * w) n ≤ apart (j * w) n
+unfolding steps_to
+nearest_steps n w j positive =
+    let P : ℕ → Type 0 = λ m. apart (steps_to HalfAway n w * w) m ≤ apart (j * w) m in
+    subst P (div-add-mod' n w) (nearest_part (leb w (2 * (n % w))) (n / w) (n % w) w j refl (mod_below n w positive))
+
+-- and no multiple of more wholes is at the same distance
+pub furthest_steps : (n w j : ℕ) → 0 < w → apart (j * w) n ≡ apart (steps_to HalfAway n w * w) n → j ≤ steps_to HalfAway n w
+unfolding steps_to
+furthest_steps n w j positive =
+    let P : ℕ → Type 0 = λ m. apart (j * w) m ≡ apart (steps_to HalfAway n w * w) m → j ≤ steps_to HalfAway n w in
+    subst P (div-add-mod' n w) (no_further (leb w (2 * (n % w))) (n / w) (n % w) w j refl (mod_below n w positive))
+
+-- the multiple that n is truncated to isn't beyond it
+pub truncated_steps : (n w : ℕ) → steps_to TowardZero n w * w ≤ n
+unfolding steps_to
+truncated_steps n w = omega (arith, div-add-mod' n w)
+
+-- and there is none of more wholes
+pub greatest_steps : (n w j : ℕ) → 0 < w → j * w ≤ n → j ≤ steps_to TowardZero n w
+unfolding steps_to
+greatest_steps n w j positive within = omega (arith, le-div j n w positive within)
+
+-- the same for either answer
+close_by : (b : Bool) (q : ℕ) → (q + cond b 1 0 ≤ q + 1) × (q ≤ q + cond b 1 0)
+close_by true q = (omega arith, omega arith)
+close_by false q = (omega arith, omega arith)
+
+-- one whole more or less at most
+pub steps_close : (mode : Mode) (n w : ℕ) → 0 < w → (steps_to mode n w ≤ n / w + 1) × (n / w ≤ steps_to mode n w)
+unfolding steps_to
+steps_close mode n w positive =
+    let b : Bool = rounds_up mode (n / w) (n % w) w in close_by b (n / w)
+
+-- n / d is within a step of its rounding
+pub rounded_close : (mode : Mode) (n d step : ℕ) → 0 < d → 0 < step → IsWithinAStep (n / d) step (steps_to mode n (step * d) * step)
+rounded_close mode n d step some_d some_step =
+    let w = step * d in
+    let positive : 0 < step * d = mul-pos some_step some_d in
+    let close = steps_close mode n (step * d) positive in
+    let whole : n / (step * d) * (step * d) ≤ n = omega (arith, div-add-mod' n (step * d)) in
+    let part : n < n / (step * d) * (step * d) + step * d = omega (arith, div-add-mod' n (step * d), mod_below n (step * d) positive) in
+    let low : n / (step * d) * step ≤ n / d = le-div (n / (step * d) * step) n d some_d (omega (arith, whole)) in
+    let high : n / d < (n / (step * d) + 1) * step = div_below n d ((n / (step * d) + 1) * step) some_d (omega (arith, part)) in
+    let more : steps_to mode n (step * d) * step ≤ (n / (step * d) + 1) * step = mul-le-mul_right step close.0 in
+    let less : n / (step * d) * step ≤ steps_to mode n (step * d) * step = mul-le-mul_right step close.1 in
+    record { above = omega arith; below = omega arith }
+
+-- an allowed step is from 1 to 100
+pub step_bounds : (n : ℕ) → IsTrue (is_step n) → (1 ≤ n) × (n ≤ 100)
+step_bounds n allowed = (grind (arith, nat_tests), grind (arith, nat_tests))

@@ -23,7 +23,7 @@ pub fn nearest(num: i128, den: i128, step: i64, mode: Mode) -> i128
 
 // The magnitude with the sign of `n`.
 fn with_sign_of(n: i128, magnitude: u128) -> i128
-    requires { magnitude ≤ 10 ^ 38 }
+    requires { magnitude < 2 ^ 127 }
     ensures { result ≡ with_sign_of n magnitude }
 {
     let size = magnitude as i128;
