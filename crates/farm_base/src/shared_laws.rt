@@ -7,5 +7,4 @@ pub fn laws()
     ensures counts_add_up { CountsAddUp }
     ensures additions_add_up { AdditionsAddUp }
     ensures takings_add_up { TakingsAddUp }
-{
-}
+{}

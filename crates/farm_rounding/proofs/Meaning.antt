@@ -90,21 +90,21 @@ half_away_is_nearest n d step some_d some_step =
     record {
       multiple = multiple_with_sign n k step;
       nearest = λ other multiple.
-        let j = unsigned_abs multiple.0 in
-        let there = ap (λ m. apart (m * d) (unsigned_abs n)) (abs_multiple step other multiple) ∙ ap (λ m. apart m (unsigned_abs n)) (wholes j step d) in
-        let close = nearest_steps (unsigned_abs n) (step * d) j positive in
-        let above = distance_above n d other in
-        omega arith;
+          let j = unsigned_abs multiple.0 in
+          let there = ap (λ m. apart (m * d) (unsigned_abs n)) (abs_multiple step other multiple) ∙ ap (λ m. apart m (unsigned_abs n)) (wholes j step d) in
+          let close = nearest_steps (unsigned_abs n) (step * d) j positive in
+          let above = distance_above n d other in
+          omega arith;
       ties = λ other multiple same.
-        let j = unsigned_abs multiple.0 in
-        let there = ap (λ m. apart (m * d) (unsigned_abs n)) (abs_multiple step other multiple) ∙ ap (λ m. apart m (unsigned_abs n)) (wholes j step d) in
-        let close = nearest_steps (unsigned_abs n) (step * d) j positive in
-        let above = distance_above n d other in
-        let equal : apart (j * (step * d)) (unsigned_abs n) ≡ apart (k * (step * d)) (unsigned_abs n) = omega arith in
-        let fewer : j * step ≤ k * step = mul-le-mul_right step (furthest_steps (unsigned_abs n) (step * d) j positive equal) in
-        let size = abs_with_sign n (k * step) in
-        let size_there = abs_multiple step other multiple in
-        omega arith;
+          let j = unsigned_abs multiple.0 in
+          let there = ap (λ m. apart (m * d) (unsigned_abs n)) (abs_multiple step other multiple) ∙ ap (λ m. apart m (unsigned_abs n)) (wholes j step d) in
+          let close = nearest_steps (unsigned_abs n) (step * d) j positive in
+          let above = distance_above n d other in
+          let equal : apart (j * (step * d)) (unsigned_abs n) ≡ apart (k * (step * d)) (unsigned_abs n) = omega arith in
+          let fewer : j * step ≤ k * step = mul-le-mul_right step (furthest_steps (unsigned_abs n) (step * d) j positive equal) in
+          let size = abs_with_sign n (k * step) in
+          let size_there = abs_multiple step other multiple in
+          omega arith;
     }
 
 -- truncation has the property of its rule
@@ -117,13 +117,13 @@ toward_zero_is_truncated n d step some_d some_step =
       multiple = multiple_with_sign n k step;
       between = between_with_sign n d (k * step) (omega (arith, truncated_steps (unsigned_abs n) (step * d), wholes k step d));
       greatest = λ other multiple between.
-        let j = unsigned_abs multiple.0 in
-        let within = within_from_between n d other between in
-        let size_there = abs_multiple step other multiple in
-        let times_d = ap (λ m. m * d) size_there ∙ wholes j step d in
-        let fewer : j * step ≤ k * step = mul-le-mul_right step (greatest_steps (unsigned_abs n) (step * d) j positive (omega arith)) in
-        let size = abs_with_sign n (k * step) in
-        omega arith;
+          let j = unsigned_abs multiple.0 in
+          let within = within_from_between n d other between in
+          let size_there = abs_multiple step other multiple in
+          let times_d = ap (λ m. m * d) size_there ∙ wholes j step d in
+          let fewer : j * step ≤ k * step = mul-le-mul_right step (greatest_steps (unsigned_abs n) (step * d) j positive (omega arith)) in
+          let size = abs_with_sign n (k * step) in
+          omega arith;
     }
 
 -- each mode has the property of its rule

@@ -21,14 +21,14 @@ nearest_part : (b : Bool) (q r w j : ℕ) → leb w (2 * r) ≡ b → r < w →
 nearest_part true q r w j up part =
     let half : w ≤ 2 * r = elim (leb_tells w (2 * r)) [ inl t ↦ t.1 | inr t ↦ cc ] in
     elim (either_side j q) [
-      inl below ↦ let fewer : j * w ≤ q * w = mul-le-mul_right w below in omega arith
-    | inr above ↦ let more : (q + 1) * w ≤ j * w = mul-le-mul_right w above in omega arith
+      | inl below ↦ let fewer : j * w ≤ q * w = mul-le-mul_right w below in omega arith
+      | inr above ↦ let more : (q + 1) * w ≤ j * w = mul-le-mul_right w above in omega arith
     ]
 nearest_part false q r w j up part =
     let half : 2 * r < w = elim (leb_tells w (2 * r)) [ inl t ↦ cc | inr t ↦ t.1 ] in
     elim (either_side j q) [
-      inl below ↦ let fewer : j * w ≤ q * w = mul-le-mul_right w below in omega arith
-    | inr above ↦ let more : (q + 1) * w ≤ j * w = mul-le-mul_right w above in omega arith
+      | inl below ↦ let fewer : j * w ≤ q * w = mul-le-mul_right w below in omega arith
+      | inr above ↦ let more : (q + 1) * w ≤ j * w = mul-le-mul_right w above in omega arith
     ]
 
 -- and where j wholes are as close, they are no more
@@ -36,14 +36,14 @@ no_further : (b : Bool) (q r w j : ℕ) → leb w (2 * r) ≡ b → r < w →
     apart (j * w) (q * w + r) ≡ apart ((q + cond b 1 0) * w) (q * w + r) → j ≤ q + cond b 1 0
 no_further true q r w j up part same =
     elim (either_side j (q + 1)) [
-      inl below ↦ below
-    | inr above ↦ let more : (q + 1 + 1) * w ≤ j * w = mul-le-mul_right w above in omega arith
+      | inl below ↦ below
+      | inr above ↦ let more : (q + 1 + 1) * w ≤ j * w = mul-le-mul_right w above in omega arith
     ]
 no_further false q r w j up part same =
     let half : 2 * r < w = elim (leb_tells w (2 * r)) [ inl t ↦ cc | inr t ↦ t.1 ] in
     elim (either_side j q) [
-      inl below ↦ omega arith
-    | inr above ↦ let more : (q + 1) * w ≤ j * w = mul-le-mul_right w above in omega arith
+      | inl below ↦ omega arith
+      | inr above ↦ let more : (q + 1) * w ≤ j * w = mul-le-mul_right w above in omega arith
     ]
 
 -- the multiple that n is rounded to half away is at the least distance

@@ -32,7 +32,7 @@ pub with_sign_of-requires : goal.with_sign_of-requires
 with_sign_of-requires c =
     let small = step_bounds (unsigned_abs c.args.step) c.requires.step.1 in
     let step : c.unsigned_abs-step.result ≡ unsigned_abs c.args.step =
-        c.unsigned_abs-step.ensures.value ∙ ap unsigned_abs (to_z-of_z w64 c.args.step c.ranges.step) in
+    c.unsigned_abs-step.ensures.value ∙ ap unsigned_abs (to_z-of_z w64 c.args.step c.ranges.step) in
     let num = to_z-of_z w128 c.args.num c.ranges.num in
     let size : unsigned_abs c.args.num ≤ 10 ^ 36 = c.requires.numerator in
     let same : unsigned_abs (to_z w128 (of_z w128 c.args.num)) ≡ unsigned_abs c.args.num = ap unsigned_abs num in
