@@ -15,6 +15,7 @@ pub fn nearest(num: i128, den: i128, step: i64, mode: Mode) -> i128
     ensures value { result ≡ nearest_multiple mode num (unsigned_abs den) (unsigned_abs step) }
     ensures meaning { IsNearest mode num (unsigned_abs den) (unsigned_abs step) result }
     ensures size { IsWithinAStep (unsigned_abs num / unsigned_abs den) (unsigned_abs step) (unsigned_abs result) }
+    ensures sign { pos 0 ≤ℤ num → pos 0 ≤ℤ result }
 {
     let step = step.unsigned_abs() as u128;
     let size = steps_to(mode, num.unsigned_abs(), step * den.unsigned_abs()) * step;

@@ -1,4 +1,4 @@
-use Rattle.std.proofs.Common.{◌≡◌, ℕ, ◌+◌, ◌*◌, ◌/◌, ◌^◌, ◌<◌, ◌≤◌, ap, subst, sym, ◌∙◌, ℤ, pos, ◌≤ℤ◌, to_z, of_z, arith, rules}
+use Rattle.std.proofs.Common.{◌≡◌, ℕ, ◌+◌, ◌*◌, ◌/◌, ◌^◌, ◌<◌, ◌≤◌, ap, subst, sym, ◌∙◌, ℤ, pos, negsuc, ◌≤ℤ◌, to_z, of_z, arith, rules}
 use Rattle.std.proofs.Math.Nat.{mul-le-mul_left}
 use Rattle.std.proofs.lemmas.Int.{ints, to_z-of_z}
 use Rattle.std.specs.Int.{w64, w128}
@@ -59,3 +59,14 @@ returns-clause-size c =
     let some_step = step_bounds (unsigned_abs c.args.step) c.requires.step.1 in
     subst P (sym (returns-clause-value c))
     (value_close c.args.mode c.args.num (unsigned_abs c.args.den) (unsigned_abs c.args.step) (omega (arith, ints)) (omega arith))
+
+-- no figure is below zero where the numerator isn't
+sign_kept : (n : ℤ) (m : ℕ) → pos 0 ≤ℤ n → pos 0 ≤ℤ with_sign_of n m
+sign_kept (pos n) m low = omega (arith, ints)
+sign_kept (negsuc n) m low = absurd (omega (arith, ints, low))
+
+pub returns-clause-sign : goal.returns-clause-sign
+unfolding nearest_multiple
+returns-clause-sign c low =
+    let P : ℤ → Type 0 = λ r. pos 0 ≤ℤ r in
+    subst P (sym (returns-clause-value c)) (sign_kept c.args.num _ low)
