@@ -1,0 +1,5 @@
+pub mod Words
+pub mod Line
+pub mod Calc
+pub mod Texts
+pub mod Runs

@@ -1,0 +1,94 @@
+-- What a run of the program does, by the values that its ports tell and the counts of their faults.
+use Rattle.std.specs.Prelude.{◌≡◌, ◌⊎◌, ℕ, ◌≤◌, length, take, List, [], ◌∷◌, ◌++◌, Option, Some, None, Result, Ok, Err}
+use Rattle.farm_base.specs.Counts.{Count, HasRisen}
+use Rattle.farm_base.specs.Told.{WhereTold, Stream, Adds, AddsAll, AddsWhole}
+use Rattle.farm.specs.declared.refusal.Refused.{Refused}
+use Rattle.farm.specs.Calc.{calc_text}
+use Rattle.farm.specs.Texts.{usage_line, no_memory, port_fault, refusal_text}
+
+-- what was left of an input as the run began, where it still tells at the end
+abbrev pub given : Option Stream → Option Stream → Option (List ℕ)
+given (Some old) (Some new) = Some old.left
+given old new = None
+
+-- an output: what it told as the run began and tells at the end, and its count
+pub record Output : Type 0 where
+  pub old : Option (List ℕ)
+  pub new : Option (List ℕ)
+  pub count : Count
+
+-- A front of the text was put, and all of it unless the output failed.
+pub record Puts (output : Output) (text : List ℕ) : Type 0 where
+  pub front : (n : ℕ) × (n ≤ length text) × Adds output.old output.new (take n text)
+  pub whole : ¬ (HasRisen output.count) → Adds output.old output.new text
+
+-- A front of each text was put, of the middle texts and of the last one; without a fault no middle text, and the last one whole.
+pub record Says (output : Output) (texts middle : List (List ℕ)) (last : List ℕ) : Type 0 where
+  pub front : AddsAll output.old output.new (texts ++ middle ++ last ∷ [])
+  pub whole : ¬ (HasRisen output.count) → AddsWhole output.old output.new texts last
+
+-- the text of an answer, nothing for a refusal
+abbrev pub text_of : Result (List ℕ) Refused → List ℕ
+text_of (Ok text) = text
+text_of (Err why) = []
+
+-- Words out of form: the usage line and status 1, or want of memory.
+pub record UsageRun (output : Output) (status : ℕ) : Type 0 where
+  pub statuses : (status ≡ 1) ⊎ (status ≡ 7)
+  pub usage : status ≡ 1 → Says output [] [] usage_line
+  pub memory : status ≡ 7 → Says output [] [] no_memory
+
+-- `calc` on what was left of the input.
+pub record CalcRun (input : Option (List ℕ)) (source : Count) (output : Output) (status : ℕ) : Type 0 where
+  pub statuses : (status ≡ 0) ⊎ (status ≡ 4) ⊎ (status ≡ 6) ⊎ (status ≡ 7)
+  -- the text was put whole
+  pub done : status ≡ 0 → WhereTold input (λ bytes. (text : List ℕ) × (calc_text bytes ≡ Ok text) × Adds output.old output.new text)
+  -- the input was refused, and it was said
+  pub refused : status ≡ 4 → WhereTold input (λ bytes. (why : Refused) × (calc_text bytes ≡ Err why) × Says output [] [] (refusal_text why))
+  -- an input that is to be refused is, unless it failed or memory was wanting
+  pub refused_only : WhereTold input (λ bytes. (why : Refused) → calc_text bytes ≡ Err why → ¬ (HasRisen source) →
+      (status ≡ 4) ⊎ (status ≡ 7) ⊎ ((status ≡ 6) × HasRisen output.count))
+  pub faulted : status ≡ 6 → (HasRisen source) ⊎ (HasRisen output.count)
+  pub fault_said : status ≡ 6 → WhereTold input (λ bytes. Says output (text_of (calc_text bytes) ∷ []) (no_memory ∷ []) port_fault)
+  pub memory_said : status ≡ 7 → WhereTold input (λ bytes. Says output (text_of (calc_text bytes) ∷ []) [] no_memory)
+  -- a good input over good ports is answered, unless memory was wanting
+  pub complete : WhereTold input (λ bytes. (text : List ℕ) → calc_text bytes ≡ Ok text → ¬ (HasRisen source) → ¬ (HasRisen output.count) →
+      (status ≡ 0) ⊎ (status ≡ 7))
+
+-- An answer was put, or the output failed and it was said.
+pub record Delivers (output : Output) (text : List ℕ) (status : ℕ) : Type 0 where
+  pub statuses : (status ≡ 0) ⊎ (status ≡ 6)
+  pub done : status ≡ 0 → Adds output.old output.new text
+  pub faulted : status ≡ 6 → HasRisen output.count
+  pub fault_said : status ≡ 6 → Says output (text ∷ []) (no_memory ∷ []) port_fault
+
+-- Want of memory was said, or the output failed and that was said; nothing else was put.
+pub record LacksMemory (output : Output) (status : ℕ) : Type 0 where
+  pub statuses : (status ≡ 6) ⊎ (status ≡ 7)
+  pub faulted : status ≡ 6 → HasRisen output.count
+  pub fault_said : status ≡ 6 → (text : List ℕ) → Says output (text ∷ []) (no_memory ∷ []) port_fault
+  pub memory_said : status ≡ 7 → (text : List ℕ) → Says output (text ∷ []) [] no_memory
+
+-- A refusal was said, or want of memory was.
+pub record Refuses (output : Output) (why : Refused) (status : ℕ) : Type 0 where
+  pub statuses : (status ≡ 4) ⊎ LacksMemory output status
+  pub said : status ≡ 4 → Says output [] [] (refusal_text why)
+
+-- What `calc` does with the bytes that it read.
+pub record AnswersBytes (bytes : List ℕ) (output : Output) (status : ℕ) : Type 0 where
+  pub statuses : (status ≡ 0) ⊎ (status ≡ 4) ⊎ (status ≡ 6) ⊎ (status ≡ 7)
+  pub done : status ≡ 0 → (text : List ℕ) × (calc_text bytes ≡ Ok text) × Adds output.old output.new text
+  pub refused : status ≡ 4 → (why : Refused) × (calc_text bytes ≡ Err why) × Says output [] [] (refusal_text why)
+  pub refused_only : (why : Refused) → calc_text bytes ≡ Err why → (status ≡ 4) ⊎ (status ≡ 7) ⊎ ((status ≡ 6) × HasRisen output.count)
+  pub faulted : status ≡ 6 → HasRisen output.count
+  pub fault_said : status ≡ 6 → Says output (text_of (calc_text bytes) ∷ []) (no_memory ∷ []) port_fault
+  pub memory_said : status ≡ 7 → Says output (text_of (calc_text bytes) ∷ []) [] no_memory
+  pub complete : (text : List ℕ) → calc_text bytes ≡ Ok text → ¬ (HasRisen output.count) → (status ≡ 0) ⊎ (status ≡ 7)
+
+-- an output by what it told and its count, before and after
+abbrev pub output_of : Option (List ℕ) → Option (List ℕ) → ℕ → ℕ → Output
+output_of old new before now = record { old = old; new = new; count = record { before = before; now = now } }
+
+-- a count before and after
+abbrev pub count_of : ℕ → ℕ → Count
+count_of before now = record { before = before; now = now }

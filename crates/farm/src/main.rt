@@ -1,0 +1,41 @@
+//! `farm`, the custody desk of a tank terminal: its commands over the ports that it is handed.
+//!
+//! `run` does all that the program does, and `main` only hands it the real ports. docs/definitions.md states what each
+//! command reads and prints.
+#![tactic(auto)]
+
+mod calc;
+mod command;
+mod line;
+mod program;
+mod refusal;
+mod texts;
+mod words;
+
+use farm_ports::{StdSink, StdSource};
+pub use program::run;
+use std::process::ExitCode;
+use std::rt::Env;
+use std::{env, io};
+
+#[cfg(test)]
+mod tests;
+
+// The words behind the program's name.
+fn arguments(rt: &(impl Env + AllocGlobal)) -> io::Result<Vec<String>> {
+    Ok(env::args(rt)?.skip(1).collect(rt.alloc())?)
+}
+
+fn main(rt: HostRuntime) -> ExitCode {
+    let mut input = StdSource::new(rt.stdin());
+    let mut output = StdSink::new(rt.stdout());
+    let status = match arguments(&rt) {
+        Ok(words) => run(rt.alloc(), &words, &mut input, &mut output),
+        Err(error) if error.kind() == io::ErrorKind::OutOfMemory => program::lack_memory(
+            &mut output,
+        ),
+        // Words that aren't text are out of form, as no words are.
+        Err(_) => run(rt.alloc(), &[], &mut input, &mut output),
+    };
+    ExitCode::from(status)
+}

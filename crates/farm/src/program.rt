@@ -1,0 +1,126 @@
+//! What the program does: the run of each command over the ports that it is handed.
+
+ghost use Rattle.std.specs.Prelude.{◌≡◌, ◌≤◌, map, string_bytes, None, Some};
+ghost use Rattle.farm.specs.Words.{command_of};
+ghost use Rattle.farm.specs.Texts.{port_fault};
+ghost use Rattle.farm.specs.Runs.{AnswersBytes, CalcRun, Delivers, LacksMemory, Puts, Refuses, UsageRun, count_of, given, output_of};
+
+use crate::calc::{LIMIT, Unanswered, calc_text};
+use crate::command::Command;
+use crate::refusal::Refused;
+use crate::texts::{NO_MEMORY, PORT_FAULT, USAGE, refusal_text};
+use farm_ports::{PortFault, Sink, Source, put_all, read_up_to};
+use std::alloc::Global;
+
+/// All was done as asked.
+const DONE: u8 = 0;
+/// The words aren't in the form.
+const BAD_WORDS: u8 = 1;
+/// The input was refused.
+const REFUSED: u8 = 4;
+/// The input or the output failed.
+const FAULT: u8 = 6;
+/// Memory was wanting.
+const MEMORY: u8 = 7;
+
+/// Runs the command of the words behind the program's name, and answers the status that the program ends with.
+///
+/// - `calc` reads a line of observed volumes and puts ten lines of figures. Its statuses are 0 where they were put whole,
+///   4 where the input was refused, 6 where a port failed and 7 where memory was wanting.
+/// - Words that are no command make no call on the input, put the usage line, and end with 1.
+pub fn run<S: Source, K: Sink>(alloc: Global, words: &[String], input: &mut S, output: &mut K) -> u8
+    ensures input_kept { command_of (map string_bytes words.now) ≡ None → input.new ≡ input.old }
+    ensures usage { command_of (map string_bytes words.now) ≡ None →
+        UsageRun (output_of (K.held output.old) (K.held output.new) (K.faults output.old) (K.faults output.new)) result }
+    ensures calc { command_of (map string_bytes words.now) ≡ Some Command.Calc →
+        CalcRun (given (S.stream input.old) (S.stream input.new)) (count_of (S.faults input.old) (S.faults input.new))
+        (output_of (K.held output.old) (K.held output.new) (K.faults output.old) (K.faults output.new)) result }
+    ensures source_later { S.faults input.old ≤ S.faults input.new }
+    ensures sink_later { K.faults output.old ≤ K.faults output.new }
+{
+    match Command::of_words(words) {
+        None => usage(output),
+        Some(Command::Calc) => calc(alloc, input, output),
+    }
+}
+
+// Words out of form. A failing output changes nothing: they are out of form all the same.
+fn usage<K: Sink>(output: &mut K) -> u8
+    ensures run { UsageRun (output_of (K.held output.old) (K.held output.new) (K.faults output.old) (K.faults output.new)) result }
+    ensures later { K.faults output.old ≤ K.faults output.new }
+{
+    let _ = put_all(output, USAGE);
+    BAD_WORDS
+}
+
+// `calc`: one byte more than an input may have is asked for, so that a longer one shows.
+fn calc<S: Source, K: Sink>(alloc: Global, input: &mut S, output: &mut K) -> u8
+    ensures run { CalcRun (given (S.stream input.old) (S.stream input.new)) (count_of (S.faults input.old) (S.faults input.new))
+        (output_of (K.held output.old) (K.held output.new) (K.faults output.old) (K.faults output.new)) result }
+    ensures source_later { S.faults input.old ≤ S.faults input.new }
+    ensures sink_later { K.faults output.old ≤ K.faults output.new }
+{
+    match read_up_to(alloc, input, LIMIT + 1) {
+        Ok(bytes) => answer(alloc, &bytes, output),
+        Err(PortFault::Failed) => tell_fault(output),
+        Err(PortFault::NoMemory) => lack_memory(output),
+    }
+}
+
+// What `calc` does with the bytes that it read. The text is made whole before the first byte is put.
+fn answer<K: Sink>(alloc: Global, bytes: &[u8], output: &mut K) -> u8
+    ensures run { AnswersBytes bytes.now (output_of (K.held output.old) (K.held output.new) (K.faults output.old) (K.faults output.new)) result }
+    ensures later { K.faults output.old ≤ K.faults output.new }
+{
+    match calc_text(alloc, bytes) {
+        Ok(text) => deliver(output, &text),
+        Err(Unanswered::Refused(why)) => refuse(alloc, why, output),
+        Err(Unanswered::NoMemory) => lack_memory(output),
+    }
+}
+
+// Puts an answer.
+fn deliver<K: Sink>(output: &mut K, text: &[u8]) -> u8
+    ensures run { Delivers (output_of (K.held output.old) (K.held output.new) (K.faults output.old) (K.faults output.new)) text.now result }
+    ensures later { K.faults output.old ≤ K.faults output.new }
+{
+    match put_all(output, text) {
+        Ok(()) => DONE,
+        Err(_) => tell_fault(output),
+    }
+}
+
+// Says what an input was refused for. A failing output changes nothing: it is refused all the same.
+fn refuse<K: Sink>(alloc: Global, why: Refused, output: &mut K) -> u8
+    ensures run { Refuses (output_of (K.held output.old) (K.held output.new) (K.faults output.old) (K.faults output.new)) why result }
+    ensures later { K.faults output.old ≤ K.faults output.new }
+{
+    match refusal_text(alloc, why) {
+        Ok(text) => {
+            let _ = put_all(output, &text);
+            REFUSED
+        }
+        Err(_) => lack_memory(output),
+    }
+}
+
+/// Says that memory was wanting. Where that can't be said the output failed, which is the lesser status.
+pub fn lack_memory<K: Sink>(output: &mut K) -> u8
+    ensures run { LacksMemory (output_of (K.held output.old) (K.held output.new) (K.faults output.old) (K.faults output.new)) result }
+    ensures later { K.faults output.old ≤ K.faults output.new }
+{
+    match put_all(output, NO_MEMORY) {
+        Ok(()) => MEMORY,
+        Err(_) => tell_fault(output),
+    }
+}
+
+// Says that a port failed, as far as the output takes it.
+fn tell_fault<K: Sink>(output: &mut K) -> u8
+    ensures status { result ≡ 6 }
+    ensures said { Puts (output_of (K.held output.old) (K.held output.new) (K.faults output.old) (K.faults output.new)) port_fault }
+    ensures later { K.faults output.old ≤ K.faults output.new }
+{
+    let _ = put_all(output, PORT_FAULT);
+    FAULT
+}

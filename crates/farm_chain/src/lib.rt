@@ -1,0 +1,14 @@
+//! The custody calculation of a static tank: from observed volumes and temperatures to net standard volume and mass.
+//!
+//! The steps are in the manner of API MPMS 12.1.1, with the choices of this terminal's profile; docs/definitions.md states
+//! each under "Custody calculation". Each figure is computed from the rounded figures before it.
+#![tactic(auto)]
+
+mod arithmetic;
+mod steps;
+mod volumes;
+
+pub use volumes::figures;
+
+#[cfg(test)]
+mod tests;

@@ -1,0 +1,6 @@
+pub mod TextLaws
+pub mod Parts
+pub mod ReadingLaws
+pub mod PrintingLaws
+pub mod RoundTrip
+pub mod Values

@@ -1,0 +1,4 @@
+pub mod Range
+pub mod Text
+pub mod Reading
+pub mod Printing

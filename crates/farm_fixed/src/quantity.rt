@@ -1,0 +1,120 @@
+//! A whole number of units, and its text.
+
+ghost use Rattle.std.specs.Prelude.{◌≡◌, ◌+◌, ◌<◌, ◌≤◌, ℕ, ℤ, None, Ok, OnErr, length, vec_capacity, vec_len};
+ghost use Rattle.std.specs.Result.{OkIff};
+ghost use Rattle.farm_base.specs.Appended.{Appends};
+ghost use Rattle.farm_fixed.specs.Range.{IsWithin, IsSmall};
+ghost use Rattle.farm_fixed.specs.Reading.{IsReading, number_of, quantity_from, quantity_of};
+ghost use Rattle.farm_fixed.specs.Text.{bad_offset};
+ghost use Rattle.farm_fixed.specs.Printing.{quantity_text};
+
+use crate::parsing::{
+    bad_offset, is_negative, magnitude, split_at_point, unsigned_text, with_sign,
+};
+use crate::printing::{ROOM, write_text};
+use crate::{NoMemory, OutOfRange, ReadFault};
+use std::marker::{Model, PhantomData};
+
+/// What a quantity counts: its range, in units, and the decimals of its text.
+pub trait Unit {
+    ghost LEAST: { ℤ };
+
+    ghost MOST: { ℤ };
+
+    ghost PLACES: { ℕ };
+
+    /// The least number of units, at least -10^17.
+    const LEAST: i64;
+    /// The greatest number of units, at most 10^17.
+    const MOST: i64;
+    /// The decimals of the text, at most 5.
+    const PLACES: u8;
+
+    // Reading and printing compute with 64 bits; these bounds leave room for every step.
+    ghost small: { IsSmall LEAST MOST PLACES };
+}
+
+/// A whole number of units of `U`, in its range. Contracts see the number.
+#[derive(Clone, Copy, Debug, PartialEq, Eq)]
+pub struct Quantity<U: Unit> {
+    value: i64,
+    unit: PhantomData<U>,
+}
+
+impl<U: Unit> Model for Quantity<U> {
+    ghost use Rattle.std.specs.Prelude.{ℤ};
+    ghost use Rattle.farm_fixed.specs.Range.{IsWithin};
+
+    ghost Value = { ℤ };
+
+    ghost view = { λ q. q.value };
+
+    ghost invariant = { λ q. IsWithin U.LEAST U.MOST q.value };
+
+    ghost inverse = { λ z. record { value = z; unit = record {} } };
+}
+
+impl<U: Unit> Quantity<U> {
+    /// This many units. `OutOfRange` exactly outside the range.
+    pub fn new(v: i64) -> Result<Self, OutOfRange>
+        ensures { OkIff result (IsWithin U.LEAST U.MOST v) v }
+    {
+        if v < U::LEAST || v > U::MOST {
+            return Err(OutOfRange);
+        }
+        Ok(Quantity {
+            value: v,
+            unit: PhantomData,
+        })
+    }
+
+    /// The number of units.
+    pub fn get(self) -> i64
+        ensures value { result ≡ self }
+        ensures range { IsWithin U.LEAST U.MOST result }
+    {
+        self.value
+    }
+
+    /// Reads the text of a number of units, with at most as many decimals as the unit has.
+    ///
+    /// The faults are tested in the order of `ReadFault`.
+    pub fn read(text: &[u8]) -> Result<Self, ReadFault>
+        ensures value { result ≡ quantity_of U.PLACES U.LEAST U.MOST text.now }
+        ensures meaning { IsReading U.PLACES U.LEAST U.MOST text.now result }
+    {
+        if text.is_empty() {
+            return Err(ReadFault::Empty);
+        }
+        match bad_offset(text) {
+            Some(offset) => Err(ReadFault::BadByte(offset)),
+            None => Self::from_number(text),
+        }
+    }
+
+    /// Appends the text: the least number of digits before the point, and all decimals of the unit.
+    pub fn write(self, out: &mut Vec<u8>) -> Result<(), NoMemory>
+        ensures appended { Appends out.old.items out.new.items (quantity_text U.PLACES self) result }
+        ensures no_room { OnErr result (vec_capacity out.old < vec_len out.old + length (quantity_text U.PLACES self)) }
+        ensures back { quantity_of U.PLACES U.LEAST U.MOST (quantity_text U.PLACES self) ≡ Ok self }
+    {
+        let mut buffer = [b'0'; ROOM];
+        let start = write_text(self.value, usize::from(U::PLACES), &mut buffer);
+        out.extend_from_slice(&buffer[start..])?;
+        Ok(())
+    }
+
+    /// The quantity that a number's text writes, once the text is known to be one.
+    fn from_number(text: &[u8]) -> Result<Self, ReadFault>
+        requires { bad_offset text.now ≡ None }
+        ensures { result ≡ quantity_from U.PLACES U.LEAST U.MOST (number_of text.now) }
+    {
+        let places = usize::from(U::PLACES);
+        let (whole, fraction) = split_at_point(unsigned_text(text));
+        if fraction.len() > places {
+            return Err(ReadFault::TooFine);
+        }
+        let units = with_sign(is_negative(text), magnitude(whole, fraction, places));
+        Self::new(units).map_err(|_| ReadFault::OutOfRange)
+    }
+}

@@ -1,0 +1,23 @@
+//! The ports of the custody desk to the outside: sources of bytes and sinks for them, in memory and real.
+//!
+//! A port counts its faults in a number that never falls, and a call answers `Failed` only where the count rose in that call.
+//! What a port in memory was asked, took or holds is told to contracts; a real one tells nothing.
+#![tactic(auto)]
+
+mod copying;
+mod fault;
+mod gather;
+mod plan;
+mod ports;
+mod real;
+mod script;
+
+pub use copying::{put_all, read_up_to};
+pub use fault::PortFault;
+pub use gather::Gather;
+pub use ports::{Failed, Port, Sink, Source};
+pub use real::{StdSink, StdSource};
+pub use script::Script;
+
+#[cfg(test)]
+mod tests;

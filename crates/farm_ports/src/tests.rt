@@ -1,0 +1,135 @@
+ghost use Rattle.std.specs.Prelude.{ℕ, List, OnOk};
+ghost use Rattle.farm_base.specs.Told.{Adds, Takes};
+
+use super::*;
+use farm_base::NoMemory;
+use std::alloc::Global;
+use std::io;
+use std::io::Read;
+use std::test::Fail;
+
+fn shared<T: Send + Sync>(value: T) -> T {
+    value
+}
+
+// "ab", then a piece without a byte, then "cde"; the second take fails.
+fn three_pieces(alloc: Global) -> Result<Script, NoMemory> {
+    let pieces = vec![in alloc;
+        b"ab".to_vec(alloc)?,
+        Vec::new(alloc),
+        b"cde".to_vec(alloc)?,
+    ]?;
+    Script::new(alloc, pieces, vec![in alloc; 2]?)
+}
+
+#[test]
+fn a_script_gives_piece_by_piece(rt: HostRuntime) -> Result<(), Fail> {
+    let mut script = shared(three_pieces(rt.alloc())?);
+    let mut buffer = [0; 8];
+    let counts = [Ok(2), Err(Failed), Ok(3), Ok(0)];
+    for (take, want) in counts.iter().enumerate() {
+        assert_eq!(rt; script.take(&mut buffer), *want, "take {take}");
+    }
+    assert_eq!(rt; buffer[..3], b"cde"[..]);
+    assert_eq!(rt; script.taken(), b"abcde".as_slice());
+    assert_eq!(rt; script.left(), b"".as_slice());
+    assert_eq!(rt; script.faults(), 1);
+    Ok(())
+}
+
+#[test]
+fn a_small_buffer_is_filled(rt: HostRuntime) -> Result<(), Fail> {
+    let mut script = three_pieces(rt.alloc())?;
+    let mut buffer = [0; 1];
+    assert_eq!(rt; script.take(&mut buffer), Ok(1));
+    assert_eq!(rt; script.taken(), b"a".as_slice());
+    assert_eq!(rt; script.left(), b"bcde".as_slice());
+    Ok(())
+}
+
+#[test]
+fn a_gather_keeps_what_it_takes(rt: HostRuntime) -> Result<(), Fail> {
+    let alloc = rt.alloc();
+    let mut gather = shared(Gather::new(alloc, vec![in alloc; 2]?)?);
+    assert_eq!(rt; gather.put(b"ab"), Ok(2));
+    assert_eq!(rt; gather.put(b"lost"), Err(shared(Failed)));
+    assert_eq!(rt; put_all(&mut gather, b"cd"), Ok(()));
+    assert_eq!(rt; gather.bytes(), b"abcd".as_slice());
+    assert_eq!(rt; gather.faults(), 1);
+    Ok(())
+}
+
+// Moves up to 4,096 bytes from a source to a sink.
+fn relay<S: Source, K: Sink>(alloc: Global, source: &mut S, sink: &mut K) -> Result<(), PortFault>
+    ensures moved { OnOk result ((bytes : List ℕ) ×
+        Takes (S.stream source.old) (S.stream source.new) bytes × Adds (K.held sink.old) (K.held sink.new) bytes) }
+{
+    let bytes = read_up_to(alloc, source, 4_096)?;
+    put_all(sink, &bytes)?;
+    Ok(())
+}
+
+#[test]
+fn a_relay_goes_on_after_a_fault(rt: HostRuntime) -> Result<(), Fail> {
+    let alloc = rt.alloc();
+    let mut script = three_pieces(alloc)?;
+    let mut gather = Gather::new(alloc, Vec::new(alloc))?;
+    let failed = relay(alloc, &mut script, &mut gather);
+    assert_eq!(rt; failed, Err(shared(PortFault::Failed)));
+    assert_eq!(rt; gather.bytes(), b"".as_slice());
+    relay(alloc, &mut script, &mut gather)?;
+    assert_eq!(rt; gather.bytes(), b"cde".as_slice());
+    Ok(())
+}
+
+#[test]
+fn a_read_stops_at_its_bound(rt: HostRuntime) -> Result<(), Fail> {
+    let alloc = rt.alloc();
+    let pieces = vec![in alloc; b"ab".to_vec(alloc)?, b"cde".to_vec(alloc)?]?;
+    let mut script = Script::new(alloc, pieces, Vec::new(alloc))?;
+    assert_eq!(rt;
+        read_up_to(alloc, &mut script, 4)?.as_slice(),
+        b"abcd".as_slice()
+    );
+    assert_eq!(rt;
+        read_up_to(alloc, &mut script, 4)?.as_slice(),
+        b"e".as_slice()
+    );
+    Ok(())
+}
+
+#[test]
+fn a_reader_is_a_source(rt: HostRuntime) -> Result<(), Fail> {
+    let mut source = shared(StdSource::new(b"abc".as_slice()));
+    let bytes = read_up_to(rt.alloc(), &mut source, 10)?;
+    assert_eq!(rt; bytes.as_slice(), b"abc".as_slice());
+    assert_eq!(rt; source.faults(), 0);
+    Ok(())
+}
+
+// A reader whose line is down.
+#[derive(Drop)]
+struct Broken;
+
+impl Read for Broken {
+    fn read(&mut self, _: &mut [u8]) -> io::Result<usize> {
+        Err(io::Error::from(io::ErrorKind::BrokenPipe))
+    }
+}
+
+#[test]
+fn a_failed_read_is_counted(rt: HostRuntime) {
+    let mut source = StdSource::new(Broken);
+    assert_eq!(rt; source.take(&mut [0; 8]), Err(Failed));
+    assert_eq!(rt; source.faults(), 1);
+}
+
+#[test]
+fn a_writer_is_a_sink_until_it_is_full(rt: HostRuntime) {
+    let mut room = [0; 3];
+    let mut sink = shared(StdSink::new(&mut room[..]));
+    assert_eq!(rt; put_all(&mut sink, b"abc"), Ok(()));
+    assert_eq!(rt; sink.put(b"d"), Err(Failed));
+    assert_eq!(rt; sink.faults(), 1);
+    assert_eq!(rt; room, *b"abc");
+}
