@@ -1,4 +1,4 @@
-use crate::{Centi, Dens, Fac5, Kg, Litres, Permil5};
+use crate::{Centi, Dens, Fac5, Kg, Litres, Mm, Permil5};
 use thiserror::Error;
 
 /// What a tank's shell does with temperature.
@@ -10,6 +10,19 @@ pub struct Shell {
     pub coefficient: i64,
     /// The temperature at which the capacity table holds.
     pub reference: Centi,
+}
+
+/// What a gauge of a tank reads.
+#[derive(Clone, Copy, Debug, PartialEq, Eq)]
+pub struct Reading {
+    /// How high the liquid stands above the datum plate.
+    pub level: Mm,
+    /// How high the free water stands.
+    pub water: Mm,
+    /// The liquid's temperature.
+    pub liquid: Centi,
+    /// The ambient temperature.
+    pub ambient: Centi,
 }
 
 /// What a sample of the liquid says.

@@ -49,6 +49,22 @@ fn a_number_of_litres_has_no_decimals(rt: HostRuntime) {
 }
 
 #[test]
+fn number_texts(rt: HostRuntime) {
+    let cases = [
+        ("", Err(ReadFault::Empty)),
+        ("12x", Err(ReadFault::BadByte(2))),
+        ("-", Err(ReadFault::BadByte(1))),
+        ("1.5", Err(ReadFault::TooFine)),
+        ("50001", Err(ReadFault::OutOfRange)),
+        ("-1", Err(ReadFault::OutOfRange)),
+        ("007", Ok(7)),
+    ];
+    for (text, want) in cases {
+        assert_eq!(rt; read_units::<Millimetre>(text), want, "{text}");
+    }
+}
+
+#[test]
 fn a_temperature_has_at_most_two_decimals(rt: HostRuntime) {
     let cases = [
         ("-1.5", Ok(-150)),
@@ -82,6 +98,7 @@ fn a_temperature_below_zero_keeps_its_minus(rt: HostRuntime) -> Result<(), NoMem
 fn each_unit_reads_what_it_writes(rt: HostRuntime) -> Result<(), NoMemory> {
     let alloc = rt.alloc();
     assert!(rt; has_text::<Litre>(alloc, -100_857, "-100857")?);
+    assert!(rt; has_text::<Millimetre>(alloc, 12_345, "12345")?);
     assert!(rt; has_text::<Kilogram>(alloc, 84_310, "84310")?);
     assert!(rt; has_text::<HundredthDegree>(alloc, 2_340, "23.40")?);
     assert!(rt; has_text::<TenthKilogramPerCubicMetre>(alloc, 8_500, "850.0")?);
@@ -93,6 +110,7 @@ fn each_unit_reads_what_it_writes(rt: HostRuntime) -> Result<(), NoMemory> {
 #[test]
 fn a_quantity_outside_its_range_is_refused(rt: HostRuntime) {
     assert_eq!(rt; Centi::new(30_001), Err(OutOfRange));
+    assert_eq!(rt; Mm::new(50_001), Err(OutOfRange));
     assert_eq!(rt; Dens::new(3_999), Err(OutOfRange));
     assert_eq!(rt; Fac5::new(150_001), Err(OutOfRange));
     assert_eq!(rt; Permil5::new(-1), Err(OutOfRange));
@@ -102,6 +120,7 @@ fn a_quantity_outside_its_range_is_refused(rt: HostRuntime) {
 
 #[test]
 fn quantities_and_records_go_to_other_threads(rt: HostRuntime) -> Result<(), ReadFault> {
+    let level = shared(Mm::read(b"12345")?);
     let temperature = shared(Centi::read(b"15.00")?);
     let density = shared(Dens::read(b"850.0")?);
     let factor = shared(Fac5::read(b"0.99150")?);
@@ -112,6 +131,12 @@ fn quantities_and_records_go_to_other_threads(rt: HostRuntime) -> Result<(), Rea
         insulated: true,
         coefficient: 112,
         reference: temperature,
+    });
+    let reading = shared(Reading {
+        level,
+        water: level,
+        liquid: temperature,
+        ambient: temperature,
     });
     let sample = shared(Sample { density, sw: share });
     let quantities = shared(Quantities {
@@ -126,6 +151,7 @@ fn quantities_and_records_go_to_other_threads(rt: HostRuntime) -> Result<(), Rea
         swv: volume,
         mass,
     });
+    assert_eq!(rt; reading.level.get(), 12_345);
     assert_eq!(rt; shell.reference.get(), 1_500);
     assert_eq!(rt; sample.sw.get(), 250);
     assert_eq!(rt; quantities.mass.get(), 71_663);

@@ -3,6 +3,29 @@ ghost use Rattle.std.proofs.Common.{lit≤};
 
 use crate::{Quantity, Unit};
 
+/// The unit of `Mm`: one millimetre.
+#[derive(Clone, Copy, Debug, PartialEq, Eq)]
+pub struct Millimetre;
+
+/// A height in whole millimetres, from 0 to 50,000.
+pub type Mm = Quantity<Millimetre>;
+
+impl Unit for Millimetre {
+    ghost LEAST = { pos 0 };
+
+    ghost MOST = { pos 50000 };
+
+    ghost PLACES = { 0 };
+
+    ghost small = { record { low = lit≤ tt; high = lit≤ tt; decimals = lit≤ tt } };
+
+    const LEAST: i64 = 0;
+
+    const MOST: i64 = 50_000;
+
+    const PLACES: u8 = 0;
+}
+
 /// The unit of `Centi`: 0.01 C.
 #[derive(Clone, Copy, Debug, PartialEq, Eq)]
 pub struct HundredthDegree;

@@ -1,9 +1,10 @@
-ghost use Rattle.std.specs.Prelude.{◌≡◌, ◌≤◌, pos};
+ghost use Rattle.std.specs.Prelude.{◌≡◌, ◌≤◌, None, Some, IfErr, IfOk, OnOk, pos};
 ghost use Rattle.farm_rounding.specs.Multiple.{IsAllowedStep};
-ghost use Rattle.farm_rounding.specs.Table.{row_at, usual_rows};
+ghost use Rattle.farm_rounding.specs.Table.{first_bad_row, is_row, row_at, usual_rows};
 
 use crate::Mode;
 use std::marker::Model;
+use thiserror::Error;
 
 /// The mean of three tapes, in mm.
 pub const TAPE_MEAN: u8 = 1;
@@ -30,6 +31,12 @@ pub const NET_STANDARD: u8 = 11;
 /// A mass, in kg.
 pub const MASS: u8 = 12;
 
+/// Rows that are no rounding table: the number, from 1, of the first row whose step isn't 1, 2, 5, 10, 20, 50 or 100, or of
+/// the seventh row with another step than 1.
+#[derive(Clone, Copy, Debug, PartialEq, Eq, Error)]
+#[error("row {0} of the rounding table has a step that it may not have")]
+pub struct BadRow(pub u8);
+
 /// How each of twelve figures is rounded: a step and a mode.
 ///
 /// Each step is 1, 2, 5, 10, 20, 50 or 100 units of its figure, and that of the factor ties is 1.
@@ -52,6 +59,21 @@ impl Model for RoundTable {
 }
 
 impl RoundTable {
+    /// The table of these rows, each a step and a mode.
+    pub fn new(rows: [(u8, Mode); 12]) -> Result<RoundTable, BadRow>
+        ensures rows { IfOk result (λ table. table ≡ rows) }
+        ensures ok { OnOk result (first_bad_row 1 rows ≡ None) }
+        ensures bad { IfErr result (λ bad. first_bad_row 1 rows ≡ Some bad.0) }
+    {
+        for (index, row) in rows.iter().enumerate() {
+            let number = index as u8 + 1;
+            if !is_row(number, *row) {
+                return Err(BadRow(number));
+            }
+        }
+        Ok(RoundTable { rows })
+    }
+
     /// The table in use where a site gives no other: half away from zero, to 5 units for the liquid temperature and to 1 elsewhere.
     pub fn usual() -> RoundTable
         ensures { result ≡ usual_rows }
@@ -73,4 +95,12 @@ impl RoundTable {
         let (step, mode) = self.rows[n as usize - 1];
         (i64::from(step), mode)
     }
+}
+
+// Whether row `number` may be this one.
+fn is_row(number: u8, row: (u8, Mode)) -> bool
+    ensures { result ≡ is_row number row }
+{
+    let (step, _) = row;
+    matches!(step, 1 | 2 | 5 | 10 | 20 | 50 | 100) && (number != FACTOR_TIES || step == 1)
 }

@@ -2,9 +2,9 @@ use Rattle.std.proofs.Common.{◌≡◌, ℕ, ◌+◌, ◌*◌, ◌/◌, ◌^◌
 use Rattle.std.proofs.Math.Nat.{mul-le-mul_left}
 use Rattle.std.proofs.lemmas.Int.{ints, to_z-of_z}
 use Rattle.std.specs.Int.{w64, w128}
-use Rattle.std.specs.Int.RustNames.{unsigned_abs, FitsSigned}
+use Rattle.std.specs.Int.RustNames.{unsigned_abs}
 use Rattle.farm_rounding.specs.declared.mode.Mode.{Mode}
-use Rattle.farm_rounding.specs.Multiple.{nearest_multiple, steps_to, with_sign_of, IsNearest, IsWithinAStep, IsAllowedStep}
+use Rattle.farm_rounding.specs.Multiple.{nearest_multiple, steps_to, with_sign_of, IsNearest, IsWithinAStep}
 use Rattle.farm_rounding.proofs.Steps.{step_bounds, rounded_close}
 use Rattle.farm_rounding.proofs.Meaning.{abs_with_sign, value_is_nearest}
 use Rattle.farm_rounding.proofs.multiple.nearest.Goals as goal
