@@ -1,15 +1,15 @@
 -- A run of `calc`, from what its parts say.
-use Rattle.std.proofs.Common.{◌≡◌, ◌⊎◌, inl, inr, ℕ, suc, ◌+◌, ◌<◌, ◌≤◌, List, [], ◌∷◌, ◌++◌, length, append-nil, length-append, true, nat_lt, Option, Some, None, Result, Ok, Err, refl, sym, ap, subst, ◌∙◌, arith}
+use Rattle.std.proofs.Common.{◌≡◌, ◌⊎◌, inl, inr, ℕ, suc, ◌+◌, ◌<◌, List, ◌++◌, length, append-nil, length-append, true, nat_lt, Option, Some, None, Ok, Err, refl, sym, ap, ◌∙◌, arith}
 use Rattle.std.proofs.lemmas.Bool.Decides.{leb_tells}
 use Rattle.farm_base.specs.Counts.{Count, HasRisen}
-use Rattle.farm_base.specs.Told.{WhereTold, Stream, Adds, Takes}
+use Rattle.farm_base.specs.Told.{WhereTold, Stream}
 use Rattle.farm_ports.specs.Ports.{ReadsUpTo}
 use Rattle.farm.specs.declared.refusal.Refused.{Refused}
 use Rattle.farm.specs.declared.refusal.Cause.TheVariants.{Form}
 use Rattle.farm.specs.Line.{limit}
 use Rattle.farm.specs.Calc.{calc_text, refused_at}
-use Rattle.farm.specs.Texts.{no_memory, port_fault, refusal_text}
-use Rattle.farm.specs.Runs.{Output, Says, Puts, Refuses, LacksMemory, Delivers, AnswersBytes, CalcRun, UsageRun, given, text_of}
+use Rattle.farm.specs.Texts.{port_fault}
+use Rattle.farm.specs.Runs.{Output, Puts, Refuses, LacksMemory, Delivers, AnswersBytes, CalcRun, given, text_of}
 use Rattle.farm.proofs.Saying.{says_last}
 
 -- what holds of any bytes holds of those that are told

@@ -1,8 +1,8 @@
 -- What was said, from what each put added.
-use Rattle.std.proofs.Common.{◌≡◌, ℕ, ◌+◌, ◌-◌, ◌^◌, ◌≤◌, List, [], ◌∷◌, ◌++◌, length, take, append-nil, append_assoc, Option, Result, Ok, Err, refl, sym, ap, subst, ◌∙◌, min, arith}
+use Rattle.std.proofs.Common.{ℕ, ◌≤◌, List, [], ◌∷◌, ◌++◌, length, take, append-nil, Option, Result, Ok, Err, refl, sym, subst, arith}
 use Rattle.std.proofs.Math.Seq.{take-length}
-use Rattle.farm_base.specs.Counts.{Count, Rose, HasRisen, HasCause}
-use Rattle.farm_base.specs.Told.{Adds, AddsAll, AddsWhole, Fronts}
+use Rattle.farm_base.specs.Counts.{Rose, HasCause}
+use Rattle.farm_base.specs.Told.{Adds, AddsAll, Fronts}
 use Rattle.farm_base.proofs.Telling.{additions_add_up}
 use Rattle.farm_ports.specs.Ports.{PutsAll}
 use Rattle.farm.specs.Runs.{Output, output_of, Puts, Says}

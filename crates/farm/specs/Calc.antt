@@ -1,5 +1,5 @@
 -- `calc`: from the bytes of an input to the text of the figures, or the refusal.
-use Rattle.std.specs.Prelude.{ℕ, ◌<◌, Bool, if◌then◌else◌, List, [], ◌∷◌, ◌++◌, length, Option, Some, None, Result, Ok, Err, codes, nat_lt, ℤ}
+use Rattle.std.specs.Prelude.{ℕ, if◌then◌else◌, List, ◌++◌, length, Option, Some, None, Result, Ok, Err, codes, nat_lt, ℤ}
 use Rattle.farm_fixed.specs.declared.records.Quantities.{Quantities}
 use Rattle.farm_fixed.specs.declared.records.ChainRule.{ChainRule}
 use Rattle.farm_fixed.specs.Printing.{quantity_text}

@@ -1,6 +1,5 @@
 -- What the program prints beside figures. Each text is a whole line.
 use Rattle.std.specs.Prelude.{ℕ, List, ◌++◌, codes, decimal}
-use Rattle.farm_fixed.specs.declared.records.ChainRule.{ChainRule}
 use Rattle.farm_fixed.specs.declared.records.ChainRule.TheVariants.{AboveTable, WaterAboveLevel, NoEntry, CriticalZone, Negative}
 use Rattle.farm.specs.declared.refusal.Cause.{Cause}
 use Rattle.farm.specs.declared.refusal.Cause.TheVariants.{Form, Chain}

@@ -1,6 +1,5 @@
 -- Additions and takings, one after another.
-use Rattle.std.proofs.Common.{◌≡◌, ℕ, List, [], ◌∷◌, ◌++◌, sym, ap, ◌∙◌, append_assoc, Option, Some, None}
-use Rattle.farm_base.specs.Told.{Stream, Moved, Adds, Takes}
+use Rattle.std.proofs.Common.{◌++◌, sym, ap, ◌∙◌, append_assoc, Some, None}
 use Rattle.farm_base.specs.Laws.{AdditionsAddUp, TakingsAddUp}
 
 -- two additions after one another are one addition of both texts

@@ -1,5 +1,5 @@
 -- The custody calculation: ten figures, each computed from the rounded figures before it, with the first refusal.
-use Rattle.std.specs.Prelude.{◌≡◌, ℕ, ◌*◌, ◌^◌, Bool, if◌then◌else◌, List, Result, Ok, Err, ℤ, pos, neg_ℤ, ◌+ℤ◌, ◌-ℤ◌, ◌*ℤ◌}
+use Rattle.std.specs.Prelude.{ℕ, ◌*◌, ◌^◌, if◌then◌else◌, List, Result, Ok, Err, ℤ, pos, neg_ℤ, ◌+ℤ◌, ◌-ℤ◌, ◌*ℤ◌}
 use Rattle.std.specs.Int.RustNames.{unsigned_abs, int_lt}
 use Rattle.std.specs.Ordering.{int_eq}
 use Rattle.farm_fixed.specs.declared.records.Shell.{Shell}

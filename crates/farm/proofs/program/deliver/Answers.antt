@@ -1,4 +1,4 @@
-use Rattle.std.proofs.Common.{[], ◌∷◌, inl, inr, refl, arith}
+use Rattle.std.proofs.Common.{[], ◌∷◌, inr, arith}
 use Rattle.farm.specs.Texts.{no_memory, port_fault}
 use Rattle.farm.proofs.Saying.{says_after_fault}
 use Rattle.farm.proofs.program.deliver.Goals as goal

@@ -1,6 +1,6 @@
-use Rattle.std.proofs.Common.{◌≡◌, ℕ, List, [], ◌∷◌, ◌++◌, inl, inr, refl, arith}
+use Rattle.std.proofs.Common.{[], inl, arith}
 use Rattle.farm.specs.Texts.{no_memory, port_fault}
-use Rattle.farm.proofs.Saying.{says_after_fault, says_last, puts_from_put, behind_a_text}
+use Rattle.farm.proofs.Saying.{says_after_fault, behind_a_text}
 use Rattle.farm.proofs.program.lack_memory.Goals as goal
 
 pub returns-in-Err-clause-run : goal.returns-in-Err-clause-run

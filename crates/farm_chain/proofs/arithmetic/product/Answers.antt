@@ -1,4 +1,4 @@
-use Rattle.std.proofs.Common.{◌≡◌, ℤ, pos, ◌≤ℤ◌, ◌*ℤ◌, subst, sym, rules}
+use Rattle.std.proofs.Common.{ℤ, pos, ◌≤ℤ◌, subst, sym, rules}
 use Rattle.farm_chain.proofs.Products.{positive_product, product_size}
 use Rattle.farm_chain.proofs.arithmetic.product.Goals as goal
 

@@ -1,4 +1,4 @@
-use Rattle.std.proofs.Common.{◌≡◌, ◌^◌, false, List, ℤ, pos, neg_ℤ, ◌*ℤ◌, refl, ap, ◌∙◌, rules}
+use Rattle.std.proofs.Common.{◌≡◌, ◌^◌, false, List, ℤ, pos, neg_ℤ, ◌*ℤ◌, ap, ◌∙◌, rules}
 use Rattle.std.specs.Int.RustNames.{unsigned_abs}
 use Rattle.std.specs.Ordering.{int_eq}
 use Rattle.farm_rounding.specs.Table.{Row}

@@ -1,4 +1,4 @@
-use Rattle.std.proofs.Common.{◌≡◌, false, List, ℤ, pos, Result, Ok, ap, sym, ◌∙◌, rules}
+use Rattle.std.proofs.Common.{◌≡◌, false, List, ℤ, pos, Ok, rules}
 use Rattle.std.specs.Int.RustNames.{int_lt}
 use Rattle.farm_fixed.specs.declared.records.Shell.{Shell}
 use Rattle.farm_fixed.specs.declared.records.Sample.{Sample}
