@@ -1,0 +1,57 @@
+//! What is wrong with rows: the first fault, each cause looked for over the whole list.
+
+ghost use Rattle.std.specs.Prelude.{◌≡◌, ◌≤◌, length};
+ghost use Rattle.strap_table.specs.Capacity.{falling_row, first_fault, first_outside};
+
+use crate::TableFault;
+
+const FEWEST_ROWS: usize = 2;
+
+const MOST_ROWS: usize = 5_001;
+
+const GREATEST_VOLUME: i64 = 1_000_000_000;
+
+/// Why the rows are no capacity table, if they are none.
+#[tactic(auto, unfolding(crate::specs::Capacity::first_fault))]
+pub fn first_fault(rows: &[i64]) -> Option<TableFault>
+    ensures { result ≡ first_fault rows.now }
+{
+    if rows.len() < FEWEST_ROWS {
+        return Some(TableFault::Short);
+    }
+    if rows.len() > MOST_ROWS {
+        return Some(TableFault::TooMany);
+    }
+    if let Some(row) = first_outside(rows) {
+        return Some(TableFault::OutOfRange(row));
+    }
+    if let Some(row) = first_falling(rows) {
+        return Some(TableFault::Falling(row));
+    }
+    None
+}
+
+// The first row whose volume a table can't have.
+fn first_outside(rows: &[i64]) -> Option<usize>
+    ensures { result ≡ first_outside 0 rows.now }
+{
+    for (index, row) in rows.iter().enumerate() {
+        if *row < 0 || *row > GREATEST_VOLUME {
+            return Some(index);
+        }
+    }
+    None
+}
+
+// The first row below the one before it.
+fn first_falling(rows: &[i64]) -> Option<usize>
+    requires { 1 ≤ length rows.now }
+    ensures { result ≡ falling_row rows.now }
+{
+    for index in 1..rows.len() {
+        if rows[index] < rows[index - 1] {
+            return Some(index);
+        }
+    }
+    None
+}
