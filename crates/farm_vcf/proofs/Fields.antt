@@ -1,0 +1,88 @@
+-- Rows of records, one after the other.
+use Rattle.std.proofs.Common.{◌≡◌, ◌≢◌, ℕ, zero, suc, ◌-◌, ◌<◌, ◌≤◌, List, [], ◌∷◌, ◌++◌, length, map, take, drop, true, Option, Some, None, refl, append_assoc, arith}
+use Rattle.std.proofs.lemmas.List.{take_all}
+use Rattle.std.specs.Prelude.{Result, Ok, Err}
+use Rattle.csv.specs.Records.{Row, field_at, fields_of}
+use Rattle.farm_vcf.specs.declared.fault.VcfFault.{VcfFault}
+use Rattle.farm_vcf.specs.declared.fault.VcfFault.TheVariants.{Csv, BadField, TooMany, NotGrid, NoMemory}
+use Rattle.farm_vcf.specs.declared.rows.Listed.{Listed}
+use Rattle.farm_vcf.specs.Rows.{IsRefused}
+use Rattle.farm_vcf.specs.Records.{IsFaultOfRecords, equal_lengths, grid_of_few, grid_of_records, grid_under_header, records_of, rows_from, vcf_of, row_of, row_of_fields, with_row}
+
+-- a record of three fields
+pub three_fields : (fields : List (List ℕ)) (a b c : List ℕ) → length fields ≡ 3 → Some a ≡ field_at fields 0 → Some b ≡ field_at fields 1 → Some c ≡ field_at fields 2 → row_of fields ≡ row_of_fields a b c
+unfolding field_at row_of
+three_fields [] a b c three first second third = absurd (omega arith)
+three_fields (x ∷ []) a b c three first second third = absurd (omega arith)
+three_fields (x ∷ y ∷ []) a b c three first second third = absurd (omega arith)
+three_fields (x ∷ y ∷ z ∷ []) a b c three first second third =
+    let one : a ≡ x = cc in
+    let two : b ≡ y = cc in
+    let last : c ≡ z = cc in
+    rw (one, two, last) refl
+three_fields (x ∷ y ∷ z ∷ w ∷ fields) a b c three first second third = absurd (omega arith)
+
+-- and one of another number
+pub not_three : (fields : List (List ℕ)) → length fields ≢ 3 → row_of fields ≡ None
+unfolding row_of
+not_three [] other = refl
+not_three (x ∷ []) other = refl
+not_three (x ∷ y ∷ []) other = refl
+not_three (x ∷ y ∷ z ∷ []) other = absurd (other (omega arith))
+not_three (x ∷ y ∷ z ∷ w ∷ fields) other = refl
+
+pub field_there : (fields : List (List ℕ)) (i : ℕ) → i < length fields → None ≡ field_at fields i → ⊥
+unfolding field_at
+field_there [] i within none = omega arith
+field_there (x ∷ fields) zero within none = cc
+field_there (x ∷ fields) (suc i) within none = field_there fields i (omega arith) none
+
+-- rows that stand before those that are found
+abbrev pub prepended : List Listed → Result (List Listed) VcfFault → Result (List Listed) VcfFault
+prepended rows (Ok more) = Ok (rows ++ more)
+prepended rows (Err fault) = Err fault
+
+pub none_before : (rows : Result (List Listed) VcfFault) → prepended [] rows ≡ rows
+none_before (Ok rows) = refl
+none_before (Err fault) = refl
+
+pub one_before : (number : ℕ) (rows : List Listed) (row : Listed) (found : Option Listed) (more : Result (List Listed) VcfFault) → found ≡ Some row → prepended (rows ++ row ∷ []) more ≡ prepended rows (with_row number found more)
+one_before number rows row found (Ok more) is = rw (is, append_assoc rows (row ∷ []) more) refl
+one_before number rows row found (Err fault) is = rw is refl
+
+pub bad_before : (number : ℕ) (rows : List Listed) (found : Option Listed) (more : Result (List Listed) VcfFault) → found ≡ None → prepended rows (with_row number found more) ≡ Err (BadField number)
+bad_before number rows found more is = rw is refl
+
+-- a fault of the rows is one of their grid
+pub refused_rows : (fault : VcfFault) (rows : Result (List Listed) VcfFault) → IsRefused fault rows → IsRefused fault (grid_of_few rows)
+refused_rows Csv rows is = rw is refl
+refused_rows (BadField number) rows is = rw is refl
+refused_rows TooMany rows is = rw is refl
+refused_rows (NotGrid number) rows is = rw is refl
+refused_rows NoMemory rows is = tt
+
+-- a fault of the records is one of the text
+pub refused_records : (text : List ℕ) (fault : VcfFault) → IsFaultOfRecords text fault → IsRefused fault (vcf_of text)
+unfolding grid_of_records
+refused_records text Csv is = rw is refl
+refused_records text (BadField number) is = absurd is
+refused_records text TooMany is = absurd is
+refused_records text (NotGrid number) is = absurd is
+refused_records text NoMemory is = tt
+
+-- records of one length
+pub equal_records : (text : List ℕ) (rows : List (List (List ℕ))) → records_of text ≡ rows → equal_lengths rows ≡ true → vcf_of text ≡ grid_under_header rows
+unfolding grid_of_records
+equal_records text rows is equal = rw (is, equal) refl
+
+pub no_header : (records : List Row) → length records < 1 → grid_under_header (map fields_of records) ≡ Err (NotGrid 1)
+unfolding grid_under_header
+no_header [] none = refl
+no_header (header ∷ records) none = absurd (omega arith)
+
+pub after_header : (records : List Row) → 1 ≤ length records → grid_under_header (map fields_of records) ≡ grid_of_few (rows_from 1 (map fields_of (take (length records - 1) (drop 1 records))))
+unfolding grid_under_header
+after_header [] some = absurd (omega arith)
+after_header (header ∷ records) some =
+    let whole : take (length (header ∷ records) - 1) records ≡ records = take_all _ records (omega arith) in
+    rw whole refl

@@ -1,0 +1,36 @@
+use Rattle.std.proofs.Common.{◌≡◌, ◌<◌, ◌+◌, ◌-◌, length, take, get_or, arith, rules, true, false, refl}
+use Rattle.std.proofs.lemmas.List.{length-take, take_all, take_more}
+use Rattle.farm_vcf.specs.Records.{is_blank, length_before_blanks}
+use Rattle.farm_vcf.proofs.Blanks.{end_blank, end_other}
+use Rattle.farm_vcf.proofs.reading.length_before_blanks.Goals as goal
+
+pub bytes-init : goal.bytes-init
+bytes-init c = rw (take_all (length c.args.text.now - 0) c.args.text.now (omega arith)) refl
+
+pub bytes-preserved : goal.bytes-preserved
+bytes-preserved c =
+    let f = c.args.text.now in
+    let k = c.bytes.index in
+    let lt : (length f - k) - 1 < length f = omega (arith, c.bytes-test.true) in
+    let n : length f - k ≡ ((length f - k) - 1) + 1 = omega (arith, c.bytes-test.true) in
+    let m : length f - (k + 1) ≡ (length f - k) - 1 = omega arith in
+    let blank : is_blank (get_or f ((length f - k) - 1) 0) ≡ true = search rules in
+    let inv = rw (n, take_more f ((length f - k) - 1) 0 lt, end_blank (take ((length f - k) - 1) f) _ blank) at c.bytes.invariant in
+    rw m inv
+
+pub returns-then-not-is_blank-clause-value : goal.returns-then-not-is_blank-clause-value
+returns-then-not-is_blank-clause-value c =
+    let f = c.args.text.now in
+    let k = c.bytes.index in
+    let lt : (length f - k) - 1 < length f = omega (arith, c.bytes-test.true) in
+    let n : length f - k ≡ ((length f - k) - 1) + 1 = omega (arith, c.bytes-test.true) in
+    let other : is_blank (get_or f ((length f - k) - 1) 0) ≡ false = search rules in
+    let len = length-take ((length f - k) - 1) f in
+    let inv = rw (n, take_more f ((length f - k) - 1) 0 lt, end_other (take ((length f - k) - 1) f) _ other) at c.bytes.invariant in
+    omega (arith, inv)
+
+pub returns-clause-value : goal.returns-clause-value
+unfolding length_before_blanks
+returns-clause-value c =
+    let z : length c.args.text.now - c.bytes.index ≡ 0 = omega (arith, c.bytes-test.false) in
+    rw z at c.bytes.invariant

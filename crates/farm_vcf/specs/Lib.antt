@@ -1,0 +1,4 @@
+pub mod Closest
+pub mod Grid
+pub mod Rows
+pub mod Records
