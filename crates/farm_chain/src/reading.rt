@@ -1,0 +1,135 @@
+//! The figures of a reading: the volumes, the factor and the floating mass that the calculation begins with.
+
+ghost use Rattle.std.specs.Prelude.{◌≡◌, ◌^◌, IfOk, IfSome, pos};
+ghost use Rattle.farm_fixed.specs.Range.{IsWithin};
+ghost use Rattle.farm_chain.specs.Quantities.{IsFloatingRoof, calculated_quantities, carried, correction_factor, floating_mass, free_water, total_observed, volume_at};
+
+use crate::arithmetic::kilograms;
+use crate::figures;
+use farm_fixed::{ChainRule, Fac5, Kg, Litres, Mm, Quantities, Reading, Sample};
+use farm_rounding::{FACTOR_TIES, RoundTable, TABLE_VOLUME};
+use farm_vcf::Vcf;
+use strap_table::{CapTable, Roof, TankSpec};
+
+/// The ten figures of what a gauge reads and a sample says of a tank.
+///
+/// Volumes are those of the capacity table, the factor is that of the factor file, and a floating roof weighs on the liquid
+/// above its critical zone alone. Refused in the order of `ChainRule`. Takes no memory.
+pub fn quantities(
+    tank: &TankSpec,
+    table: &CapTable,
+    vcf: &Vcf,
+    rounds: &RoundTable,
+    reading: &Reading,
+    sample: &Sample,
+) -> Result<Quantities, ChainRule>
+    requires coefficient { IsWithin (pos 0) (pos 1000) tank.now.shell.coefficient }
+    requires roof { IfSome tank.now.roof IsFloatingRoof }
+    ensures { result ≡ calculated_quantities rounds.now tank.now table.now vcf.now reading.now sample.now }
+{
+    let tov = total_observed(table, rounds, reading)?;
+    let fw = free_water(table, rounds, reading)?;
+    let factor = correction_factor(vcf, rounds, reading, sample)?;
+    let floating = floating_mass(tank, reading.level)?;
+    figures(
+        tov,
+        fw,
+        &tank.shell,
+        reading.liquid,
+        reading.ambient,
+        floating,
+        sample,
+        factor,
+        rounds,
+    )
+}
+
+// The volume at a height, if the table goes so far.
+fn volume_at(table: &CapTable, rounds: &RoundTable, height: Mm) -> Option<Litres>
+    ensures value { result ≡ volume_at rounds.now table.now height }
+    ensures range { IfSome result (IsWithin (pos 0) (pos (10 ^ 9))) }
+{
+    let (step, mode) = rounds.row(TABLE_VOLUME);
+    match table.at(height, step, mode) {
+        Ok(volume) => Some(volume),
+        Err(_) => None,
+    }
+}
+
+// TOV, the volume at the level.
+#[tactic(auto, unfolding(crate::specs::Quantities::total_observed))]
+fn total_observed(
+    table: &CapTable,
+    rounds: &RoundTable,
+    reading: &Reading,
+) -> Result<Litres, ChainRule>
+    ensures value { result ≡ total_observed rounds.now table.now reading.now }
+    ensures range { IfOk result (IsWithin (pos 0) (pos (10 ^ 9))) }
+{
+    match volume_at(table, rounds, reading.level) {
+        Some(volume) => Ok(volume),
+        None => Err(ChainRule::AboveTable),
+    }
+}
+
+// FW, the volume at the height of the water.
+#[tactic(auto, unfolding(crate::specs::Quantities::free_water))]
+fn free_water(table: &CapTable, rounds: &RoundTable, reading: &Reading) -> Result<Litres, ChainRule>
+    ensures value { result ≡ free_water rounds.now table.now reading.now }
+    ensures range { IfOk result (IsWithin (pos 0) (pos (10 ^ 9))) }
+{
+    if reading.water.get() > reading.level.get() {
+        return Err(ChainRule::WaterAboveLevel);
+    }
+    match volume_at(table, rounds, reading.water) {
+        Some(volume) => Ok(volume),
+        None => Err(ChainRule::WaterAboveLevel),
+    }
+}
+
+// VCF, the entry of the factor file.
+#[tactic(auto, unfolding(crate::specs::Quantities::correction_factor))]
+fn correction_factor(
+    vcf: &Vcf,
+    rounds: &RoundTable,
+    reading: &Reading,
+    sample: &Sample,
+) -> Result<Fac5, ChainRule>
+    ensures { result ≡ correction_factor rounds.now vcf.now reading.now sample.now }
+{
+    let (_, mode) = rounds.row(FACTOR_TIES);
+    match vcf.entry(sample.density, reading.liquid, mode) {
+        Ok(factor) => Ok(factor),
+        Err(_) => Err(ChainRule::NoEntry),
+    }
+}
+
+// The mass that floats on the liquid.
+fn floating_mass(tank: &TankSpec, level: Mm) -> Result<Kg, ChainRule>
+    requires { IfSome tank.now.roof IsFloatingRoof }
+    ensures value { result ≡ floating_mass tank.now.roof level }
+    ensures range { IfOk result (IsWithin (pos 0) (pos (10 ^ 7))) }
+{
+    match &tank.roof {
+        None => Ok(kilograms(0)),
+        Some(roof) => carried(roof, level),
+    }
+}
+
+// The mass that the liquid carries of a roof.
+fn carried(roof: &Roof, level: Mm) -> Result<Kg, ChainRule>
+    requires { IsFloatingRoof roof.now }
+    ensures value { result ≡ carried roof.now level }
+    ensures range { IfOk result (IsWithin (pos 0) (pos (10 ^ 7))) }
+{
+    if level.get() < roof.low.get() {
+        return Ok(kilograms(0));
+    }
+    if level.get() > roof.high.get() {
+        return Ok(roof.mass);
+    }
+    Err(ChainRule::CriticalZone)
+}
+
+#[cfg(test)]
+mod tests;
