@@ -1,5 +1,5 @@
 -- A run of `calc`, from what its parts say.
-use Rattle.std.proofs.Common.{◌≡◌, ◌⊎◌, inl, inr, ℕ, suc, ◌+◌, ◌<◌, List, ◌++◌, length, append-nil, length-append, true, nat_lt, Option, Some, None, Ok, Err, refl, sym, ap, ◌∙◌, arith}
+use Rattle.std.proofs.Common.{cond, count_by, take, false, Bor, map, ◌≤◌, ◌==◌, ◌≡◌, ◌⊎◌, inl, inr, ℕ, suc, ◌+◌, ◌<◌, List, ◌++◌, length, append-nil, length-append, true, nat_lt, Option, Some, None, Ok, Err, refl, sym, ap, ◌∙◌, arith}
 use Rattle.std.proofs.lemmas.Bool.Decides.{leb_tells}
 use Rattle.farm_base.specs.Counts.{Count, HasRisen}
 use Rattle.farm_base.specs.Told.{WhereTold, Stream}
@@ -7,7 +7,11 @@ use Rattle.farm_ports.specs.Ports.{ReadsUpTo}
 use Rattle.farm.specs.declared.refusal.Refused.{Refused}
 use Rattle.farm.specs.declared.refusal.Cause.TheVariants.{Form}
 use Rattle.farm.specs.Line.{limit}
-use Rattle.farm.specs.Calc.{calc_text, refused_at}
+use Rattle.std.proofs.lemmas.List.{take-append-le, length-map}
+use Rattle.farm.specs.declared.form.Input.{Input}
+use Rattle.farm.specs.Lines.{lines_of}
+use Rattle.farm.specs.Form.{form_of}
+use Rattle.farm.specs.Calc.{calc_text, calculated_form, text_of_result, refused_at, over_line, first_of, text_of_form}
 use Rattle.farm.specs.Texts.{port_fault}
 use Rattle.farm.specs.Runs.{Output, Puts, Refuses, LacksMemory, Delivers, AnswersBytes, CalcRun, given, text_of}
 use Rattle.farm.proofs.Saying.{says_last}
@@ -69,10 +73,20 @@ answers_delivering bytes text output status answer delivers = record {
 over_is : (m n : ℕ) → m < n → nat_lt m n ≡ true
 over_is m n over = elim (leb_tells (suc m) n) [ inl t ↦ t.0 | inr t ↦ absurd (omega (arith, t.1)) ]
 
+isnt_over : (m n : ℕ) → n ≤ m → nat_lt m n ≡ false
+isnt_over m n short = elim (leb_tells (suc m) n) [ inl t ↦ absurd (omega (arith, t.1)) | inr t ↦ t.0 ]
+
 -- A text over the limit is refused for its form, whatever comes behind it.
-long_refused : (bytes : List ℕ) → limit < length bytes → calc_text bytes ≡ Err (refused_at 1 Form)
+long_refused : (bytes : List ℕ) → limit < length bytes → calc_text bytes ≡ Err (refused_at (over_line bytes) Form)
 unfolding calc_text
-long_refused bytes long = let over : nat_lt limit (length bytes) ≡ true = over_is limit (length bytes) long in rw over refl
+long_refused bytes long =
+    ap (λ b. cond b (Err (refused_at (over_line bytes) Form)) (text_of_form (length (lines_of bytes)) (form_of (lines_of bytes)))) (over_is limit (length bytes) long)
+
+-- where it is refused hangs on the bytes up to the limit alone
+over_front : (bytes rest : List ℕ) → limit ≤ length bytes → over_line (bytes ++ rest) ≡ over_line bytes
+unfolding over_line
+over_front bytes rest long =
+    ap (λ front. first_of (count_by (λ byte. byte == 10) front + 1) (form_of (lines_of front))) (take-append-le limit bytes rest long)
 
 -- a length is up to the limit or over it
 long_or_short : (n : ℕ) → (n < limit + 1) ⊎ (limit < n)
@@ -88,7 +102,8 @@ read_enough (Some old) (Some new) bytes reads = elim (long_or_short (length byte
   | inl short ↦ ap calc_text (reads.moved.left ∙ ap (λ rest. bytes ++ rest) (reads.to_end short) ∙ append-nil bytes)
   | inr long ↦
       let whole : limit < length (old.left) = omega (arith, long, ap length reads.moved.left, length-append bytes new.left) in
-      long_refused old.left whole ∙ sym (long_refused bytes (omega arith))
+      let front : over_line old.left ≡ over_line bytes = ap over_line reads.moved.left ∙ over_front bytes new.left (omega arith) in
+      long_refused old.left whole ∙ ap (λ line. Err (refused_at line Form)) front ∙ sym (long_refused bytes (omega arith))
 ]
 
 -- the run, where what was read answers as the input does
@@ -149,3 +164,15 @@ calc_lacking None source output status lacks = record {
   complete = tt;
 }
 calc_lacking (Some bytes) source output status lacks = of_same (Some bytes) bytes source output status refl (answers_lacking bytes output status lacks)
+
+-- a text up to the limit, once its form is known
+pub short_text : (bytes : List ℕ) (lines : List (Bor (List ℕ))) (last : ℕ) (input : Input) → length bytes ≤ limit →
+    map (λ l. l.now) lines ≡ lines_of bytes → last ≡ length lines → form_of (map (λ l. l.now) lines) ≡ Ok input →
+    calc_text bytes ≡ text_of_result last (calculated_form input)
+unfolding calc_text
+short_text bytes lines last input short are_lines count form =
+    let test : nat_lt limit (length bytes) ≡ false = isnt_over limit (length bytes) short in
+    let same : form_of (lines_of bytes) ≡ Ok input = ap form_of (sym are_lines) ∙ form in
+    let many : length (lines_of bytes) ≡ last = ap length (sym are_lines) ∙ length-map lines (λ (l : Bor (List ℕ)). l.now) ∙ sym count in
+    ap (λ b. cond b (Err (refused_at (over_line bytes) Form)) (text_of_form (length (lines_of bytes)) (form_of (lines_of bytes)))) test
+    ∙ ap (text_of_form (length (lines_of bytes))) same ∙ ap (λ n. text_of_result n (calculated_form input)) many

@@ -14,15 +14,7 @@ o >>= f = option_and_then f o
 
 -- at most so many bytes are an input
 abbrev pub limit : ℕ
-limit = 65536
-
--- the input without the line feed at its end
-abbrev pub line_of : List ℕ → List ℕ
-line_of bytes = if slice_index bytes (length bytes - 1) == 10 then take (length bytes - 1) bytes else bytes
-
--- the words of a line, parted by one blank each
-abbrev pub words_of : List ℕ → List (List ℕ)
-words_of line = slice_split (λ byte. byte == 32) line
+limit = 1048576
 
 -- a value that is there and in the range
 abbrev pub within : ℤ → ℤ → Option ℤ → Option ℤ

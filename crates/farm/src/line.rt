@@ -1,15 +1,13 @@
 //! The line of observed volumes.
 
 ghost use Rattle.std.specs.Prelude.{◌≡◌, ◌-◌, ◌==◌, ◌<◌, ◌≤◌, length, map, None, IfSome, IfOk};
-ghost use Rattle.std.specs.List.{slice_split};
 ghost use Rattle.farm_fixed.specs.Range.{IsWithin};
-ghost use Rattle.farm.specs.Line.{IsCalculable, fields_of, line_of, volumes_of, word_at, words_of};
+ghost use Rattle.farm.specs.Line.{IsCalculable, fields_of, volumes_of, word_at};
 
 use crate::words::{
     coefficient_of, density_of, factor_of, roof_of, share_of, shell_of, temperature_of, volume_of,
 };
 use farm_fixed::{Centi, Fac5, Kg, Litres, Sample, Shell};
-use std::alloc::{AllocError, Global};
 
 /// What a line of observed volumes says.
 #[derive(Clone, Copy, Debug, PartialEq, Eq)]
@@ -80,27 +78,10 @@ impl Volumes {
     }
 }
 
-// A word of the line, the first being 0.
-fn word_at<'a>(words: &[&'a [u8]], n: usize) -> &'a [u8]
+/// A word of the line, the first being 0.
+pub fn word_at<'a>(words: &[&'a [u8]], n: usize) -> &'a [u8]
     requires { n < length words.now }
     ensures { result.now ≡ word_at (map (λ word. word.now) words.now) n }
 {
     words[n]
-}
-
-// The words of a line, parted by one blank each.
-pub fn words_of(alloc: Global, line: &[u8]) -> Result<Vec<&[u8]>, AllocError>
-    ensures { IfOk result (λ words. map (λ word. word.now) words.items ≡ words_of line.now) }
-{
-    line.split(|byte| *byte == b' ').collect(alloc)
-}
-
-/// The input without the line feed at its end.
-pub fn line_of(bytes: &[u8]) -> &[u8]
-    ensures { result.now ≡ line_of bytes.now }
-{
-    match bytes {
-        [line @ .., b'\n'] => line,
-        _ => bytes,
-    }
 }

@@ -6,7 +6,10 @@
 
 mod calc;
 mod command;
+mod form;
+mod levels;
 mod line;
+mod lines;
 mod program;
 mod refusal;
 mod texts;

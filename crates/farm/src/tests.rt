@@ -13,6 +13,8 @@ const WATER: &str = "input refused at line 1: WaterAboveLevel\n";
 
 const NEGATIVE: &str = "input refused at line 1: Negative\n";
 
+const SECOND: &str = "input refused at line 2: form\n";
+
 const FAULT: &str = "port fault\n";
 
 // A line of observed volumes, up to the fields that the cases change.
@@ -25,6 +27,9 @@ const FIGURES: &str =
 
 const UNDER_ROOF: &str =
     "TOV 12345000\nFW 45000\nCTSH 1.00025\nVCF 0.99150\nFRA -100857\nGOV 12202218\nGSV 12098499\nNSV 12068253\nSWV 30246\nMASS 10258015\n";
+
+const LEVELS: &str =
+    "TOV 1600\nFW 0\nCTSH 1.00000\nVCF 1.00000\nFRA 0\nGOV 1600\nGSV 1600\nNSV 1600\nSWV 0\nMASS 1360\n";
 
 const EMPTY: &str =
     "TOV 45000\nFW 45000\nCTSH 1.00025\nVCF 0.99150\nFRA 0\nGOV 0\nGSV 0\nNSV 0\nSWV 0\nMASS 0\n";
@@ -65,18 +70,132 @@ fn calc_roof_and_refusals(rt: HostRuntime) -> Result<(), Fail> {
         ("40000 45000", "0", "\n", 4, WATER),
         ("40000 45000", "85000", "\n", 4, WATER),
         ("45000 45000", "85000", "\n", 4, NEGATIVE),
-        ("12345000  45000", "0", "\n", 4, FORM),
-        ("12345000 45000", "0", "\r\n", 4, FORM),
-        ("12345000 45000", "0", "\n\n", 4, FORM),
-        ("12345000 45000", "0", " \n", 4, FORM),
+        ("12345000 \t 45000", "0", " \t\r\n\n \r\n", 0, FIGURES),
+        ("12345000 45000", "0", "\r", 4, FORM),
+        ("12345000 45000", "0", "\nvolumes\n", 4, SECOND),
+        ("12345000 45000", "0", "\n\nx", 4, SECOND),
         ("1000000001 45000", "0", "\n", 4, FORM),
         ("12345000 45000", "10000001", "\n", 4, FORM),
     ];
     for (volumes, roof, end, want, text) in cases {
-        let line = format!(in rt.alloc(); "volumes {volumes}{BARE}{roof}{OIL}{end}")?;
+        let line = format!(in rt.alloc(); " volumes {volumes}{BARE}{roof}{OIL}{end}")?;
         let (status, bytes) = answer(rt.alloc(), "calc", line.as_str(), 0, 0)?;
         assert_eq!(rt; status, want, "at {line:?}");
         assert_eq!(rt; bytes.as_slice(), text.as_bytes(), "at {line:?}");
+    }
+    Ok(())
+}
+
+// The last row of the table, the factors and the levels of an input, and what it is answered with.
+#[test]
+fn calc_from_table(rt: HostRuntime) -> Result<(), Fail> {
+    let one = "1\n850.0,15.00,1.00000";
+    let short = "3\n850.0,15.00,1\n850.0,20.00,1\n860.0,15.00,1";
+    let falling = "2\n850.0,15.00,1\n840.0,15.00,1";
+    let cases = [
+        (
+            "3000",
+            one,
+            "13 0 insulated 15.00 15.00 15.00 0 0 0 0 850.0 0.000",
+            0,
+            LEVELS,
+        ),
+        (
+            "3000\r",
+            "1\n 850.0 , 15.00\t,1 ",
+            "13 0 insulated 15 15 15 0 0 0 0 850 0",
+            0,
+            LEVELS,
+        ),
+        (
+            "3000",
+            one,
+            "21 0 insulated 15 15 15 0 0 0 0 850 0",
+            4,
+            "7: AboveTable",
+        ),
+        (
+            "3000",
+            one,
+            "21 0 insulated 15 15 15 0 0 0 0 850 0\n \n\n",
+            4,
+            "7: AboveTable",
+        ),
+        (
+            "3000",
+            one,
+            "13 14 insulated 15 15 15 0 0 0 0 850 0",
+            4,
+            "7: WaterAboveLevel",
+        ),
+        (
+            "3000",
+            one,
+            "13 0 insulated 15.01 15 15 0 0 0 0 850 0",
+            4,
+            "7: NoEntry",
+        ),
+        (
+            "3000",
+            one,
+            "13 0 insulated 15 15 15 0 9 10 13 850 0",
+            4,
+            "7: CriticalZone",
+        ),
+        (
+            "3000",
+            one,
+            "13 0 insulated 15 15 15 0 0 5 4 850 0",
+            4,
+            "7: form",
+        ),
+        (
+            "3000",
+            one,
+            "13 0 insulated 15 15 15 0 0 0 0 850 0\nx",
+            4,
+            "8: form",
+        ),
+        ("999", one, "13", 4, "4: form"),
+        ("\n3000", one, "13", 4, "4: form"),
+        ("3000", "0\n", "13", 4, "5: form"),
+        ("3000", "1\n\"850.0\",15.00,1", "13", 4, "6: form"),
+        ("3000", falling, "13", 4, "7: form"),
+        ("3000", short, "13", 4, "8: form"),
+    ];
+    for (row, factors, levels, want, answered) in cases {
+        let input = format!(in rt.alloc();
+            "table 3\n0\n1000\n{row}\nfactors {factors}\nlevels {levels}"
+        )?;
+        let (status, bytes) = answer(rt.alloc(), "calc", input.as_str(), 0, 0)?;
+        let refused = format!(in rt.alloc(); "input refused at line {answered}\n")?;
+        let text = if want == 0 {
+            answered.as_bytes()
+        } else {
+            refused.as_bytes()
+        };
+        assert_eq!(rt; status, want, "at {input:?}");
+        assert_eq!(rt; bytes.as_slice(), text, "at {input:?}");
+    }
+    Ok(())
+}
+
+#[test]
+fn an_input_that_ends_early_is_refused_behind_its_last_line(rt: HostRuntime) -> Result<(), Fail> {
+    let cases = [
+        ("\n \n", "1: form"),
+        ("table 1\n", "1: form"),
+        ("table 3\n0\n1000\n\n", "4: form"),
+        (
+            "table 2\n0\n1000\nfactors 2\n850.0,15.00,1.00000\n",
+            "6: form",
+        ),
+    ];
+    for (input, answered) in cases {
+        let (status, bytes) = answer(rt.alloc(), "calc", input, 0, 0)?;
+        let refused = format!(in rt.alloc(); "input refused at line {answered}\n")?;
+        assert_eq!(rt; status, 4, "at {input:?}");
+        assert_eq!(rt; bytes.as_slice(), refused.as_bytes(), "at {input:?}");
     }
     Ok(())
 }

@@ -97,9 +97,9 @@ pub fn coefficient_of(word: &[u8]) -> Option<i64>
     Some(coefficient as i64)
 }
 
-// A number that is written as 1 to 20 decimal digits.
+/// A number that is written as 1 to 20 decimal digits.
 #[tactic(auto, unfolding(crate::specs::Line::digits_of))]
-fn digits_of(word: &[u8]) -> Option<u128>
+pub fn digits_of(word: &[u8]) -> Option<u128>
     ensures { result ≡ digits_of word.now }
 {
     if word.is_empty() || word.len() > 20 || !is_digits(word) {
