@@ -1,0 +1,32 @@
+"""Writes the greatest input of `calc` from levels and a factor file of 100,000 records into a folder."""
+
+import pathlib
+import sys
+
+LIMIT = 1_048_576
+TEMPERATURES = 100
+
+
+def factors(count, first):
+    """Lines of a grid: densities from `first` tenths of a kg/m3 on, each with the same hundred temperatures."""
+    for index in range(count):
+        block, place = divmod(index, TEMPERATURES)
+        density, temperature, factor = first + block, 100 + 25 * place, 100_000 - 37 * place - block
+        yield (
+            f"{density // 10}.{density % 10},{temperature // 100}.{temperature % 100:02},"
+            f"{factor // 100_000}.{factor % 100_000:05}\n"
+        )
+
+
+def levels():
+    """A table of 5,001 rows, as many whole blocks of factors as there is room for, levels, and blank lines."""
+    count = 51_200
+    rows = "".join(f"{2 * index * index}\n" for index in range(5_001))
+    line = "levels 43217 13 bare 20.25 31.00 15.00 112 85000 1000 1500 405.3 0.125\n"
+    text = f"table 5001\n{rows}factors {count}\n{''.join(factors(count, 4_000))}{line}"
+    return text + "\n" * (LIMIT - len(text))
+
+
+folder = pathlib.Path(sys.argv[1])
+(folder / "levels.txt").write_text(levels())
+(folder / "factors.csv").write_text("density,temperature,factor\n" + "".join(factors(100_000, 4_000)))

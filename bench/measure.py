@@ -1,0 +1,54 @@
+"""Times the built programs beside others that do the same; `run` builds them and hands over the two folders."""
+
+import subprocess
+import sys
+import time
+
+TOP, WORK = sys.argv[1:]
+FARM = [f"{TOP}/crates/farm/out/farm", "calc"]
+LINE = f"{TOP}/examples/calc/observed.txt"
+LEVELS = f"{WORK}/levels.txt"
+FACTORS = f"{WORK}/factors.csv"
+
+
+def answer(words, path="/dev/null"):
+    """What a program prints of a file."""
+    with open(path, "rb") as file:
+        return subprocess.run(words, stdin=file, stdout=subprocess.PIPE, check=True).stdout
+
+
+def least(words, runs, path="/dev/null"):
+    """The least time of some runs in milliseconds."""
+    spent = []
+    for _ in range(runs):
+        start = time.perf_counter()
+        answer(words, path)
+        spent.append(time.perf_counter() - start)
+    return 1000 * min(spent)
+
+
+def kilobytes(words, path):
+    """The most memory that a run holds."""
+    with open(path, "rb") as file:
+        run = subprocess.run(["/usr/bin/time", "-f", "%M", *words], stdin=file, capture_output=True, check=True)
+    return run.stderr.decode().strip()
+
+
+def compare(name, ours, theirs, runs, path="/dev/null", alike=True):
+    """One row: both times and their ratio."""
+    assert not alike or answer(ours, path) == answer(theirs, path), f"{name}: the two programs did different work"
+    here, beside = least(ours, runs, path), least(theirs, runs, path)
+    print(f"{name}: {here:.2f} ms, beside it {beside:.2f} ms, ratio {here / beside:.2f}")
+
+
+compare("a million figures, C", [f"{TOP}/crates/figures_bench/out/figures_bench"], [f"{WORK}/figures"], 9)
+compare("one line of calc, Rust that prints a line", FARM, [f"{WORK}/line"], 300, LINE, alike=False)
+compare("the greatest input of calc, Rust", FARM, [f"{WORK}/levels"], 40, LEVELS)
+compare(
+    "100,000 factors, Python's csv",
+    [f"{TOP}/crates/factors_bench/out/factors_bench"],
+    [sys.executable, f"{TOP}/bench/records.py"],
+    20,
+    FACTORS,
+)
+print(f"memory of one line: {kilobytes(FARM, LINE)} KB, of the greatest input: {kilobytes(FARM, LEVELS)} KB")
