@@ -1,5 +1,5 @@
 -- A run of `calc`, from what its parts say.
-use Rattle.std.proofs.Common.{cond, count_by, take, false, Bor, map, ◌≤◌, ◌==◌, ◌≡◌, ◌⊎◌, inl, inr, ℕ, suc, ◌+◌, ◌<◌, List, ◌++◌, length, append-nil, length-append, true, nat_lt, Option, Some, None, Ok, Err, refl, sym, ap, ◌∙◌, arith}
+use Rattle.std.proofs.Common.{cond, count_by, false, Bor, map, ◌≤◌, ◌==◌, ◌≡◌, ◌⊎◌, inl, inr, ℕ, suc, ◌+◌, ◌<◌, List, ◌++◌, length, append-nil, length-append, true, nat_lt, Option, Some, None, Ok, Err, refl, sym, ap, ◌∙◌, arith}
 use Rattle.std.proofs.lemmas.Bool.Decides.{leb_tells}
 use Rattle.farm_base.specs.Counts.{Count, HasRisen}
 use Rattle.farm_base.specs.Told.{WhereTold, Stream}

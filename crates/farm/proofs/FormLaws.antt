@@ -1,5 +1,5 @@
 -- A form of levels, once each of its lines is read.
-use Rattle.std.proofs.Common.{◌≡◌, inl, inr, ℕ, suc, ◌+◌, ◌<◌, ◌≤◌, nat_lt, true, false, length, map, Bor, List, Result, Ok, Err, ℤ, pos, codes, refl, sym, ap, subst, ◌∙◌, arith}
+use Rattle.std.proofs.Common.{◌≡◌, inl, inr, ℕ, suc, ◌+◌, ◌<◌, ◌≤◌, nat_lt, true, false, length, map, Bor, List, Ok, Err, ℤ, pos, codes, refl, sym, ap, subst, arith}
 use Rattle.std.proofs.lemmas.List.{length-map}
 use Rattle.std.proofs.lemmas.Bool.Decides.{leb_tells}
 use Rattle.farm_vcf.specs.Grid.{Grid}

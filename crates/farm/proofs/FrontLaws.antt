@@ -1,5 +1,5 @@
 -- Rows of a factor grid that are read one after another.
-use Rattle.std.proofs.Common.{◌≡◌, ℕ, zero, suc, ◌+◌, ◌-◌, ◌<◌, ◌≤◌, List, [], ◌∷◌, ◌++◌, append_assoc, append-nil, Option, Some, None, refl, sym, ap, subst, ◌∙◌, arith}
+use Rattle.std.proofs.Common.{◌≡◌, ℕ, suc, ◌+◌, ◌-◌, ◌<◌, ◌≤◌, List, [], ◌∷◌, ◌++◌, append_assoc, append-nil, Some, None, sym, ap, subst, ◌∙◌, arith}
 use Rattle.farm_vcf.specs.declared.rows.Listed.{Listed}
 use Rattle.farm.specs.Levels.{line_at}
 use Rattle.farm.specs.Form.{listed_of, listed_front, listed_then}

@@ -1,12 +1,12 @@
 -- Lines of an input: one more at the front, one less at the end.
-use Rattle.std.proofs.Common.{◌≡◌, ℕ, ◌+◌, ◌==◌, Bool, true, false, nat_lt, cond, Option, Some, None, take, drop, List, [], ◌∷◌, ◌++◌, length, map, Bor, get_or, ◌-◌, append_assoc, length-drop, length-append, ◌<◌, ◌≤◌, refl, sym, ap, subst, ◌∙◌, arith}
+use Rattle.std.proofs.Common.{◌≡◌, ℕ, ◌+◌, ◌==◌, Bool, true, false, nat_lt, cond, Some, None, take, drop, List, [], ◌∷◌, ◌++◌, length, map, Bor, get_or, ◌-◌, append_assoc, length-drop, length-append, ◌<◌, ◌≤◌, refl, sym, ap, subst, ◌∙◌, arith}
 use Rattle.std.proofs.lemmas.List.{take_all, take_more, map-append}
 use Rattle.std.proofs.lemmas.List.Splits.{length-slice_split, slice_split_first, slice_split_none}
 use Rattle.std.proofs.lemmas.List.Sums.{fails_before_first}
 use Rattle.std.proofs.lemmas.Bool.Decides.{nat_tests}
-use Rattle.std.specs.List.{slice_split, count_by, position, position_or_len}
+use Rattle.std.specs.List.{position, position_or_len}
 use Rattle.std.specs.Str.Lines.{strip_carriage_return}
-use Rattle.farm.specs.Lines.{is_blank_line, before_lines, without_blank_end, ended_line, ended_lines, line_parts}
+use Rattle.farm.specs.Lines.{is_blank_line, before_lines, without_blank_end, ended_lines, line_parts}
 
 -- what the tests of two numbers tell
 lt_from : (n m : ℕ) → nat_lt n m ≡ true → n < m

@@ -36,7 +36,7 @@ figures_text q =
 abbrev pub refused_at : ℕ → Cause → Refused
 refused_at line cause = record { line = line; cause = cause }
 
--- the text of a calculation, or its refusal at the line of the volumes
+-- the text of a calculation, or its refusal at this line
 abbrev pub text_of_result : ℕ → Result Quantities ChainRule → Result (List ℕ) Refused
 text_of_result line (Ok figures) = Ok (figures_text figures)
 text_of_result line (Err rule) = Err (refused_at line (Chain rule))

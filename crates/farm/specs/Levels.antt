@@ -1,5 +1,5 @@
 -- The lines of the form `table`: counts, volumes of the capacity table, and the line of levels.
-use Rattle.std.specs.Prelude.{◌≡◌, ℕ, ◌+◌, ◌-◌, ◌==◌, ◌&&◌, Bool, true, false, not, if◌then◌else◌, zero, suc, List, [], ◌∷◌, length, Option, Some, None, Result, Ok, Err, nat_le, slice_index_or, codes, ℤ, pos, ◌≤ℤ◌}
+use Rattle.std.specs.Prelude.{◌≡◌, ℕ, ◌+◌, ◌==◌, ◌&&◌, if◌then◌else◌, zero, suc, List, [], ◌∷◌, length, Option, Some, None, Result, Ok, Err, nat_le, slice_index_or, codes, ℤ, pos, ◌≤ℤ◌}
 use Rattle.std.specs.Int.RustNames.{int_lt}
 use Rattle.std.specs.Result.{result_ok}
 use Rattle.std.specs.Str.{bytes_eq}

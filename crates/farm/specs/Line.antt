@@ -1,6 +1,5 @@
 -- The input of `calc`: one line of observed volumes.
-use Rattle.std.specs.Prelude.{ℕ, ◌-◌, ◌==◌, ◌&&◌, Bool, true, false, if◌then◌else◌, List, [], length, take, Option, Some, None, codes, nat_le, nat_lt, slice_index, slice_index_or, option_and_then, ℤ, pos, negsuc}
-use Rattle.std.specs.List.{slice_split}
+use Rattle.std.specs.Prelude.{ℕ, ◌==◌, ◌&&◌, Bool, true, false, if◌then◌else◌, List, [], length, Option, Some, None, codes, nat_le, nat_lt, slice_index_or, option_and_then, ℤ, pos, negsuc}
 use Rattle.std.specs.Result.{result_ok}
 use Rattle.std.specs.Str.{bytes_eq, all_ascii_digits}
 use Rattle.std.specs.Str.Parse.{digits_value}

@@ -1,5 +1,5 @@
 -- An input as lines, and a line as words.
-use Rattle.std.specs.Prelude.{ℕ, ◌==◌, ◌||◌, ◌&&◌, Bool, true, not, if◌then◌else◌, List, [], ◌∷◌, length, filter, slice_index_or}
+use Rattle.std.specs.Prelude.{ℕ, ◌==◌, ◌||◌, ◌&&◌, Bool, true, not, if◌then◌else◌, List, [], ◌∷◌, length, filter}
 use Rattle.std.specs.List.{slice_split}
 use Rattle.std.specs.Str.Lines.{strip_carriage_return}
 

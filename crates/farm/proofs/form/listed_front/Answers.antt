@@ -1,4 +1,4 @@
-use Rattle.std.proofs.Common.{◌≡◌, ◌+◌, ◌-◌, ◌∷◌, ◌++◌, [], List, ℕ, Some, None, map, length, length-append, sym, subst, ◌∙◌, ap, arith, rules}
+use Rattle.std.proofs.Common.{◌≡◌, ◌+◌, ◌-◌, ◌∷◌, ◌++◌, [], List, Some, None, map, length, length-append, sym, subst, ◌∙◌, ap, arith}
 use Rattle.farm_vcf.specs.declared.rows.Listed.{Listed}
 use Rattle.farm.specs.Levels.{line_at}
 use Rattle.farm.specs.Form.{listed_of, listed_front}

@@ -1,4 +1,3 @@
-use Rattle.std.proofs.Common.{Ok}
 use Rattle.farm.proofs.RowLaws.{rows_are_table, rows_taken}
 use Rattle.farm.proofs.form.table_of.Goals as goal
 

@@ -1,8 +1,8 @@
-use Rattle.std.proofs.Common.{◌≡◌, ◌+◌, ◌-◌, ◌∷◌, ◌++◌, [], List, ℕ, ℤ, Some, None, pos, map, sym, subst, ◌∙◌, ap, Ok, Err, arith, rules}
+use Rattle.std.proofs.Common.{◌≡◌, ◌+◌, ◌-◌, ◌∷◌, ◌++◌, [], List, ℤ, Some, None, pos, map, sym, subst, ◌∙◌, ap, Err, arith, rules}
 use Rattle.std.proofs.lemmas.Int.{to_z-of_z}
 use Rattle.std.specs.Int.{w64}
 use Rattle.farm.specs.Levels.{line_at, row_of, rows_from}
-use Rattle.farm.proofs.RowLaws.{onto, onto_none, one_row_more, no_row_here, rows_done}
+use Rattle.farm.proofs.RowLaws.{onto, one_row_more, no_row_here, rows_done}
 use Rattle.farm.proofs.levels.rows_of.Goals as goal
 
 pub returns-in-None : goal.returns-in-None

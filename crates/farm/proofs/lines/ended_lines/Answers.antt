@@ -1,4 +1,3 @@
-use Rattle.std.proofs.Common.{◌∙◌}
 use Rattle.farm.proofs.LineLaws.{ended_line_first, one_line_more}
 use Rattle.farm.proofs.lines.ended_lines.Goals as goal
 

@@ -1,4 +1,4 @@
-use Rattle.std.proofs.Common.{◌≡◌, ◌++◌, length, map, Bor, List, ℕ}
+use Rattle.std.proofs.Common.{◌≡◌, ◌++◌, length, map}
 use Rattle.farm.specs.Lines.{ended_lines, line_parts}
 use Rattle.farm.proofs.lines.ended_lines.Given as goal
 

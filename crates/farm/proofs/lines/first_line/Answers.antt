@@ -1,4 +1,4 @@
-use Rattle.std.proofs.Common.{◌≡◌, ℕ, ◌+◌, ◌-◌, ◌∷◌, List, length, take, drop, sym, refl, subst}
+use Rattle.std.proofs.Common.{◌≡◌, ℕ, ◌+◌, ◌∷◌, List, take, sym, subst}
 use Rattle.farm.specs.Lines.{line_parts}
 use Rattle.farm.proofs.LineLaws.{parts_at, parts_whole, whole_rest}
 use Rattle.farm.proofs.lines.first_line.Goals as goal

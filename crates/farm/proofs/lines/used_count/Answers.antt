@@ -1,4 +1,4 @@
-use Rattle.std.proofs.Common.{◌≡◌, ℕ, ◌+◌, ◌-◌, ◌≤◌, List, length, map, take, sym, ap, ◌∙◌, subst, arith, rules}
+use Rattle.std.proofs.Common.{◌≡◌, ℕ, ◌+◌, ◌-◌, map, take, sym, ap, ◌∙◌, subst, arith}
 use Rattle.farm.specs.Lines.{without_blank_end}
 use Rattle.farm.proofs.LineLaws.{blank_front, used_front}
 use Rattle.farm.proofs.lines.used_count.Goals as goal

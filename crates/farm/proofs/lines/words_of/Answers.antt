@@ -1,4 +1,4 @@
-use Rattle.std.proofs.Common.{ℕ, ◌==◌, not, length, rules, tests}
+use Rattle.std.proofs.Common.{◌==◌, not, length, rules, tests}
 use Rattle.std.proofs.lemmas.Iterator.Consumers.{map_from_collect, YieldsList-from_filter, YieldsList-at}
 use Rattle.std.proofs.lemmas.Iterator.Splits.{YieldsList-from_slice_split}
 use Rattle.farm.specs.Lines.{words_of, is_blank}

@@ -1,4 +1,4 @@
-use Rattle.std.proofs.Common.{◌≡◌, ℕ, ◌+◌, length, map, ◌∙◌, Ok, arith, rules}
+use Rattle.std.proofs.Common.{◌∙◌, arith}
 use Rattle.farm.proofs.FormLaws.{gauged_known, line_after, none_after}
 use Rattle.farm.proofs.form.Gauged.of_lines.Goals as goal
 
