@@ -13,7 +13,7 @@ use Rattle.farm.specs.Lines.{lines_of}
 use Rattle.farm.specs.Form.{form_of}
 use Rattle.farm.specs.Calc.{calc_text, calculated_form, text_of_result, refused_at, over_line, first_of, text_of_form}
 use Rattle.farm.specs.Texts.{port_fault}
-use Rattle.farm.specs.Runs.{Output, Puts, Refuses, LacksMemory, Delivers, AnswersBytes, CalcRun, given, text_of}
+use Rattle.farm.specs.Runs.{Output, Puts, Refuses, LacksMemory, AnswersBytes, CalcRun, given, text_of}
 use Rattle.farm.proofs.Saying.{says_last}
 
 -- what holds of any bytes holds of those that are told
@@ -55,20 +55,6 @@ answers_refusing bytes output status why refusal refuses =
       }
       | inr lacks ↦ answers_lacking bytes output status lacks
     ]
-
--- a text that was put
-pub answers_delivering : (bytes text : List ℕ) (output : Output) (status : ℕ) → calc_text bytes ≡ Ok text →
-    Delivers output text status → AnswersBytes bytes output status
-answers_delivering bytes text output status answer delivers = record {
-  statuses = elim delivers.statuses [ inl zero ↦ inl zero | inr six ↦ inr (inr (inl six)) ];
-  done = λ zero. (text, answer, delivers.done zero);
-  refused = λ four. elim delivers.statuses [ inl zero ↦ absurd (omega arith) | inr six ↦ absurd (omega arith) ];
-  refused_only = λ why is. absurd (not_both bytes text why answer is);
-  faulted = delivers.faulted;
-  fault_said = λ six. rw answer (delivers.fault_said six);
-  memory_said = λ seven. elim delivers.statuses [ inl zero ↦ absurd (omega arith) | inr six ↦ absurd (omega arith) ];
-  complete = λ other is quiet. elim delivers.statuses [ inl zero ↦ inl zero | inr six ↦ absurd (quiet (delivers.faulted six)) ];
-}
 
 over_is : (m n : ℕ) → m < n → nat_lt m n ≡ true
 over_is m n over = elim (leb_tells (suc m) n) [ inl t ↦ t.0 | inr t ↦ absurd (omega (arith, t.1)) ]

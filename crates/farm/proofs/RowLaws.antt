@@ -21,11 +21,6 @@ onto_more : (rows : List ℤ) (row : ℤ) (answer : Result (List ℤ) ℕ) → o
 onto_more rows row (Ok others) = ap Ok (sym (append_assoc rows (row ∷ []) others))
 onto_more rows row (Err line) = refl
 
--- no rows before them
-pub onto_none : (answer : Result (List ℤ) ℕ) → onto [] answer ≡ answer
-onto_none (Ok others) = refl
-onto_none (Err line) = refl
-
 -- the line that is read is a row
 more_by : (count n : ℕ) (before row : ℤ) (rows : List ℤ) (lines : List (List ℕ)) → row_of before (line_at lines n) ≡ Some row →
     onto rows (rows_from (suc count) n before lines) ≡ onto (rows ++ row ∷ []) (rows_from count (n + 1) row lines)

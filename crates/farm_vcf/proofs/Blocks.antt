@@ -194,10 +194,6 @@ in_whole_blocks width density rows within none found =
 int_eq_itself : (a : ℤ) → int_eq a a ≡ true
 int_eq_itself a = grind (arith, ints, nat_tests)
 
--- the first row is one of those with its density
-pub some_wide : (row : Listed) (rows : List Listed) → 0 < width_from row.density (row ∷ rows)
-some_wide row rows = rw (int_eq_itself row.density) (omega arith)
-
 pub no_rows : (rows : List Listed) → length rows < 1 → grid_of_rows rows ≡ Err (NotGrid 1)
 unfolding grid_of_rows
 no_rows [] none = refl

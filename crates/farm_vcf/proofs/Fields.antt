@@ -1,5 +1,5 @@
 -- Rows of records, one after the other.
-use Rattle.std.proofs.Common.{◌≡◌, ◌≢◌, ℕ, zero, suc, ◌-◌, ◌<◌, ◌≤◌, List, [], ◌∷◌, ◌++◌, length, map, take, drop, true, Option, Some, None, refl, append_assoc, arith}
+use Rattle.std.proofs.Common.{◌≡◌, ◌≢◌, ℕ, zero, suc, ◌-◌, ◌<◌, ◌≤◌, List, [], ◌∷◌, ◌++◌, length, map, take, drop, true, Some, None, refl, arith}
 use Rattle.std.proofs.lemmas.List.{take_all}
 use Rattle.std.specs.Prelude.{Result, Ok, Err}
 use Rattle.csv.specs.Records.{Row, field_at, fields_of}
@@ -7,7 +7,7 @@ use Rattle.farm_vcf.specs.declared.fault.VcfFault.{VcfFault}
 use Rattle.farm_vcf.specs.declared.fault.VcfFault.TheVariants.{Csv, BadField, TooMany, NotGrid, NoMemory}
 use Rattle.farm_vcf.specs.declared.rows.Listed.{Listed}
 use Rattle.farm_vcf.specs.Rows.{IsRefused}
-use Rattle.farm_vcf.specs.Records.{IsFaultOfRecords, equal_lengths, grid_of_few, grid_of_records, grid_under_header, records_of, rows_from, vcf_of, row_of, row_of_fields, with_row}
+use Rattle.farm_vcf.specs.Records.{IsFaultOfRecords, equal_lengths, grid_of_few, grid_of_records, grid_under_header, records_of, rows_from, vcf_of, row_of, row_of_fields}
 
 -- a record of three fields
 pub three_fields : (fields : List (List ℕ)) (a b c : List ℕ) → length fields ≡ 3 → Some a ≡ field_at fields 0 → Some b ≡ field_at fields 1 → Some c ≡ field_at fields 2 → row_of fields ≡ row_of_fields a b c
@@ -41,17 +41,6 @@ field_there (x ∷ fields) (suc i) within none = field_there fields i (omega ari
 abbrev pub prepended : List Listed → Result (List Listed) VcfFault → Result (List Listed) VcfFault
 prepended rows (Ok more) = Ok (rows ++ more)
 prepended rows (Err fault) = Err fault
-
-pub none_before : (rows : Result (List Listed) VcfFault) → prepended [] rows ≡ rows
-none_before (Ok rows) = refl
-none_before (Err fault) = refl
-
-pub one_before : (number : ℕ) (rows : List Listed) (row : Listed) (found : Option Listed) (more : Result (List Listed) VcfFault) → found ≡ Some row → prepended (rows ++ row ∷ []) more ≡ prepended rows (with_row number found more)
-one_before number rows row found (Ok more) is = rw (is, append_assoc rows (row ∷ []) more) refl
-one_before number rows row found (Err fault) is = rw is refl
-
-pub bad_before : (number : ℕ) (rows : List Listed) (found : Option Listed) (more : Result (List Listed) VcfFault) → found ≡ None → prepended rows (with_row number found more) ≡ Err (BadField number)
-bad_before number rows found more is = rw is refl
 
 -- a fault of the rows is one of their grid
 pub refused_rows : (fault : VcfFault) (rows : Result (List Listed) VcfFault) → IsRefused fault rows → IsRefused fault (grid_of_few rows)
