@@ -4,7 +4,7 @@ ghost use Rattle.farm.specs.Words.{command_of};
 /// A command of the program.
 #[derive(Clone, Copy, Debug, PartialEq, Eq)]
 pub enum Command {
-    /// The figures of one line of observed volumes.
+    /// The figures of observed volumes or of levels.
     Calc,
 }
 

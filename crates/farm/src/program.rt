@@ -25,8 +25,8 @@ const MEMORY: u8 = 7;
 
 /// Runs the command of the words behind the program's name, and answers the status that the program ends with.
 ///
-/// - `calc` reads a line of observed volumes and puts ten lines of figures. Its statuses are 0 where they were put whole,
-///   4 where the input was refused, 6 where a port failed and 7 where memory was wanting.
+/// - `calc` reads observed volumes, or levels with a capacity table and factors, and puts ten lines of figures. Its statuses
+///   are 0 where they were put whole, 4 where the input was refused, 6 where a port failed and 7 where memory was wanting.
 /// - Words that are no command make no call on the input, put the usage line, and end with 1.
 pub fn run<S: Source, K: Sink>(alloc: Global, words: &[String], input: &mut S, output: &mut K) -> u8
     ensures input_kept { command_of (map string_bytes words.now) ≡ None → input.new ≡ input.old }

@@ -47,7 +47,7 @@ fn usual_table_rounds_temperatures_to_five(rt: HostRuntime) {
 fn a_table_is_refused_at_its_first_bad_row(rt: HostRuntime) {
     let good = [(1, Mode::TowardZero); 12];
     let mut odd_step = good;
-    odd_step[3] = (3, Mode::HalfAway);
+    odd_step[0] = (3, Mode::HalfAway);
     odd_step[9] = (0, Mode::HalfAway);
     let mut wide_ties = good;
     wide_ties[6] = (5, Mode::HalfAway);
@@ -55,7 +55,7 @@ fn a_table_is_refused_at_its_first_bad_row(rt: HostRuntime) {
     assert_eq!(rt; kept, Ok((1, Mode::TowardZero)));
     assert_eq!(rt;
         RoundTable::new(odd_step).map(|table| table.row(MASS)),
-        Err(BadRow(4))
+        Err(BadRow(1))
     );
     assert_eq!(rt;
         RoundTable::new(wide_ties).map(|table| table.row(MASS)),

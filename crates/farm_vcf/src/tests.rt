@@ -74,6 +74,42 @@ fn the_nearest_listed_factor(rt: HostRuntime) -> Result<(), Fail> {
     Ok(())
 }
 
+// Densities 840.0, 850.0 and 860.0 at 15.00, 20.00 and 25.00 C, by lists and as a file.
+const GRID: &[u8] =
+    b"density,temperature,factor\n840.0,15.00,1.00000\n840.0,20.00,0.99570\n840.0,25.00,0.99140\n850.0,15.00,1.00000\n850.0,20.00,0.99580\n850.0,25.00,0.99150\n860.0,15.00,1.00000\n860.0,20.00,0.99590\n860.0,25.00,0.99160\n";
+
+#[test]
+fn a_file_and_its_lists_are_one_grid(rt: HostRuntime) -> Result<(), Fail> {
+    let alloc = rt.alloc();
+    let factors = [
+        100_000, 99_570, 99_140, 100_000, 99_580, 99_150, 100_000, 99_590, 99_160,
+    ];
+    let listed = Vcf::from_grid(
+        list_of_densities(alloc, &[8400, 8500, 8600])?,
+        list_of_temperatures(alloc, &[1500, 2000, 2500])?,
+        list_of_factors(alloc, &factors)?,
+    )?;
+    let read = Vcf::read(alloc, GRID)?;
+    assert_eq!(rt; read.densities(), listed.densities());
+    assert_eq!(rt; read.temperatures(), listed.temperatures());
+    assert_eq!(rt; read.factors(), listed.factors());
+    let cases = [
+        (8450, 2000, Mode::HalfAway, Some(99_580)),
+        (8450, 2000, Mode::TowardZero, Some(99_570)),
+        (8500, 1750, Mode::HalfAway, Some(99_580)),
+        (8500, 1499, Mode::HalfAway, None),
+    ];
+    for (density, liquid, mode, want) in cases {
+        let found = read.entry(Dens::new(density)?, Centi::new(liquid)?, mode);
+        assert_eq!(rt;
+            found.ok().map(|factor| factor.get()),
+            want,
+            "{density} at {liquid}"
+        );
+    }
+    Ok(())
+}
+
 #[test]
 fn of_opposite_temperatures_the_greater(rt: HostRuntime) -> Result<(), Fail> {
     let alloc = rt.alloc();
@@ -128,10 +164,11 @@ fn a_file_is_read(rt: HostRuntime) -> Result<(), Fail> {
 
 #[test]
 fn texts_that_are_no_file(rt: HostRuntime) -> Result<(), Fail> {
-    let cases: [(&[u8], VcfFault); 12] = [
+    let cases: [(&[u8], VcfFault); 13] = [
         (b"", VcfFault::NotGrid(1)),
         (b"d,t,f\n", VcfFault::NotGrid(1)),
         (b"d,t,f\na,b\n", VcfFault::Csv),
+        (b"d,t,f\n840.0,15.00,0.99100,x\n", VcfFault::Csv),
         (b"d,t,f\nx,15.00,0.99100\na,b\n", VcfFault::Csv),
         (b"d,t\n840.0,15.00\n", VcfFault::BadField(1)),
         (
