@@ -14,10 +14,10 @@ mod units;
 pub use farm_base::NoMemory;
 pub use fault::{OutOfRange, ReadFault};
 pub use quantity::{Quantity, Unit};
-pub use records::{ChainRule, Quantities, Reading, Sample, Shell};
+pub use records::{Amount, ChainRule, Quantities, Reading, Sample, Shell};
 pub use units::{
-    Centi, Dens, Fac5, HundredThousandth, HundredthDegree, Kg, Kilogram, Litre, Litres, Millimetre,
-    Mm, Permil5, TenthKilogramPerCubicMetre, ThousandthPercent,
+    Centi, Deci, Dens, Fac5, HundredThousandth, HundredthDegree, Kg, Kilogram, Litre, Litres,
+    Millimetre, Mm, Permil5, TenthKilogramPerCubicMetre, TenthMillimetre, ThousandthPercent,
 };
 
 #[cfg(test)]

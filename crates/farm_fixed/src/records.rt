@@ -59,6 +59,15 @@ pub struct Quantities {
     pub mass: Kg,
 }
 
+/// An amount of a product in a tank, or of what was moved.
+#[derive(Clone, Copy, Debug, PartialEq, Eq)]
+pub struct Amount {
+    /// Whole litres of net standard volume.
+    pub litres: i64,
+    /// Whole kilograms.
+    pub kg: i64,
+}
+
 /// Why a custody calculation is refused. The first of the causes below, in their order, is told.
 #[derive(Clone, Copy, Debug, PartialEq, Eq, Error)]
 pub enum ChainRule {

@@ -99,6 +99,7 @@ fn each_unit_reads_what_it_writes(rt: HostRuntime) -> Result<(), NoMemory> {
     let alloc = rt.alloc();
     assert!(rt; has_text::<Litre>(alloc, -100_857, "-100857")?);
     assert!(rt; has_text::<Millimetre>(alloc, 12_345, "12345")?);
+    assert!(rt; has_text::<TenthMillimetre>(alloc, 355_000, "35500.0")?);
     assert!(rt; has_text::<Kilogram>(alloc, 84_310, "84310")?);
     assert!(rt; has_text::<HundredthDegree>(alloc, 2_340, "23.40")?);
     assert!(rt; has_text::<TenthKilogramPerCubicMetre>(alloc, 8_500, "850.0")?);
@@ -111,6 +112,8 @@ fn each_unit_reads_what_it_writes(rt: HostRuntime) -> Result<(), NoMemory> {
 fn a_quantity_outside_its_range_is_refused(rt: HostRuntime) {
     assert_eq!(rt; Centi::new(30_001), Err(OutOfRange));
     assert_eq!(rt; Mm::new(50_001), Err(OutOfRange));
+    assert_eq!(rt; Deci::new(5_000_001), Err(OutOfRange));
+    assert_eq!(rt; Deci::read(b"-0.1"), Err(ReadFault::OutOfRange));
     assert_eq!(rt; Dens::new(3_999), Err(OutOfRange));
     assert_eq!(rt; Fac5::new(150_001), Err(OutOfRange));
     assert_eq!(rt; Permil5::new(-1), Err(OutOfRange));
@@ -121,6 +124,7 @@ fn a_quantity_outside_its_range_is_refused(rt: HostRuntime) {
 #[test]
 fn quantities_and_records_go_to_other_threads(rt: HostRuntime) -> Result<(), ReadFault> {
     let level = shared(Mm::read(b"12345")?);
+    let girth = shared(Deci::read(b"35500.0")?);
     let temperature = shared(Centi::read(b"15.00")?);
     let density = shared(Dens::read(b"850.0")?);
     let factor = shared(Fac5::read(b"0.99150")?);
@@ -152,9 +156,15 @@ fn quantities_and_records_go_to_other_threads(rt: HostRuntime) -> Result<(), Rea
         mass,
     });
     assert_eq!(rt; reading.level.get(), 12_345);
+    assert_eq!(rt; girth.get(), 355_000);
     assert_eq!(rt; shell.reference.get(), 1_500);
     assert_eq!(rt; sample.sw.get(), 250);
     assert_eq!(rt; quantities.mass.get(), 71_663);
+    let amount = shared(Amount {
+        litres: -1,
+        kg: 71_663,
+    });
+    assert_eq!(rt; amount.kg, 71_663);
     assert_eq!(rt; shared(ChainRule::NoEntry), ChainRule::NoEntry);
     assert_eq!(rt; shared(ReadFault::Empty), ReadFault::Empty);
     assert_eq!(rt; shared(OutOfRange), OutOfRange);

@@ -26,6 +26,29 @@ impl Unit for Millimetre {
     const PLACES: u8 = 0;
 }
 
+/// The unit of `Deci`: 0.1 mm.
+#[derive(Clone, Copy, Debug, PartialEq, Eq)]
+pub struct TenthMillimetre;
+
+/// A circumference, a deduction from one or a thickness in 0.1 mm, from 0.0 to 500,000.0 mm.
+pub type Deci = Quantity<TenthMillimetre>;
+
+impl Unit for TenthMillimetre {
+    ghost LEAST = { pos 0 };
+
+    ghost MOST = { pos 5000000 };
+
+    ghost PLACES = { 1 };
+
+    ghost small = { record { low = lit≤ tt; high = lit≤ tt; decimals = lit≤ tt } };
+
+    const LEAST: i64 = 0;
+
+    const MOST: i64 = 5_000_000;
+
+    const PLACES: u8 = 1;
+}
+
 /// The unit of `Centi`: 0.01 C.
 #[derive(Clone, Copy, Debug, PartialEq, Eq)]
 pub struct HundredthDegree;
