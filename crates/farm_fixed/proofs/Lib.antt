@@ -4,3 +4,4 @@ pub mod ReadingLaws
 pub mod PrintingLaws
 pub mod RoundTrip
 pub mod Values
+mod WholeLaws

@@ -34,7 +34,7 @@ not_point d h = grind (arith, nat_tests)
 digit_test : (d : ℕ) → IsAsciiDigit d → is_ascii_digit d ≡ true
 digit_test d h = grind (arith, nat_tests)
 
-from_test : (d : ℕ) → is_ascii_digit d ≡ true → IsAsciiDigit d
+pub from_test : (d : ℕ) → is_ascii_digit d ≡ true → IsAsciiDigit d
 from_test d h = grind (arith, nat_tests)
 
 same_byte : (b c : ℕ) → (b == c) ≡ true → b ≡ c

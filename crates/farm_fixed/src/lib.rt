@@ -10,6 +10,7 @@ mod printing;
 mod quantity;
 mod records;
 mod units;
+mod whole;
 
 pub use farm_base::NoMemory;
 pub use fault::{OutOfRange, ReadFault};
@@ -19,6 +20,7 @@ pub use units::{
     Centi, Deci, Dens, Fac5, HundredThousandth, HundredthDegree, Kg, Kilogram, Litre, Litres,
     Millimetre, Mm, Permil5, TenthKilogramPerCubicMetre, TenthMillimetre, ThousandthPercent,
 };
+pub use whole::whole_number;
 
 #[cfg(test)]
 mod tests;

@@ -65,6 +65,27 @@ fn number_texts(rt: HostRuntime) {
 }
 
 #[test]
+fn a_whole_number_has_up_to_18_digits(rt: HostRuntime) {
+    let cases = [
+        ("0", Some(0)),
+        ("-0", Some(0)),
+        ("010", Some(10)),
+        ("-999999999999999999", Some(-999_999_999_999_999_999)),
+        ("999999999999999999", Some(999_999_999_999_999_999)),
+        ("1000000000000000000", None),
+        ("", None),
+        ("-", None),
+        ("--1", None),
+        ("+1", None),
+        ("1.0", None),
+        (" 1", None),
+    ];
+    for (text, want) in cases {
+        assert_eq!(rt; whole_number(text.as_bytes()), want, "{text}");
+    }
+}
+
+#[test]
 fn a_temperature_has_at_most_two_decimals(rt: HostRuntime) {
     let cases = [
         ("-1.5", Ok(-150)),
