@@ -1,3 +1,4 @@
 pub mod Ports
 pub mod Pieces
 pub mod Plans
+pub mod Folders

@@ -1,11 +1,14 @@
-//! The ports of the custody desk to the outside: sources of bytes and sinks for them, in memory and real.
+//! The ports of the custody desk to the outside: sources of bytes, sinks for them and folders of files, in memory and real.
 //!
 //! A port counts its faults in a number that never falls, and a call answers `Failed` only where the count rose in that call.
-//! What a port in memory was asked, took or holds is told to contracts; a real one tells nothing.
+//! What a port in memory was asked, took or holds is told to contracts, and so are a folder's files; a real one tells nothing.
 #![tactic(auto)]
 
 mod copying;
+mod dir_folder;
 mod fault;
+mod files;
+mod folder;
 mod gather;
 mod plan;
 mod ports;
@@ -13,7 +16,10 @@ mod real;
 mod script;
 
 pub use copying::{put_all, read_up_to};
+pub use dir_folder::DirFolder;
 pub use fault::PortFault;
+pub use files::Files;
+pub use folder::{Folder, FolderFault};
 pub use gather::Gather;
 pub use ports::{Failed, Port, Sink, Source};
 pub use real::{StdSink, StdSource};

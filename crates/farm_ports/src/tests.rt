@@ -1,12 +1,13 @@
-ghost use Rattle.std.specs.Prelude.{ℕ, List, OnOk};
-ghost use Rattle.farm_base.specs.Told.{Adds, Takes};
+ghost use Rattle.std.specs.Prelude.{ℕ, List, IfOk, OnOk};
+ghost use Rattle.farm_base.specs.Told.{Adds, Takes, WhereTold};
+ghost use Rattle.farm_ports.specs.Folders.{ReadsFile};
 
 use super::*;
 use farm_base::NoMemory;
-use std::alloc::Global;
-use std::io;
+use std::alloc::{AllocError, Global};
 use std::io::Read;
 use std::test::Fail;
+use std::{fs, io};
 
 fn shared<T: Send + Sync>(value: T) -> T {
     value
@@ -132,4 +133,78 @@ fn a_writer_is_a_sink_until_it_is_full(rt: HostRuntime) {
     assert_eq!(rt; sink.put(b"d"), Err(Failed));
     assert_eq!(rt; sink.faults(), 1);
     assert_eq!(rt; room, *b"abc");
+}
+
+// The first four bytes of a file.
+fn first_four<F: Folder>(folder: &mut F, alloc: Global, name: &str) -> Result<Vec<u8>, FolderFault>
+    ensures told { IfOk result (λ bytes. WhereTold (F.files folder.new) (ReadsFile name.now 4 bytes.items)) }
+{
+    folder.read(alloc, name, 4)
+}
+
+fn file(alloc: Global, name: &str, bytes: &[u8]) -> Result<(String, Vec<u8>), AllocError> {
+    Ok((String::from_str(alloc, name)?, bytes.to_vec(alloc)?))
+}
+
+// A long file, two files of one name, and a file without a byte; the second read fails.
+fn four_files(alloc: Global) -> Result<Files, NoMemory> {
+    let files = vec![in alloc;
+        file(alloc, "long", b"abcdef")?,
+        file(alloc, "twice", b"one")?,
+        file(alloc, "twice", b"two")?,
+        file(alloc, "none", b"")?,
+    ]?;
+    Files::new(alloc, files, vec![in alloc; 2]?)
+}
+
+#[test]
+fn a_folder_in_memory_is_read_by_name(rt: HostRuntime) -> Result<(), Fail> {
+    let alloc = rt.alloc();
+    let mut files = shared(four_files(alloc)?);
+    for name in ["lone", "long"] {
+        let read = first_four(&mut files, alloc, name);
+        assert_eq!(rt; read, Err(PortFault::Failed), "{name}");
+    }
+    for (name, want) in [("long", "abcd"), ("twice", "one"), ("none", "")] {
+        let read = first_four(&mut files, alloc, name)?;
+        assert_eq!(rt; read.as_slice(), want.as_bytes(), "{name}");
+    }
+    assert_eq!(rt; files.faults(), 2);
+    Ok(())
+}
+
+#[test]
+fn a_folder_of_the_system_is_read_by_name(rt: HostRuntime) -> Result<(), Fail> {
+    let alloc = rt.alloc();
+    fs::create_dir_all(&rt, "site/tables")?;
+    fs::write(&rt, "site/tables/long", "abcdef")?;
+    fs::write(&rt, "site/short", "abc")?;
+    let mut folder = shared(DirFolder::new(&rt, String::from_str(alloc, "site")?));
+    for (name, want) in [("tables/long", "abcd"), ("short", "abc")] {
+        let read = first_four(&mut folder, alloc, name)?;
+        assert_eq!(rt; read.as_slice(), want.as_bytes(), "{name}");
+    }
+    assert_eq!(rt; folder.faults(), 0);
+    // A name that no file has, a directory, and a name that the system refuses.
+    for (count, name) in [(1, "long"), (2, "tables"), (3, "a\0b")] {
+        let read = first_four(&mut folder, alloc, name);
+        assert_eq!(rt; read, Err(PortFault::Failed), "{name:?}");
+        assert_eq!(rt; folder.faults(), count);
+    }
+    Ok(())
+}
+
+// More than four megabytes, in a file whose length is no multiple of what a read takes at once.
+#[test]
+fn a_large_file_is_read_whole(rt: HostRuntime) -> Result<(), Fail> {
+    let alloc = rt.alloc();
+    let mut written = Vec::new(alloc);
+    for place in 0..4_200_001u32 {
+        written.push((place % 251) as u8)?;
+    }
+    fs::write(&rt, "large", written.as_slice())?;
+    let mut folder = DirFolder::new(&rt, String::from_str(alloc, ".")?);
+    let read = folder.read(alloc, "large", usize::MAX)?;
+    assert!(rt; read.as_slice() == written.as_slice());
+    Ok(())
 }
