@@ -42,11 +42,11 @@ block_rises : (rows : List Listed) → unrisen rows ≡ None → Rises (temperat
 block_rises [] none = record { steps = λ index within. absurd (omega arith) }
 block_rises (row ∷ rows) none = rises_of row.temperature (temperatures_of rows) (temperatures_rise 2 row.temperature rows none)
 
-and_first : (a b : Bool) → (a && b) ≡ true → a ≡ true
+pub and_first : (a b : Bool) → (a && b) ≡ true → a ≡ true
 and_first true b both = refl
 and_first false b both = both
 
-and_second : (a b : Bool) → (a && b) ≡ true → b ≡ true
+pub and_second : (a b : Bool) → (a && b) ≡ true → b ≡ true
 and_second true b both = both
 and_second false b both = cc
 
@@ -61,16 +61,16 @@ goes_on temperatures number before column row rows none = by (continues (listed_
     by true e found = (e, rw e at found)
     by false e found = let bad : Some number ≡ None = (rw e at found) in cc
 
-begins : (temperature before : ℤ) (row : Listed) → continues temperature before 0 row ≡ true → before <ℤ row.density
+pub begins : (temperature before : ℤ) (row : Listed) → continues temperature before 0 row ≡ true → before <ℤ row.density
 begins temperature before row on = let above : int_lt before row.density ≡ true = and_second (int_eq row.temperature temperature) (int_lt before row.density) on in grind (arith, ints)
 
-int_eq_same : (a b : ℤ) → int_eq a b ≡ true → a ≡ b
+pub int_eq_same : (a b : ℤ) → int_eq a b ≡ true → a ≡ b
 int_eq_same a b same = grind (arith, ints, nat_tests)
 
-not_zero : (column : ℕ) → (suc column == 0) ≡ false
+pub not_zero : (column : ℕ) → (suc column == 0) ≡ false
 not_zero column = grind (arith, nat_tests)
 
-stays : (temperature before : ℤ) (column : ℕ) (row : Listed) → continues temperature before (suc column) row ≡ true → row.density ≡ before
+pub stays : (temperature before : ℤ) (column : ℕ) (row : Listed) → continues temperature before (suc column) row ≡ true → row.density ≡ before
 stays temperature before column row on =
     let within = not_zero column in
     int_eq_same row.density before (and_second (int_eq row.temperature temperature) (int_eq row.density before) (rw within at on))
@@ -89,11 +89,11 @@ densities_rise temperatures number before (suc column) (row ∷ rows) none =
     rw inside (subst P same (densities_rise temperatures (number + 1) row.density (next_column (length temperatures) (suc column)) rows on.1))
 
 -- 1 within a block, and 0 between blocks
-abbrev begun : ℕ → ℕ
+abbrev pub begun : ℕ → ℕ
 begun zero = 0
 begun (suc column) = 1
 
-begun_in : (width column next : ℕ) → column < width → next ≡ next_column width column →
+pub begun_in : (width column next : ℕ) → column < width → next ≡ next_column width column →
     ((next ≡ 0) × (column + 1 ≡ width)) ⊎ ((next ≡ column + 1) × (column + 1 < width))
 begun_in width column next within is = by (column + 1 == width) refl
   where
@@ -101,7 +101,7 @@ begun_in width column next within is = by (column + 1 == width) refl
     by true e = inl (rw e at is, grind (arith, nat_tests))
     by false e = inr (rw e at is, grind (arith, nat_tests))
 
-begun_next : (column : ℕ) → begun (column + 1) ≡ 1
+pub begun_next : (column : ℕ) → begun (column + 1) ≡ 1
 begun_next column = let P : ℕ → Type 0 = λ m. begun m ≡ 1 in let e : suc column ≡ column + 1 = omega arith in subst P e refl
 
 ends : (column number : ℕ) → (if column == 0 then None else Some number) ≡ None → column ≡ 0
@@ -146,11 +146,21 @@ whole_blocks temperatures number before (suc column) (row ∷ rows) within none 
           rw inside (omega (arith, rest_is, t.0, t.1))
     ]
 
-width_of_block : (width : ℕ) (rows : List Listed) → width ≤ length rows → length (temperatures_of (take width rows)) ≡ width
+pub width_of_block : (width : ℕ) (rows : List Listed) → width ≤ length rows → length (temperatures_of (take width rows)) ≡ width
 width_of_block width rows within = simp (length-map, length-take) (omega arith)
 
 count_all : (rows width blocks later : ℕ) → later ≡ rows - width → width ≤ rows → later + 0 ≡ (blocks + 0) * width → rows ≡ suc blocks * width
 count_all rows width blocks later cut within each = omega arith
+
+-- there is a row for each density and temperature
+pub row_for_each : (width : ℕ) (density : ℤ) (rows : List Listed) → 0 < width → width ≤ length rows →
+    discontinued_from (temperatures_of (take width rows)) (length (temperatures_of (take width rows)) + 1) density 0 (drop width rows) ≡ None →
+    length rows ≡ suc (length (densities_from width 0 (drop width rows))) * length (temperatures_of (take width rows))
+row_for_each width density rows some within whole =
+    let wide : length (temperatures_of (take width rows)) ≡ width = width_of_block width rows within in
+    let count = whole_blocks (temperatures_of (take width rows)) (length (temperatures_of (take width rows)) + 1) density 0 (drop width rows) (omega arith) whole in
+    let each : length (drop width rows) + 0 ≡ (length (densities_from width 0 (drop width rows)) + 0) * width = rw wide at count in
+    count_all (length rows) width (length (densities_from width 0 (drop width rows))) (length (drop width rows)) (simp length-drop) within each ∙ ap (λ m. suc (length (densities_from width 0 (drop width rows))) * m) (sym wide)
 
 -- rows in whole blocks are a grid
 pub blocks_are_grid : (width : ℕ) (density : ℤ) (rows : List Listed) → 0 < width → width ≤ length rows → length rows ≤ 100000 →
@@ -159,13 +169,11 @@ pub blocks_are_grid : (width : ℕ) (density : ℤ) (rows : List Listed) → 0 <
 blocks_are_grid width density rows some within few none whole =
     let wide : length (temperatures_of (take width rows)) ≡ width = width_of_block width rows within in
     let up = densities_rise (temperatures_of (take width rows)) (length (temperatures_of (take width rows)) + 1) density 0 (drop width rows) whole in
-    let count = whole_blocks (temperatures_of (take width rows)) (length (temperatures_of (take width rows)) + 1) density 0 (drop width rows) (omega arith) whole in
-    let each : length (drop width rows) + 0 ≡ (length (densities_from width 0 (drop width rows)) + 0) * width = rw wide at count in
     let all : length (factors_of rows) ≡ length rows = simp length-map in
     record {
       densities_rise = rises_of density _ (rw wide at up);
       temperatures_rise = block_rises (take width rows) none;
-      one_for_each = all ∙ count_all (length rows) width (length (densities_from width 0 (drop width rows))) (length (drop width rows)) (simp length-drop) within each ∙ ap (λ m. suc (length (densities_from width 0 (drop width rows))) * m) (sym wide);
+      one_for_each = all ∙ row_for_each width density rows some within whole;
       some = omega (arith, all);
       not_too_many = omega (arith, all);
     }
@@ -191,7 +199,7 @@ in_whole_blocks width density rows within none found =
     let P : ℕ → Type 0 = λ m. discontinued_from (temperatures_of (take width rows)) (m + 1) density 0 (drop width rows) ≡ None in
     rw (none, subst P wide found) refl
 
-int_eq_itself : (a : ℤ) → int_eq a a ≡ true
+pub int_eq_itself : (a : ℤ) → int_eq a a ≡ true
 int_eq_itself a = grind (arith, ints, nat_tests)
 
 pub no_rows : (rows : List Listed) → length rows < 1 → grid_of_rows rows ≡ Err (NotGrid 1)

@@ -36,7 +36,7 @@ entry_means mode grid density liquid factor row column rows columns high warm ro
   listed = listed;
 }
 
-place_within : (rows columns row column factors : ℕ) → factors ≡ rows * columns → row < rows → column < columns → row * columns + column < factors
+pub place_within : (rows columns row column factors : ℕ) → factors ≡ rows * columns → row < rows → column < columns → row * columns + column < factors
 place_within rows columns row column factors full low left =
     let more : (row + 1) * columns ≤ rows * columns = mul-le-mul_right columns (omega arith) in
     omega arith

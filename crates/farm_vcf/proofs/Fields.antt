@@ -1,13 +1,14 @@
 -- Rows of records, one after the other.
-use Rattle.std.proofs.Common.{◌≡◌, ◌≢◌, ℕ, zero, suc, ◌-◌, ◌<◌, ◌≤◌, List, [], ◌∷◌, ◌++◌, length, map, take, drop, true, Some, None, refl, arith}
+use Rattle.std.proofs.Common.{◌≡◌, ◌≢◌, ℕ, zero, suc, ◌-◌, ◌<◌, ◌≤◌, List, [], ◌∷◌, ◌++◌, length, map, take, drop, true, false, Some, None, refl, arith}
 use Rattle.std.proofs.lemmas.List.{take_all}
 use Rattle.std.specs.Prelude.{Result, Ok, Err}
 use Rattle.csv.specs.Records.{Row, field_at, fields_of}
 use Rattle.farm_vcf.specs.declared.fault.VcfFault.{VcfFault}
 use Rattle.farm_vcf.specs.declared.fault.VcfFault.TheVariants.{Csv, BadField, TooMany, NotGrid, NoMemory}
 use Rattle.farm_vcf.specs.declared.rows.Listed.{Listed}
-use Rattle.farm_vcf.specs.Rows.{IsRefused}
-use Rattle.farm_vcf.specs.Records.{IsFaultOfRecords, equal_lengths, grid_of_few, grid_of_records, grid_under_header, records_of, rows_from, vcf_of, row_of, row_of_fields}
+use Rattle.farm_vcf.specs.Rows.{IsRefused, grid_of_rows}
+use Rattle.farm_csv.specs.Records.{equal_lengths, records_of}
+use Rattle.farm_vcf.specs.Records.{grid_of_few, grid_of_records, grid_under_header, rows_from, vcf_of, row_of, row_of_fields}
 
 -- a record of three fields
 pub three_fields : (fields : List (List ℕ)) (a b c : List ℕ) → length fields ≡ 3 → Some a ≡ field_at fields 0 → Some b ≡ field_at fields 1 → Some c ≡ field_at fields 2 → row_of fields ≡ row_of_fields a b c
@@ -50,22 +51,18 @@ refused_rows TooMany rows is = rw is refl
 refused_rows (NotGrid number) rows is = rw is refl
 refused_rows NoMemory rows is = tt
 
--- a fault of the records is one of the text
-pub refused_records : (text : List ℕ) (fault : VcfFault) → IsFaultOfRecords text fault → IsRefused fault (vcf_of text)
+-- records of different lengths
+pub uneven_records : (text : List ℕ) → equal_lengths (records_of text) ≡ false → vcf_of text ≡ Err Csv
 unfolding grid_of_records
-refused_records text Csv is = rw is refl
-refused_records text (BadField number) is = absurd is
-refused_records text TooMany is = absurd is
-refused_records text (NotGrid number) is = absurd is
-refused_records text NoMemory is = tt
+uneven_records text uneven = rw uneven refl
 
 -- records of one length
-pub equal_records : (text : List ℕ) (rows : List (List (List ℕ))) → records_of text ≡ rows → equal_lengths rows ≡ true → vcf_of text ≡ grid_under_header rows
+pub even_records : (text : List ℕ) → equal_lengths (records_of text) ≡ true → vcf_of text ≡ grid_under_header (records_of text)
 unfolding grid_of_records
-equal_records text rows is equal = rw (is, equal) refl
+even_records text even = rw even refl
 
 pub no_header : (records : List Row) → length records < 1 → grid_under_header (map fields_of records) ≡ Err (NotGrid 1)
-unfolding grid_under_header
+unfolding grid_under_header grid_of_rows
 no_header [] none = refl
 no_header (header ∷ records) none = absurd (omega arith)
 

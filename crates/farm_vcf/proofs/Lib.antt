@@ -2,6 +2,7 @@ pub mod Taking
 pub mod Searching
 pub mod Entries
 pub mod Blocks
-pub mod Blanks
+pub mod Breaks
+pub mod ReadBack
+pub mod Meanings
 pub mod Fields
-pub mod AllRecords

@@ -1,4 +1,5 @@
 pub mod Closest
 pub mod Grid
 pub mod Rows
+pub mod Blocks
 pub mod Records

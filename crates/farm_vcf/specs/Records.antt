@@ -1,34 +1,15 @@
 -- The records of a factor file: a header that isn't looked at, and then a density, a temperature and a factor each.
-use Rattle.std.specs.Prelude.{◌≡◌, ℕ, ◌+◌, Bool, true, false, ◌&&◌, ◌||◌, ◌==◌, nat_lt, if◌then◌else◌, List, [], ◌∷◌, take, length, Option, Some, None, Result, Ok, Err, ℤ, pos, negsuc}
+use Rattle.std.specs.Prelude.{◌≡◌, ℕ, ◌+◌, nat_lt, if◌then◌else◌, List, [], ◌∷◌, length, Option, Some, None, Result, Ok, Err, ℤ, pos, negsuc}
 use Rattle.farm_fixed.specs.declared.fault.ReadFault.{ReadFault}
 use Rattle.farm_fixed.specs.Reading.{quantity_of}
-use Rattle.csv.specs.Reading.{default_config, records, strip_bom}
-use Rattle.csv.specs.declared.error.ErrorKind.{ErrorKind}
-use Rattle.csv.specs.declared.error.ErrorKind.TheVariants as kind
+use Rattle.farm_csv.specs.Blanks.{without_blanks}
+use Rattle.farm_csv.specs.Records.{equal_lengths, records_of}
 use Rattle.farm_vcf.specs.declared.fault.VcfFault.{VcfFault}
-use Rattle.farm_vcf.specs.declared.fault.VcfFault.TheVariants.{Csv, BadField, TooMany, NotGrid, NoMemory}
+use Rattle.farm_vcf.specs.declared.fault.VcfFault.TheVariants.{Csv, BadField, TooMany, NotGrid}
 use Rattle.farm_vcf.specs.declared.rows.Listed.{Listed}
 use Rattle.farm_vcf.specs.Grid.{Grid}
+use Rattle.farm_vcf.specs.Blocks.{IsFirstBreak, IsGridOf}
 use Rattle.farm_vcf.specs.Rows.{grid_of_rows}
-
--- a blank is a space or a tab
-abbrev pub is_blank : ℕ → Bool
-is_blank byte = byte == 32 || byte == 9
-
--- a text with no blank at its start
-unfoldable pub drop_blanks : List ℕ → List ℕ
-drop_blanks [] = []
-drop_blanks (byte ∷ rest) = if is_blank byte then drop_blanks rest else byte ∷ rest
-
--- how many bytes of a text stand before the blanks at its end
-unfoldable pub length_before_blanks : List ℕ → ℕ
-length_before_blanks [] = 0
-length_before_blanks (byte ∷ rest) =
-    if length_before_blanks rest == 0 && is_blank byte then 0 else length_before_blanks rest + 1
-
--- a text with no blank at either end
-abbrev pub without_blanks : List ℕ → List ℕ
-without_blanks text = take (length_before_blanks (drop_blanks text)) (drop_blanks text)
 
 -- a row of these, where each is read
 abbrev pub row_from : Result ℤ ReadFault → Result ℤ ReadFault → Result ℤ ReadFault → Option Listed
@@ -69,46 +50,36 @@ abbrev pub grid_of_few : Result (List Listed) VcfFault → Result Grid VcfFault
 grid_of_few (Err fault) = Err fault
 grid_of_few (Ok rows) = if nat_lt 100000 (length rows) then Err TooMany else grid_of_rows rows
 
--- the grid of the records after the header
+-- the rows of the records below the header, none where there is no header
+abbrev pub rows_below_header : List (List (List ℕ)) → Result (List Listed) VcfFault
+rows_below_header [] = Ok []
+rows_below_header (header ∷ records) = rows_from 1 records
+
+-- the grid of the records below the header
 unfoldable pub grid_under_header : List (List (List ℕ)) → Result Grid VcfFault
-grid_under_header [] = Err (NotGrid 1)
-grid_under_header (header ∷ records) = grid_of_few (rows_from 1 records)
-
--- each record has so many fields
-abbrev pub all_of_length : ℕ → List (List (List ℕ)) → Bool
-all_of_length size [] = true
-all_of_length size (fields ∷ records) = length fields == size && all_of_length size records
-
--- each record has as many fields as the first
-unfoldable pub equal_lengths : List (List (List ℕ)) → Bool
-equal_lengths [] = true
-equal_lengths (fields ∷ records) = all_of_length (length fields) records
+grid_under_header records = grid_of_few (rows_below_header records)
 
 -- the grid of the records of a file
 unfoldable pub grid_of_records : List (List (List ℕ)) → Result Grid VcfFault
 grid_of_records records = if equal_lengths records then grid_under_header records else Err Csv
 
--- the records of a text, by the reader's defaults
-abbrev pub records_of : List ℕ → List (List (List ℕ))
-records_of text = records default_config (strip_bom text)
-
 -- the grid of a text, or why it is none
 abbrev pub vcf_of : List ℕ → Result Grid VcfFault
 vcf_of text = grid_of_records (records_of text)
 
--- what an error of the reader is told as
-abbrev pub fault_of : ErrorKind → VcfFault
-fault_of (kind.UnequalLengths place expected len) = Csv
-fault_of (kind.Io e) = NoMemory
-fault_of (kind.Utf8 place err) = NoMemory
-fault_of kind.OutOfMemory = NoMemory
-fault_of (kind.Serialize text) = NoMemory
-fault_of (kind.Deserialize place err) = NoMemory
+-- a grid is that of a text: of the rows below its header
+pub record IsGridOfText (text : List ℕ) (grid : Grid) : Type 0 where
+  pub rows : List Listed
+  pub read : rows_below_header (records_of text) ≡ Ok rows
+  pub grid_of : IsGridOf rows grid
 
--- a fault of reading the records is right: some record has another length than the first, or there is no memory
-abbrev pub IsFaultOfRecords : List ℕ → VcfFault → Type 0
-IsFaultOfRecords text Csv = equal_lengths (records_of text) ≡ false
-IsFaultOfRecords text NoMemory = Unit {0}
-IsFaultOfRecords text (BadField number) = ⊥
-IsFaultOfRecords text TooMany = ⊥
-IsFaultOfRecords text (NotGrid number) = ⊥
+-- a number is that of the first row below a text's header at which the blocks break
+pub record IsFirstBreakOfText (text : List ℕ) (number : ℕ) : Type 0 where
+  pub rows : List Listed
+  pub read : rows_below_header (records_of text) ≡ Ok rows
+  pub breaks : IsFirstBreak rows number
+
+-- where a text is told to be no grid, its rows break first there; of the other faults this says nothing
+abbrev pub IsFaultOfText : List ℕ → VcfFault → Type 0
+IsFaultOfText text (NotGrid number) = IsFirstBreakOfText text number
+IsFaultOfText text fault = Unit {0}

@@ -1,6 +1,6 @@
 ghost use Rattle.std.specs.Prelude.{◌≡◌, ◌≤◌, ◌*◌, ◌&&◌, ◌==◌, nat_le, MatchResult, None, Ok, Some, IsTrue, length};
 ghost use Rattle.std.specs.Result.{OkIff};
-ghost use Rattle.farm_vcf.specs.Records.{vcf_of};
+ghost use Rattle.farm_vcf.specs.Records.{IsFaultOfText, IsGridOfText, vcf_of};
 ghost use Rattle.farm_vcf.specs.Rows.{IsRefused};
 ghost use Rattle.farm_vcf.specs.Grid.{IsEntry, IsGrid, IsInGrid, grid_factor, grid_from, is_full};
 
@@ -56,7 +56,8 @@ impl Vcf {
     ///
     /// The text is CSV by the csv reader's defaults. Blanks at the ends of a field are dropped.
     pub fn read(alloc: Global, text: &[u8]) -> Result<Vcf, VcfFault>
-        ensures { MatchResult result (λ grid. vcf_of text.now ≡ Ok grid) (λ fault. IsRefused fault (vcf_of text.now)) }
+        ensures value { MatchResult result (λ grid. vcf_of text.now ≡ Ok grid) (λ fault. IsRefused fault (vcf_of text.now)) }
+        ensures meaning { MatchResult result (λ grid. IsGridOfText text.now grid) (λ fault. IsFaultOfText text.now fault) }
     {
         vcf_of(alloc, text)
     }

@@ -1,14 +1,14 @@
 //! Reading a factor file.
 
-ghost use Rattle.std.specs.Prelude.{◌≡◌, ◌≤◌, true, length, map, take, drop, List, ℕ, MatchResult, Ok, if◌then◌else◌};
-ghost use Rattle.csv.specs.Reading.{error_kind};
+ghost use Rattle.std.specs.Prelude.{◌≡◌, map, MatchResult, Ok};
 ghost use Rattle.csv.specs.Records.{fields_of};
 ghost use Rattle.farm_vcf.specs.Rows.{IsRefused};
-ghost use Rattle.farm_vcf.specs.Records.{IsFaultOfRecords, drop_blanks, equal_lengths, fault_of, grid_of_few, grid_under_header, is_blank, length_before_blanks, records_of, row_of, row_of_fields, rows_from, vcf_of, without_blanks};
+ghost use Rattle.farm_vcf.specs.Records.{grid_of_few, grid_under_header, row_of, row_of_fields, rows_from, vcf_of};
 
 use crate::rows::{Listed, grid_of_rows};
 use crate::{Vcf, VcfFault};
-use csv::{ByteRecord, Error, ErrorKind, ReaderBuilder};
+use csv::ByteRecord;
+use farm_csv::{CsvFault, records_of, without_blanks};
 use farm_fixed::{Centi, Dens, Fac5};
 use std::alloc::Global;
 
@@ -21,35 +21,8 @@ pub fn vcf_of(alloc: Global, text: &[u8]) -> Result<Vcf, VcfFault>
 {
     match records_of(alloc, text) {
         Ok(records) => grid_under_header(alloc, records.as_slice()),
-        Err(fault) => Err(fault),
-    }
-}
-
-/// Each record of a text, where all have one length.
-fn records_of(alloc: Global, text: &[u8]) -> Result<Vec<ByteRecord>, VcfFault>
-    ensures all { MatchResult result (λ list. records_of text.now ≡ map fields_of list.items) (λ fault. IsFaultOfRecords text.now fault) }
-    ensures lengths { MatchResult result (λ list. equal_lengths (map fields_of list.items) ≡ true) (λ _. Unit {0}) }
-{
-    let reader = ReaderBuilder::new()
-        .has_headers(false)
-        .from_reader(alloc, text);
-    let mut records = Vec::new(alloc);
-    for read in reader.into_byte_records() {
-        match read {
-            Ok(fields) => records.push(fields)?,
-            Err(error) => return Err(fault_of(&error)),
-        }
-    }
-    Ok(records)
-}
-
-/// What an error of the reader is told as. Any but unequal lengths comes of a reader over bytes only for want of memory.
-fn fault_of(error: &Error) -> VcfFault
-    ensures { result ≡ fault_of (error_kind error.now) }
-{
-    match error.kind() {
-        ErrorKind::UnequalLengths { .. } => VcfFault::Csv,
-        _ => VcfFault::NoMemory,
+        Err(CsvFault::Uneven) => Err(VcfFault::Csv),
+        Err(CsvFault::NoMemory) => Err(VcfFault::NoMemory),
     }
 }
 
@@ -128,46 +101,4 @@ pub fn row_of_fields(density: &[u8], temperature: &[u8], factor: &[u8]) -> Optio
         temperature,
         factor,
     })
-}
-
-/// A text with no blank at either end.
-fn without_blanks(text: &[u8]) -> &[u8]
-    ensures { result.now ≡ without_blanks text.now }
-{
-    let text = &text[blanks(text)..];
-    &text[..length_before_blanks(text)]
-}
-
-/// How many blanks a text begins with.
-fn blanks(text: &[u8]) -> usize
-    ensures value { drop result text.now ≡ drop_blanks text.now }
-    ensures within { result ≤ length text.now }
-{
-    'bytes: for index in 0..text.len() {
-        if !is_blank(text[index]) {
-            return index;
-        }
-    }
-    text.len()
-}
-
-/// How many bytes of a text stand before the blanks at its end.
-fn length_before_blanks(text: &[u8]) -> usize
-    ensures value { result ≡ length_before_blanks text.now }
-    ensures within { result ≤ length text.now }
-{
-    let len = text.len();
-    'bytes: for index in 0..len {
-        if !is_blank(text[len - index - 1]) {
-            return len - index;
-        }
-    }
-    0
-}
-
-/// Whether a byte is a space or a tab.
-fn is_blank(byte: u8) -> bool
-    ensures { result ≡ is_blank byte }
-{
-    byte == b' ' || byte == b'\t'
 }

@@ -1,6 +1,7 @@
 //! The rows of a factor file, and the grid that they are.
 
 ghost use Rattle.std.specs.Prelude.{◌≡◌, ◌≤◌, ◌<◌, ◌+◌, ◌∷◌, [], drop, length, take, MatchResult, Ok};
+ghost use Rattle.farm_vcf.specs.Blocks.{IsFaultOfRows, IsGridOf};
 ghost use Rattle.farm_vcf.specs.Rows.{IsRefused, continues, densities_from, discontinued_from, factors_of, grid_in_blocks, grid_of_rows, next_column, temperatures_of, unrisen, unrisen_from, width_from};
 ghost use Rattle.farm_vcf.specs.declared.fault.VcfFault.TheVariants.{NoMemory};
 
@@ -25,7 +26,8 @@ pub struct Listed {
 /// At most 100,000 rows are asked for. Whatever lists factors row by row is a grid by this one rule.
 pub fn grid_of_rows(alloc: Global, rows: &[Listed]) -> Result<Vcf, VcfFault>
     requires { length rows.now ≤ 100000 }
-    ensures { MatchResult result (λ grid. grid_of_rows rows.now ≡ Ok grid) (λ fault. IsRefused fault (grid_of_rows rows.now)) }
+    ensures value { MatchResult result (λ grid. grid_of_rows rows.now ≡ Ok grid) (λ fault. IsRefused fault (grid_of_rows rows.now)) }
+    ensures meaning { MatchResult result (λ grid. IsGridOf rows.now grid) (λ fault. IsFaultOfRows rows.now fault) }
 {
     match rows {
         [] => Err(VcfFault::NotGrid(1)),

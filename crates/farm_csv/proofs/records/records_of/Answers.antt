@@ -1,30 +1,30 @@
-use Rattle.std.proofs.Common.{Bor, List, ℕ, ◌∙◌, sym, refl, inl, inr, map, Some, ◌∷◌, []}
+use Rattle.std.proofs.Common.{◌≡◌, Bor, List, ℕ, ◌∙◌, sym, refl, inl, inr, map, Some, ◌∷◌, []}
 use Rattle.std.proofs.lemmas.List.{map-append}
 use Rattle.csv.specs.Reading.{Reached, default_config, error_kind, strip_bom}
 use Rattle.csv.specs.Records.{fields_of}
 use Rattle.csv.specs.declared.parser.State.TheVariants as st
 use Rattle.csv.proofs.ReadFacts.{rows-end, rows-more}
-use Rattle.farm_vcf.proofs.AllRecords.{all_records, expected_equal, expected_more, fault_is}
-use Rattle.farm_vcf.proofs.reading.records_of.Goals as goal
+use Rattle.farm_csv.specs.declared.fault.CsvFault.TheVariants.{Uneven}
+use Rattle.farm_csv.proofs.AllRecords.{all_records, expected_equal, expected_more, uneven_is}
+use Rattle.farm_csv.proofs.records.records_of.Goals as goal
 
 pub loop-read-init : goal.loop-read-init
 unfolding Reached
 loop-read-init c =
-    let fr = c.from_reader-reader.ensures in
-    let e = c.has_headers.ensures in
+    let fr = c.reader_of.ensures in
     let start = c.into_iter-read-iterator.ensures.into_iter_gives ∙ refl in
     let rdr = c.into_byte_records-read-items.ensures.rdr in
     let left = c.into_byte_records-read-items.ensures.left in
     rw (start, rdr, c.new-records.ensures.items) (
-      rw (e) at fr.trim ∙ c.new.ensures.trim,
-      inr (inr (rw e at fr.has_headers, fr.headers)),
+      fr.whole_fields,
+      inr (inr fr.header),
       left,
-      rw e at fr.config ∙ c.new.ensures.config,
-      rw e at fr.flexible ∙ c.new.ensures.flexible,
-      rw fr.expected refl,
+      fr.rules,
+      fr.even.0,
+      rw fr.even.1 refl,
       strip_bom c.args.text.now,
       fr.source,
-      (sym fr.state, refl),
+      (sym fr.start, refl),
     )
 
 pub loop-read-preserved : goal.loop-read-preserved
@@ -49,20 +49,25 @@ loop-read-preserved c =
       rw (items, map-append fields_of c.loop-read.records.items (c.in-Ok.fields ∷ [])) m.2,
     )
 
-pub returns-in-Err-clause-all : goal.returns-in-Err-clause-all
-returns-in-Err-clause-all c =
+pub returns-in-Err-clause-uneven : goal.returns-in-Err-clause-uneven
+returns-in-Err-clause-uneven c = λ told.
     let inv = c.loop-read.invariant in
     let steps = c.next.ensures.steps inv.2 inv.0 in
     let why = rw (c.in-Some.is, c.in-Err.is) at (steps.0 inv.1) in
-    rw c.fault_of.ensures
-    (fault_is (λ (s : Bor (List ℕ)). Some s.now) c.loop-read.read-iterator.rdr c.next.new.self.rdr c.args.text.now (error_kind c.in-Err.error) (map fields_of c.loop-read.records.items) inv.6 inv.3 inv.7 inv.8 inv.5 why)
+    let same : c.fault_of.result ≡ Uneven = cc in
+    uneven_is (λ (s : Bor (List ℕ)). Some s.now) c.loop-read.read-iterator.rdr c.next.new.self.rdr c.args.text.now (error_kind c.in-Err.error) (map fields_of c.loop-read.records.items) inv.6 inv.3 inv.7 inv.8 inv.5 why (sym c.fault_of.ensures ∙ same)
 
-pub returns-clause-all : goal.returns-clause-all
-returns-clause-all c =
+pub returns-clause-records : goal.returns-clause-records
+returns-clause-records c =
     let inv = c.loop-read.invariant in
     let s = rw c.in-None.is at ((c.next.ensures.steps inv.2 inv.0).0 inv.1) in
     all_records (strip_bom c.args.text.now) (map fields_of c.loop-read.records.items) c.loop-read.read-iterator.rdr.state inv.6 inv.8
     (rows-end (λ (s : Bor (List ℕ)). Some s.now) c.loop-read.read-iterator.rdr c.next.new.self.rdr [] default_config inv.6 inv.3 inv.7 s)
 
-pub returns-clause-lengths : goal.returns-clause-lengths
-returns-clause-lengths c = expected_equal c.loop-read.read-iterator.rdr.expected (map fields_of c.loop-read.records.items) c.loop-read.invariant.5
+pub returns-clause-even : goal.returns-clause-even
+returns-clause-even c =
+    let inv = c.loop-read.invariant in
+    let s = rw c.in-None.is at ((c.next.ensures.steps inv.2 inv.0).0 inv.1) in
+    let all = all_records (strip_bom c.args.text.now) (map fields_of c.loop-read.records.items) c.loop-read.read-iterator.rdr.state inv.6 inv.8
+    (rows-end (λ (s : Bor (List ℕ)). Some s.now) c.loop-read.read-iterator.rdr c.next.new.self.rdr [] default_config inv.6 inv.3 inv.7 s) in
+    rw all (expected_equal c.loop-read.read-iterator.rdr.expected (map fields_of c.loop-read.records.items) inv.5)

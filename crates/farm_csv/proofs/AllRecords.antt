@@ -13,7 +13,8 @@ use Rattle.csv.specs.declared.parser.State.{State}
 use Rattle.csv.specs.declared.parser.State.TheVariants as st
 use Rattle.csv.specs.declared.parser.Terminator.TheVariants as term
 use Rattle.csv.specs.declared.reader.Reader.{Reader}
-use Rattle.farm_vcf.specs.Records.{IsFaultOfRecords, all_of_length, equal_lengths, fault_of}
+use Rattle.farm_csv.specs.Records.{all_of_length, equal_lengths, fault_of, records_of}
+use Rattle.farm_csv.specs.declared.fault.CsvFault.TheVariants.{Uneven}
 
 -- where a step ends a record, the end of the text ends no other
 abbrev Between : State × Action → Type 0
@@ -182,17 +183,17 @@ next_of s y (Some ys) fields s2 h = by (next_record default_config s [] [] y) re
     by None e h = cc
     by (Some p) e h = (p, e, h.1)
 
--- an error of the reader is told for what it is
-pub fault_is : {R : Type 0} (rem : R → Option (List ℕ)) (a b : Reader R) (text : List ℕ) (why : ErrorKind) (rows : List (List (List ℕ))) (y : List ℕ) → a.config ≡ default_config → source_of rem a ≡ Some y →
-    Reached default_config st.StartRecord (strip_bom text) rows a.state y → IsExpected a.expected rows → ExplainsRead rem a b false why → IsFaultOfRecords text (fault_of why)
-fault_is rem a b text (kind.UnequalLengths place expected len) rows y config source reached all why =
+-- unequal lengths are told only of records that have them
+pub uneven_is : {R : Type 0} (rem : R → Option (List ℕ)) (a b : Reader R) (text : List ℕ) (why : ErrorKind) (rows : List (List (List ℕ))) (y : List ℕ) → a.config ≡ default_config → source_of rem a ≡ Some y →
+    Reached default_config st.StartRecord (strip_bom text) rows a.state y → IsExpected a.expected rows → ExplainsRead rem a b false why → fault_of why ≡ Uneven → equal_lengths (records_of text) ≡ false
+uneven_is rem a b text (kind.UnequalLengths place expected len) rows y config source reached all why uneven =
     let next = next_of a.state y _ why.3 b.state (rw (config, source) at why.4) in
     let follows = more_records (strip_bom text) rows a.state y next.0 reached next.1 in
     let other : length next.0.0 ≢ expected = λ same. why.2 (sym same ∙ ap length (sym next.2) ∙ why.5) in
     let expects : IsExpected (Some expected) rows = rw why.1 at all in
     rw follows.1 (unequal expected rows next.0.0 follows.0 expects other)
-fault_is rem a b text (kind.Io e) rows y config source reached all why = tt
-fault_is rem a b text (kind.Utf8 place err) rows y config source reached all why = tt
-fault_is rem a b text kind.OutOfMemory rows y config source reached all why = tt
-fault_is rem a b text (kind.Serialize what) rows y config source reached all why = tt
-fault_is rem a b text (kind.Deserialize place err) rows y config source reached all why = tt
+uneven_is rem a b text (kind.Io e) rows y config source reached all why uneven = cc
+uneven_is rem a b text (kind.Utf8 place err) rows y config source reached all why uneven = cc
+uneven_is rem a b text kind.OutOfMemory rows y config source reached all why uneven = cc
+uneven_is rem a b text (kind.Serialize what) rows y config source reached all why uneven = cc
+uneven_is rem a b text (kind.Deserialize place err) rows y config source reached all why uneven = cc

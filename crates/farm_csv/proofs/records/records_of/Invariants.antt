@@ -3,8 +3,8 @@ use Rattle.csv.specs.Reading.{Reached, Ready, default_config, source_of, strip_b
 use Rattle.csv.specs.Records.{fields_of}
 use Rattle.csv.specs.declared.parser.State.TheVariants as st
 use Rattle.csv.specs.declared.reader.Trim.TheVariants as trim
-use Rattle.farm_vcf.proofs.AllRecords.{IsExpected}
-use Rattle.farm_vcf.proofs.reading.records_of.Given as goal
+use Rattle.farm_csv.proofs.AllRecords.{IsExpected}
+use Rattle.farm_csv.proofs.records.records_of.Given as goal
 
 abbrev pub invariant-loop-read : goal.invariant-loop-read
 invariant-loop-read l = (l.read-iterator.rdr.trim ≡ trim.None) × Ready l.read-iterator.rdr × (0 < l.read-iterator.left) × (l.read-iterator.rdr.config ≡ default_config)

@@ -1,8 +1,8 @@
 use Rattle.std.proofs.Common.{◌≡◌, ◌<◌, ◌+◌, ◌-◌, length, take, get_or, arith, rules, true, false, refl}
 use Rattle.std.proofs.lemmas.List.{length-take, take_all, take_more}
-use Rattle.farm_vcf.specs.Records.{is_blank, length_before_blanks}
-use Rattle.farm_vcf.proofs.Blanks.{end_blank, end_other}
-use Rattle.farm_vcf.proofs.reading.length_before_blanks.Goals as goal
+use Rattle.farm_csv.specs.Blanks.{is_blank, length_before_blanks}
+use Rattle.farm_csv.proofs.Ends.{end_blank, end_other}
+use Rattle.farm_csv.proofs.blanks.length_before_blanks.Goals as goal
 
 pub bytes-init : goal.bytes-init
 bytes-init c = rw (take_all (length c.args.text.now - 0) c.args.text.now (omega arith)) refl

@@ -1,8 +1,8 @@
 use Rattle.std.proofs.Common.{◌≡◌, ◌∙◌, length, get_or, sym, arith, rules, true, false}
 use Rattle.std.proofs.lemmas.List.{drop_all}
-use Rattle.farm_vcf.specs.Records.{drop_blanks, is_blank}
-use Rattle.farm_vcf.proofs.Blanks.{start_blank, start_other}
-use Rattle.farm_vcf.proofs.reading.blanks.Goals as goal
+use Rattle.farm_csv.specs.Blanks.{drop_blanks, is_blank}
+use Rattle.farm_csv.proofs.Ends.{start_blank, start_other}
+use Rattle.farm_csv.proofs.blanks.blanks.Goals as goal
 
 pub bytes-preserved : goal.bytes-preserved
 bytes-preserved c =

@@ -1,6 +1,6 @@
 use Rattle.std.proofs.Common.{◌≡◌, ◌-◌, take}
-use Rattle.farm_vcf.specs.Records.{length_before_blanks}
-use Rattle.farm_vcf.proofs.reading.length_before_blanks.Given as goal
+use Rattle.farm_csv.specs.Blanks.{length_before_blanks}
+use Rattle.farm_csv.proofs.blanks.length_before_blanks.Given as goal
 
 abbrev pub invariant-bytes : goal.invariant-bytes
 invariant-bytes l = length_before_blanks (take (l.len - l.index) l.text) ≡ length_before_blanks l.text

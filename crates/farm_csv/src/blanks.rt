@@ -1,0 +1,46 @@
+//! Blanks at the ends of a field.
+
+ghost use Rattle.std.specs.Prelude.{◌≡◌, ◌≤◌, length, drop};
+ghost use Rattle.farm_csv.specs.Blanks.{drop_blanks, is_blank, length_before_blanks, without_blanks};
+
+/// A text with no blank at either end.
+pub fn without_blanks(text: &[u8]) -> &[u8]
+    ensures { result.now ≡ without_blanks text.now }
+{
+    let text = &text[blanks(text)..];
+    &text[..length_before_blanks(text)]
+}
+
+/// How many blanks a text begins with.
+fn blanks(text: &[u8]) -> usize
+    ensures value { drop result text.now ≡ drop_blanks text.now }
+    ensures within { result ≤ length text.now }
+{
+    'bytes: for index in 0..text.len() {
+        if !is_blank(text[index]) {
+            return index;
+        }
+    }
+    text.len()
+}
+
+/// How many bytes of a text stand before the blanks at its end.
+fn length_before_blanks(text: &[u8]) -> usize
+    ensures value { result ≡ length_before_blanks text.now }
+    ensures within { result ≤ length text.now }
+{
+    let len = text.len();
+    'bytes: for index in 0..len {
+        if !is_blank(text[len - index - 1]) {
+            return len - index;
+        }
+    }
+    0
+}
+
+/// Whether a byte is a space or a tab.
+fn is_blank(byte: u8) -> bool
+    ensures { result ≡ is_blank byte }
+{
+    byte == b' ' || byte == b'\t'
+}
