@@ -1,0 +1,22 @@
+//! Strapped tanks: the rows of a capacity table from the courses of a shell, its bottom, and what stands inside.
+//!
+//! Heights are whole millimetres (`Mm`) above the datum plate, circumferences, deductions and thicknesses tenths of one
+//! (`Deci`), volumes whole litres. The volume of a course is that of a circle of its mean internal circumference, after
+//! ISO 7507-1, with pi as 355 / 113. docs/definitions.md states it under "Strapped table".
+#![tactic(auto)]
+
+mod arithmetic;
+mod bottom;
+mod deadwood;
+mod fault;
+mod parts;
+mod search;
+mod shell;
+mod strapping;
+
+pub use fault::StrapFault;
+pub use parts::{Course, Deadwood};
+pub use strapping::Strapping;
+
+#[cfg(test)]
+mod tests;

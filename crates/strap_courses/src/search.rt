@@ -1,0 +1,127 @@
+//! What is wrong with parts: the first fault, each cause looked for over its whole list.
+
+ghost use Rattle.std.specs.Prelude.{◌≡◌};
+ghost use Rattle.strap_courses.specs.Faults.{bad_course, bad_deadwood, bad_point, deducts_too_much, first_fault, follows, is_bad_course, is_bad_deadwood, is_bottom_volume, wrong_height};
+
+use crate::arithmetic::millimetres;
+use crate::bottom::bottom_height;
+use crate::shell::{height, scaled_circumference};
+use crate::{Course, Deadwood, StrapFault};
+use farm_fixed::Mm;
+
+const GREATEST_VOLUME: i64 = 1_000_000_000;
+
+const LEAST_HEIGHT: u128 = 10;
+
+const GREATEST_HEIGHT: u128 = 50_000;
+
+/// Why parts are no strapped tank, if they are none.
+#[tactic(auto, unfolding(crate::specs::Faults::first_fault))]
+pub fn first_fault(
+    courses: &[Course],
+    deadwoods: &[Deadwood],
+    bottom: &[(Mm, i64)],
+) -> Option<StrapFault>
+    ensures { result ≡ first_fault (record { courses = courses.now; deadwoods = deadwoods.now; bottom = bottom.now }) }
+{
+    if courses.is_empty() {
+        return Some(StrapFault::NoCourse);
+    }
+    if let Some(number) = bad_course(courses) {
+        return Some(StrapFault::BadCourse(number));
+    }
+    let top = bottom_height(bottom);
+    if let Some(number) = bad_deadwood(top, deadwoods) {
+        return Some(StrapFault::BadDeadwood(number));
+    }
+    if let Some(number) = bad_point(bottom) {
+        return Some(StrapFault::BadBottom(number));
+    }
+    wrong_height(top, height(courses))
+}
+
+// The first bad course, counted from 1.
+fn bad_course(courses: &[Course]) -> Option<usize>
+    ensures { result ≡ bad_course 1 courses.now }
+{
+    for (index, course) in courses.iter().enumerate() {
+        if is_bad_course(course) {
+            return Some(index + 1);
+        }
+    }
+    None
+}
+
+// Whether a course has no height, a deduction above its circumference, or no inside.
+fn is_bad_course(course: &Course) -> bool
+    ensures { result ≡ is_bad_course course.now }
+{
+    course.height.get() == 0 || deducts_too_much(course) || scaled_circumference(course) <= 0
+}
+
+// Whether a deduction is above its circumference.
+fn deducts_too_much(course: &Course) -> bool
+    ensures { result ≡ deducts_too_much course.now }
+{
+    course.lower.get() < course.lower_off.get() || course.upper.get() < course.upper_off.get()
+}
+
+// The first bad deadwood, counted from 1.
+fn bad_deadwood(top: u64, deadwoods: &[Deadwood]) -> Option<usize>
+    ensures { result ≡ bad_deadwood top 1 deadwoods.now }
+{
+    for (index, deadwood) in deadwoods.iter().enumerate() {
+        if is_bad_deadwood(top, deadwood) {
+            return Some(index + 1);
+        }
+    }
+    None
+}
+
+// Whether a deadwood has no height, stands in the bottom, or has too much volume either way.
+fn is_bad_deadwood(top: u64, deadwood: &Deadwood) -> bool
+    ensures { result ≡ is_bad_deadwood top deadwood.now }
+{
+    deadwood.high.get() <= deadwood.low.get()
+        || millimetres(deadwood.low) < top
+        || deadwood.litres.unsigned_abs() > GREATEST_VOLUME as u64
+}
+
+// The first bad point of a bottom, counted from 1.
+fn bad_point(bottom: &[(Mm, i64)]) -> Option<usize>
+    ensures { result ≡ bad_point bottom.now }
+{
+    if bottom.is_empty() || bottom[0].0.get() != 0 || !is_bottom_volume(bottom[0]) {
+        return Some(1);
+    }
+    for index in 1..bottom.len() {
+        if !follows(bottom[index - 1], bottom[index]) {
+            return Some(index + 1);
+        }
+    }
+    None
+}
+
+// Whether a point is higher than the one before it, with no less volume.
+fn follows(before: (Mm, i64), point: (Mm, i64)) -> bool
+    ensures { result ≡ follows before point }
+{
+    before.0.get() < point.0.get() && before.1 <= point.1 && is_bottom_volume(point)
+}
+
+// Whether the volume of a point is one that a bottom may have.
+fn is_bottom_volume(point: (Mm, i64)) -> bool
+    ensures { result ≡ is_bottom_volume point }
+{
+    0 <= point.1 && point.1 <= GREATEST_VOLUME
+}
+
+// The fault of courses of this height over a bottom of that.
+fn wrong_height(top: u64, height: u128) -> Option<StrapFault>
+    ensures { result ≡ wrong_height top height }
+{
+    if height < LEAST_HEIGHT || height > GREATEST_HEIGHT || height < u128::from(top) {
+        return Some(StrapFault::TooTall);
+    }
+    None
+}

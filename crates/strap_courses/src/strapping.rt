@@ -1,0 +1,153 @@
+ghost use Rattle.std.specs.Prelude.{◌≡◌, ◌≤◌, ◌*◌, ◌^◌, pos, IfOk, MatchResult, None, Ok, Some};
+ghost use Rattle.std.specs.Int.RustNames.{unsigned_abs};
+ghost use Rattle.farm_fixed.specs.Range.{IsWithin};
+ghost use Rattle.farm_rounding.specs.Table.{row_at};
+ghost use Rattle.strap_courses.specs.Courses.{bottom_height, exact_volume, height_of, last_point};
+ghost use Rattle.strap_courses.specs.Faults.{first_fault};
+ghost use Rattle.strap_courses.specs.Rows.{IsRefused, IsStrappedTable, row_count, rounded, strapped_row, strapped_rows, wrong_row};
+
+use crate::arithmetic::{less, product, rounded, sum};
+use crate::bottom::{bottom_height, bottom_row, whole_bottom};
+use crate::deadwood::deadwood_parts;
+use crate::search::first_fault;
+use crate::shell::{height, held_between};
+use crate::{Course, Deadwood, StrapFault};
+use farm_fixed::Mm;
+use farm_rounding::{RoundTable, STRAPPED_ROW};
+use std::alloc::Global;
+use std::marker::Model;
+
+const GREATEST_ROW: i128 = 1_000_000_000;
+
+// The square of a scaled circumference over this is what one mm of the course holds, in litres.
+const PER_LITRE: i64 = 64_184_000_000_000;
+
+/// A strapped tank: at least one course, what stands inside, and a bottom.
+///
+/// The bottom is the list of its points, each a height and the litres up to it. A flat one is the single point of no height
+/// and no volume; a first point with a volume is a heel.
+#[derive(Debug, Drop)]
+pub struct Strapping {
+    courses: Vec<Course>,
+    deadwoods: Vec<Deadwood>,
+    bottom: Vec<(Mm, i64)>,
+}
+
+impl Model for Strapping {
+    ghost use Rattle.std.specs.Prelude.{◌≡◌, None};
+    ghost use Rattle.strap_courses.specs.Courses.{StrappedTank};
+    ghost use Rattle.strap_courses.specs.Faults.{first_fault};
+
+    ghost Value = { StrappedTank };
+
+    ghost view = { λ s. record { courses = s.courses.items; deadwoods = s.deadwoods.items; bottom = s.bottom.items } };
+
+    ghost invariant = { λ s. first_fault (record { courses = s.courses.items; deadwoods = s.deadwoods.items; bottom = s.bottom.items }) ≡ None };
+}
+
+impl Strapping {
+    /// The tank of these parts.
+    ///
+    /// The faults are looked for in the order of `StrapFault`, each over its whole list. Takes no memory.
+    pub fn new(
+        courses: Vec<Course>,
+        deadwoods: Vec<Deadwood>,
+        bottom: Vec<(Mm, i64)>,
+    ) -> Result<Strapping, StrapFault>
+        ensures first { MatchResult result
+            (λ _. first_fault (record { courses = courses.items; deadwoods = deadwoods.items; bottom = bottom.items }) ≡ None)
+            (λ fault. first_fault (record { courses = courses.items; deadwoods = deadwoods.items; bottom = bottom.items }) ≡ Some fault) }
+        ensures parts { IfOk result (λ tank. tank ≡ record { courses = courses.items; deadwoods = deadwoods.items; bottom = bottom.items }) }
+    {
+        match first_fault(&courses, &deadwoods, &bottom) {
+            Some(fault) => Err(fault),
+            None => Ok(Strapping {
+                courses,
+                deadwoods,
+                bottom,
+            }),
+        }
+    }
+
+    /// The rows of its capacity table, in litres: row i at 10 i mm, for each such height up to the sum of the courses.
+    ///
+    /// A row is the volume of bottom and courses by the rounding of strapped rows, less each deadwood's part by its own
+    /// rounding. `TooLarge` or `NotRising` at the first row that is wrong, in this order at one row. Each row is summed from
+    /// the bottom anew.
+    pub fn rows(&self, alloc: Global, rounds: &RoundTable) -> Result<Vec<i64>, StrapFault>
+        ensures value { MatchResult result (λ rows. strapped_rows rounds.now self.now ≡ Ok rows.items) (λ fault. IsRefused fault (strapped_rows rounds.now self.now)) }
+        ensures meaning { IfOk result (λ rows. IsStrappedTable rounds.now self.now rows.items) }
+        ensures tank { first_fault self.now ≡ None }
+    {
+        let count = self.row_count();
+        let mut rows = Vec::new(alloc);
+        rows.reserve(count)?;
+        let mut before = 0;
+        for i in 0..count {
+            let row = self.row(rounds, i as u64);
+            if let Some(fault) = wrong_row(i, before, row) {
+                return Err(fault);
+            }
+            rows.push(row as i64)?;
+            before = row;
+        }
+        Ok(rows)
+    }
+
+    // How many rows there are.
+    fn row_count(&self) -> usize
+        ensures value { result ≡ row_count self.now }
+        ensures most { result ≤ 5001 }
+        ensures tank { first_fault self.now ≡ None }
+    {
+        height(&self.courses) as usize / 10 + 1
+    }
+
+    // Row i: bottom and courses up to 10 i mm, less the deadwoods.
+    #[tactic(auto, unfolding(crate::specs::Rows::strapped_row))]
+    fn row(&self, rounds: &RoundTable, i: u64) -> i128
+        requires { i ≤ 5000 }
+        ensures { result ≡ strapped_row rounds.now self.now i }
+    {
+        let parts = deadwood_parts(rounds, &self.deadwoods, 10 * i);
+        less(self.volume(rounds, 10 * i), parts)
+    }
+
+    // The volume of bottom and courses up to a height, rounded.
+    #[tactic(auto, unfolding(crate::specs::Courses::exact_volume))]
+    fn volume(&self, rounds: &RoundTable, height: u64) -> i128
+        requires { height ≤ 50000 }
+        ensures value { result ≡ rounded (row_at rounds.now 3) (exact_volume self.now height) }
+        ensures size { unsigned_abs result ≤ 10 ^ 36 }
+    {
+        let top = bottom_height(&self.bottom);
+        if height <= top {
+            return bottom_row(rounds, &self.bottom, height);
+        }
+        let below = product::<64_184_000_000_000, 1_000_000_000>(
+            PER_LITRE,
+            whole_bottom(&self.bottom),
+        );
+        let above = held_between(&self.courses, top, height) as i128;
+        rounded(
+            rounds,
+            STRAPPED_ROW,
+            sum(below, above),
+            i128::from(PER_LITRE),
+        )
+    }
+}
+
+// What is wrong with row i after the one before it.
+fn wrong_row(i: usize, before: i128, row: i128) -> Option<StrapFault>
+    ensures value { result ≡ wrong_row i before row }
+    ensures range { result ≡ None → IsWithin (pos 0) (pos (10 ^ 9)) row }
+{
+    if row < 0 || row > GREATEST_ROW {
+        return Some(StrapFault::TooLarge(i));
+    }
+    if row < before {
+        return Some(StrapFault::NotRising(i));
+    }
+    None
+}
