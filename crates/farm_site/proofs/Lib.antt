@@ -1,0 +1,6 @@
+mod Arrays
+mod Contents
+mod LineFacts
+mod PlacedFacts
+mod Reading
+mod RoundingRows

@@ -1,0 +1,175 @@
+//! A site, and the reading of its folder.
+
+ghost use Rattle.std.specs.Prelude.{◌≡◌, ◌≤◌, ◌↔◌, List, map, option_map, MatchResult, IfSome, IsNone, IsFalse, IsTrue, Ok, Err, Some};
+ghost use Rattle.toml.specs.View.{view};
+ghost use Rattle.farm_base.specs.Counts.{Rose};
+ghost use Rattle.farm_base.specs.Told.{Stays, WhereTold};
+ghost use Rattle.farm_ports.specs.Folders.{File};
+ghost use Rattle.farm_site.specs.Described.{site_of_files, site_of_keys, tank_numbered, top_of_files};
+ghost use Rattle.farm_site.specs.Facts.{are_parties, are_products, are_tanks};
+ghost use Rattle.farm_site.specs.Faults.{IsRefused};
+ghost use Rattle.farm_site.specs.Lines.{are_lines};
+ghost use Rattle.farm_site.specs.Lists.{is_among};
+ghost use Rattle.farm_site.specs.Products.{product_number};
+ghost use Rattle.farm_site.specs.Tanks.{tank_number};
+ghost use Rattle.farm_site.specs.Top.{is_name};
+
+use crate::files::{content, toml_of};
+use crate::keys::Keys;
+use crate::lines::lines_of;
+use crate::parties::parties_of;
+use crate::products::products_of;
+use crate::tanks::tanks_of;
+use crate::top::{name_at, rounds_at};
+use crate::{Lines, Name, Parties, Products, SiteReadFault, Tank, Tanks};
+use farm_ports::Folder;
+use farm_rounding::RoundTable;
+use std::alloc::Global;
+use toml::Value;
+
+/// A terminal's site: what it stores, for whom, in which tanks, and which gauges it reads.
+#[derive(Debug, Drop)]
+pub struct Site {
+    /// Its name, of 1 to 32 printable ASCII characters.
+    pub name: Name,
+    /// How figures are rounded.
+    pub rounds: RoundTable,
+    /// The products, from 1 to 16, in rising order of number.
+    pub products: Products,
+    /// The parties, at most 256, in rising order of number.
+    pub parties: Parties,
+    /// The tanks, from 1 to 64, in rising order of number. Each holds a product of the site.
+    pub tanks: Tanks,
+    /// The gauge lines, at most 16, in the order of the site file. Each gauge is on a tank of the site, and no two are on one.
+    pub lines: Lines,
+    ghost is_named: { IsTrue (is_name name) },
+    ghost has_products: { IsTrue (are_products products) },
+    ghost has_parties: { IsTrue (are_parties parties) },
+    ghost has_tanks: { IsTrue (are_tanks (map product_number products) tanks) },
+    ghost has_lines: { IsTrue (are_lines (map tank_number tanks) lines) },
+}
+
+impl Site {
+    /// The site that a folder's files describe: `site.toml` and the files that it names.
+    ///
+    /// `Bad` is the first fault, in the order in which the files are looked at: the text of `site.toml`, its top keys,
+    /// products, parties, tanks and lines; each item whole in turn, its keys and then its file. `Folder` comes only where the
+    /// folder failed, and `NoMemory` at any time. What is said stands on the files that the folder still tells at the end.
+    pub fn read<F: Folder>(alloc: Global, folder: &mut F) -> Result<Site, SiteReadFault>
+        ensures site { WhereTold (F.files folder.new) (λ files. MatchResult result
+            (λ site. site_of_files files ≡ Ok (record {
+              name = site.name;
+              rounds = site.rounds;
+              products = site.products;
+              parties = site.parties;
+              tanks = site.tanks;
+              lines = site.lines;
+            }))
+            (λ fault. IsRefused fault (site_of_files files))) }
+        ensures files { Stays (F.files folder.old) (F.files folder.new) }
+        ensures later { F.faults folder.old ≤ F.faults folder.new }
+        ensures failed { result ≡ Err SiteReadFault.Folder → Rose (F.faults folder.old) (F.faults folder.new) }
+    {
+        Site::of_folder(alloc, folder)
+    }
+
+    // The same, over the files that the folder tells at the end.
+    #[tactic(auto, unfolding(crate::specs::Described::site_of_files))]
+    fn of_folder<F: Folder>(alloc: Global, folder: &mut F) -> Result<Site, SiteReadFault>
+        ensures site { (files : List File) → F.files folder.new ≡ Some files → MatchResult result
+            (λ site. site_of_files files ≡ Ok (record {
+              name = site.name;
+              rounds = site.rounds;
+              products = site.products;
+              parties = site.parties;
+              tanks = site.tanks;
+              lines = site.lines;
+            }))
+            (λ fault. IsRefused fault (site_of_files files)) }
+        ensures files { (files : List File) → F.files folder.new ≡ Some files → F.files folder.old ≡ Some files }
+        ensures later { F.faults folder.old ≤ F.faults folder.new }
+        ensures failed { result ≡ Err SiteReadFault.Folder → Rose (F.faults folder.old) (F.faults folder.new) }
+    {
+        let top = top_of(alloc, folder)?;
+        let keys = Keys {
+            item: 0,
+            table: &top,
+        };
+        Site::of_keys(alloc, folder, &keys)
+    }
+
+    // The site of the keys of a site file.
+    #[tactic(auto, unfolding(crate::specs::Described::site_of_keys))]
+    fn of_keys<F: Folder>(
+        alloc: Global,
+        folder: &mut F,
+        top: &Keys<'_>,
+    ) -> Result<Site, SiteReadFault>
+        requires { top.now.item ≡ 0 }
+        ensures site { (files : List File) → F.files folder.new ≡ Some files → MatchResult result
+            (λ site. site_of_keys files (view top.now.table.now) ≡ Ok (record {
+              name = site.name;
+              rounds = site.rounds;
+              products = site.products;
+              parties = site.parties;
+              tanks = site.tanks;
+              lines = site.lines;
+            }))
+            (λ fault. IsRefused fault (site_of_keys files (view top.now.table.now))) }
+        ensures files { (files : List File) → F.files folder.new ≡ Some files → F.files folder.old ≡ Some files }
+        ensures later { F.faults folder.old ≤ F.faults folder.new }
+        ensures failed { result ≡ Err SiteReadFault.Folder → Rose (F.faults folder.old) (F.faults folder.new) }
+    {
+        let _format = top.natural("format", 1, 1)?;
+        let name = name_at(alloc, top)?;
+        let rounds = rounds_at(top)?;
+        let products = products_of(alloc, folder, top)?;
+        let parties = parties_of(alloc, top)?;
+        let tanks = tanks_of(alloc, folder, &rounds, &products, top)?;
+        let lines = lines_of(alloc, &tanks, top)?;
+        Ok(Site {
+            name,
+            rounds,
+            products: Products::new(products),
+            parties: Parties::new(parties),
+            tanks: Tanks::new(tanks),
+            lines: Lines::new(lines),
+        })
+    }
+
+    /// The tank with this number. `None` exactly where the site has none.
+    pub fn tank(&self, number: u16) -> Option<&Tank>
+        ensures tank { option_map (λ tank. tank.now) result ≡ tank_numbered number self.now.tanks }
+        ensures number { IfSome result (λ tank. tank.now.number ≡ number) }
+        ensures none { IsNone result ↔ IsFalse (is_among number (map tank_number self.now.tanks)) }
+    {
+        tank_numbered(number, self.tanks.get())
+    }
+}
+
+// The keys of the site file. Its text is dropped once it is read.
+#[tactic(auto, unfolding(crate::specs::Described::top_of_files))]
+fn top_of<F: Folder>(alloc: Global, folder: &mut F) -> Result<Value, SiteReadFault>
+    ensures top { (files : List File) → F.files folder.new ≡ Some files →
+        MatchResult result (λ top. top_of_files files ≡ Ok (view top)) (λ fault. IsRefused fault (top_of_files files)) }
+    ensures files { (files : List File) → F.files folder.new ≡ Some files → F.files folder.old ≡ Some files }
+    ensures later { F.faults folder.old ≤ F.faults folder.new }
+    ensures failed { result ≡ Err SiteReadFault.Folder → Rose (F.faults folder.old) (F.faults folder.new) }
+{
+    let bytes = content(alloc, folder, 0, "site.toml")?;
+    toml_of(alloc, 0, &bytes)
+}
+
+// The first tank with a number.
+fn tank_numbered(number: u16, tanks: &[Tank]) -> Option<&Tank>
+    ensures tank { option_map (λ tank. tank.now) result ≡ tank_numbered number tanks.now }
+    ensures number { IfSome result (λ tank. tank.now.number ≡ number) }
+    ensures none { IsNone result ↔ IsFalse (is_among number (map tank_number tanks.now)) }
+{
+    for tank in tanks {
+        if tank.number == number {
+            return Some(tank);
+        }
+    }
+    None
+}
