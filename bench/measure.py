@@ -5,7 +5,9 @@ import sys
 import time
 
 TOP, WORK = sys.argv[1:]
-FARM = [f"{TOP}/crates/farm/out/farm", "calc"]
+PROGRAM = f"{TOP}/crates/farm/out/farm"
+FARM = [PROGRAM, "calc"]
+TABLE = [PROGRAM, "table", "--site"]
 LINE = f"{TOP}/examples/calc/observed.txt"
 LEVELS = f"{WORK}/levels.txt"
 FACTORS = f"{WORK}/factors.csv"
@@ -52,3 +54,5 @@ compare(
     FACTORS,
 )
 print(f"memory of one line: {kilobytes(FARM, LINE)} KB, of the greatest input: {kilobytes(FARM, LEVELS)} KB")
+compare("the issued tables of 64 table files, awk", [*TABLE, f"{WORK}/tables"], ["awk", "-f", f"{TOP}/bench/rows.awk"], 40)
+compare("the issued tables of 64 strapping files, C", [*TABLE, f"{WORK}/strappings"], [f"{WORK}/strapped"], 40)

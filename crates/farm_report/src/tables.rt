@@ -1,0 +1,75 @@
+//! The issued capacity tables.
+
+ghost use Rattle.std.specs.Prelude.{◌*◌, ◌≤◌, length};
+ghost use Rattle.farm_base.specs.Appended.{Appends};
+ghost use Rattle.farm_report.specs.Issued.{Lengthens, issued_text, row_line, rows_from, tank_line, tank_text};
+
+use farm_fixed::NoMemory;
+use farm_site::{Site, Tank};
+use itoa::Buffer;
+
+/// Appends the issued capacity tables of a site: for each tank, by rising number, `tank T` and a line `MM LITRES` for each row.
+///
+/// Levels are from 0 up, 10 mm apart. On `NoMemory` the buffer is as before.
+pub fn issued(site: &Site, out: &mut Vec<u8>) -> Result<(), NoMemory>
+    ensures appended { Appends out.old.items out.new.items (issued_text site.now.tanks) result }
+{
+    let before = out.len();
+    let written = write_tanks(site.tanks.get(), out);
+    if written.is_err() {
+        out.truncate(before);
+    }
+    written
+}
+
+// Appends the texts of tanks.
+fn write_tanks(tanks: &[Tank], out: &mut Vec<u8>) -> Result<(), NoMemory>
+    ensures tanks { Lengthens out.old.items out.new.items (issued_text tanks.now) result }
+{
+    for tank in tanks {
+        write_tank(tank, out)?;
+    }
+    Ok(())
+}
+
+// Appends the text of a tank.
+fn write_tank(tank: &Tank, out: &mut Vec<u8>) -> Result<(), NoMemory>
+    ensures tank { Lengthens out.old.items out.new.items (tank_text tank.now) result }
+{
+    write_tank_line(tank.number, out)?;
+    write_rows(tank.table.rows(), out)
+}
+
+// Appends the line above the rows of a tank.
+fn write_tank_line(number: u16, out: &mut Vec<u8>) -> Result<(), NoMemory>
+    ensures line { Lengthens out.old.items out.new.items (tank_line number) result }
+{
+    let mut digits = Buffer::new();
+    out.extend_from_slice(b"tank ")?;
+    out.extend_from_slice(digits.format(number).as_bytes())?;
+    out.extend_from_slice(b"\n")?;
+    Ok(())
+}
+
+// Appends the lines of rows.
+fn write_rows(rows: &[i64], out: &mut Vec<u8>) -> Result<(), NoMemory>
+    requires { length rows.now ≤ 5001 }
+    ensures rows { Lengthens out.old.items out.new.items (rows_from 0 rows.now) result }
+{
+    for (index, litres) in rows.iter().enumerate() {
+        write_row(10 * index, *litres, out)?;
+    }
+    Ok(())
+}
+
+// Appends the line of a row. The digits are made on the stack, so that a line takes no memory of its own.
+fn write_row(mm: usize, litres: i64, out: &mut Vec<u8>) -> Result<(), NoMemory>
+    ensures line { Lengthens out.old.items out.new.items (row_line mm litres) result }
+{
+    let mut digits = Buffer::new();
+    out.extend_from_slice(digits.format(mm).as_bytes())?;
+    out.extend_from_slice(b" ")?;
+    out.extend_from_slice(digits.format(litres).as_bytes())?;
+    out.extend_from_slice(b"\n")?;
+    Ok(())
+}
