@@ -4,5 +4,6 @@ pub mod Line
 pub mod Levels
 pub mod Form
 pub mod Calc
+pub mod Issue
 pub mod Texts
 pub mod Runs

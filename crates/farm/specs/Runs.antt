@@ -4,6 +4,8 @@ use Rattle.farm_base.specs.Counts.{Count, HasRisen}
 use Rattle.farm_base.specs.Told.{WhereTold, Stream, Adds, AddsAll, AddsWhole}
 use Rattle.farm.specs.declared.refusal.Refused.{Refused}
 use Rattle.farm.specs.Calc.{calc_text}
+use Rattle.farm_ports.specs.Folders.{File}
+use Rattle.farm.specs.Issue.{site_refused_text, table_of}
 use Rattle.farm.specs.Texts.{usage_line, no_memory, port_fault, refusal_text}
 
 -- what was left of an input as the run began, where it still tells at the end
@@ -27,10 +29,12 @@ pub record Says (output : Output) (texts middle : List (List ℕ)) (last : List 
   pub front : AddsAll output.old output.new (texts ++ middle ++ last ∷ [])
   pub whole : ¬ (HasRisen output.count) → AddsWhole output.old output.new texts last
 
--- the text of an answer, nothing for a refusal
-abbrev pub text_of : Result (List ℕ) Refused → List ℕ
-text_of (Ok text) = text
-text_of (Err why) = []
+-- What an input has: a text to put, or a reason to refuse it; neither where the input can't be had.
+-- This is the text, nothing where there is none.
+abbrev pub text_of : {Why : Type 0} → Option (Result (List ℕ) Why) → List ℕ
+text_of (Some (Ok text)) = text
+text_of (Some (Err why)) = []
+text_of None = []
 
 -- Words out of form: the usage line and status 1, or want of memory.
 pub record UsageRun (output : Output) (status : ℕ) : Type 0 where
@@ -38,22 +42,35 @@ pub record UsageRun (output : Output) (status : ℕ) : Type 0 where
   pub usage : status ≡ 1 → Says output [] [] usage_line
   pub memory : status ≡ 7 → Says output [] [] no_memory
 
--- `calc` on what was left of the input.
-pub record CalcRun (input : Option (List ℕ)) (source : Count) (output : Output) (status : ℕ) : Type 0 where
-  pub statuses : (status ≡ 0) ⊎ (status ≡ 4) ⊎ (status ≡ 6) ⊎ (status ≡ 7)
+-- A command on an input that may be told, over a port that may fail. `refusal` is its status for a refusal, and `says` the text.
+pub record CommandRun {Input Why : Type 0} (refusal : ℕ) (says : Why → List ℕ) (has : Input → Option (Result (List ℕ) Why))
+    (input : Option Input) (port : Count) (output : Output) (status : ℕ) : Type 0 where
+  pub statuses : (status ≡ 0) ⊎ (status ≡ refusal) ⊎ (status ≡ 6) ⊎ (status ≡ 7)
   -- the text was put whole
-  pub done : status ≡ 0 → WhereTold input (λ bytes. (text : List ℕ) × (calc_text bytes ≡ Ok text) × Adds output.old output.new text)
+  pub done : status ≡ 0 → WhereTold input (λ told. (text : List ℕ) × (has told ≡ Some (Ok text)) × Adds output.old output.new text)
   -- the input was refused, and it was said
-  pub refused : status ≡ 4 → WhereTold input (λ bytes. (why : Refused) × (calc_text bytes ≡ Err why) × Says output [] [] (refusal_text why))
+  pub refused : status ≡ refusal → WhereTold input (λ told. (why : Why) × (has told ≡ Some (Err why)) × Says output [] [] (says why))
   -- an input that is to be refused is, unless it failed or memory was wanting
-  pub refused_only : WhereTold input (λ bytes. (why : Refused) → calc_text bytes ≡ Err why → ¬ (HasRisen source) →
-      (status ≡ 4) ⊎ (status ≡ 7) ⊎ ((status ≡ 6) × HasRisen output.count))
-  pub faulted : status ≡ 6 → (HasRisen source) ⊎ (HasRisen output.count)
-  pub fault_said : status ≡ 6 → WhereTold input (λ bytes. Says output (text_of (calc_text bytes) ∷ []) (no_memory ∷ []) port_fault)
-  pub memory_said : status ≡ 7 → WhereTold input (λ bytes. Says output (text_of (calc_text bytes) ∷ []) [] no_memory)
+  pub refused_only : WhereTold input (λ told. (why : Why) → has told ≡ Some (Err why) → ¬ (HasRisen port) →
+      (status ≡ refusal) ⊎ (status ≡ 7) ⊎ ((status ≡ 6) × HasRisen output.count))
+  pub faulted : status ≡ 6 → (HasRisen port) ⊎ (HasRisen output.count)
+  pub fault_said : status ≡ 6 → WhereTold input (λ told. Says output (text_of (has told) ∷ []) (no_memory ∷ []) port_fault)
+  pub memory_said : status ≡ 7 → WhereTold input (λ told. Says output (text_of (has told) ∷ []) [] no_memory)
   -- a good input over good ports is answered, unless memory was wanting
-  pub complete : WhereTold input (λ bytes. (text : List ℕ) → calc_text bytes ≡ Ok text → ¬ (HasRisen source) → ¬ (HasRisen output.count) →
+  pub complete : WhereTold input (λ told. (text : List ℕ) → has told ≡ Some (Ok text) → ¬ (HasRisen port) → ¬ (HasRisen output.count) →
       (status ≡ 0) ⊎ (status ≡ 7))
+
+-- what the bytes of an input have
+abbrev pub calc_of : List ℕ → Option (Result (List ℕ) Refused)
+calc_of bytes = Some (calc_text bytes)
+
+-- `calc` on what was left of the input
+abbrev pub CalcRun : Option (List ℕ) → Count → Output → ℕ → Type 0
+CalcRun input source output status = CommandRun 4 refusal_text calc_of input source output status
+
+-- `table` on the files of the folder
+abbrev pub TableRun : Option (List File) → Count → Output → ℕ → Type 0
+TableRun files folder output status = CommandRun 2 site_refused_text table_of files folder output status
 
 -- An answer was put, or the output failed and it was said.
 pub record Delivers (output : Output) (text : List ℕ) (status : ℕ) : Type 0 where
@@ -70,20 +87,21 @@ pub record LacksMemory (output : Output) (status : ℕ) : Type 0 where
   pub memory_said : status ≡ 7 → (text : List ℕ) → Says output (text ∷ []) [] no_memory
 
 -- A refusal was said, or want of memory was.
-pub record Refuses (output : Output) (why : Refused) (status : ℕ) : Type 0 where
-  pub statuses : (status ≡ 4) ⊎ LacksMemory output status
-  pub said : status ≡ 4 → Says output [] [] (refusal_text why)
+pub record Refuses (output : Output) (refusal : ℕ) (text : List ℕ) (status : ℕ) : Type 0 where
+  pub statuses : (status ≡ refusal) ⊎ LacksMemory output status
+  pub said : status ≡ refusal → Says output [] [] text
 
--- What `calc` does with the bytes that it read.
-pub record AnswersBytes (bytes : List ℕ) (output : Output) (status : ℕ) : Type 0 where
-  pub statuses : (status ≡ 0) ⊎ (status ≡ 4) ⊎ (status ≡ 6) ⊎ (status ≡ 7)
-  pub done : status ≡ 0 → (text : List ℕ) × (calc_text bytes ≡ Ok text) × Adds output.old output.new text
-  pub refused : status ≡ 4 → (why : Refused) × (calc_text bytes ≡ Err why) × Says output [] [] (refusal_text why)
-  pub refused_only : (why : Refused) → calc_text bytes ≡ Err why → (status ≡ 4) ⊎ (status ≡ 7) ⊎ ((status ≡ 6) × HasRisen output.count)
+-- What a command does with what its input has.
+pub record AnswersInput {Why : Type 0} (refusal : ℕ) (says : Why → List ℕ) (has : Option (Result (List ℕ) Why)) (output : Output)
+    (status : ℕ) : Type 0 where
+  pub statuses : (status ≡ 0) ⊎ (status ≡ refusal) ⊎ (status ≡ 6) ⊎ (status ≡ 7)
+  pub done : status ≡ 0 → (text : List ℕ) × (has ≡ Some (Ok text)) × Adds output.old output.new text
+  pub refused : status ≡ refusal → (why : Why) × (has ≡ Some (Err why)) × Says output [] [] (says why)
+  pub refused_only : (why : Why) → has ≡ Some (Err why) → (status ≡ refusal) ⊎ (status ≡ 7) ⊎ ((status ≡ 6) × HasRisen output.count)
   pub faulted : status ≡ 6 → HasRisen output.count
-  pub fault_said : status ≡ 6 → Says output (text_of (calc_text bytes) ∷ []) (no_memory ∷ []) port_fault
-  pub memory_said : status ≡ 7 → Says output (text_of (calc_text bytes) ∷ []) [] no_memory
-  pub complete : (text : List ℕ) → calc_text bytes ≡ Ok text → ¬ (HasRisen output.count) → (status ≡ 0) ⊎ (status ≡ 7)
+  pub fault_said : status ≡ 6 → Says output (text_of has ∷ []) (no_memory ∷ []) port_fault
+  pub memory_said : status ≡ 7 → Says output (text_of has ∷ []) [] no_memory
+  pub complete : (text : List ℕ) → has ≡ Some (Ok text) → ¬ (HasRisen output.count) → (status ≡ 0) ⊎ (status ≡ 7)
 
 -- an output by what it told and its count, before and after
 abbrev pub output_of : Option (List ℕ) → Option (List ℕ) → ℕ → ℕ → Output

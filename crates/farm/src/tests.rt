@@ -1,7 +1,8 @@
 use crate::calc::LIMIT;
 use crate::program::lack_memory;
-use crate::run;
-use farm_ports::{Gather, Script};
+use crate::{places, run};
+use farm_fixed::NoMemory;
+use farm_ports::{Files, Gather, Script};
 use std::alloc::Global;
 use std::test::Fail;
 
@@ -16,6 +17,10 @@ const NEGATIVE: &str = "input refused at line 1: Negative\n";
 const SECOND: &str = "input refused at line 2: form\n";
 
 const FAULT: &str = "port fault\n";
+
+// A line of observed volumes behind the first.
+const SECOND_LINE: &str =
+    "\nvolumes 12345000 45000 bare 25.00 33.00 15.00 112 0 850.0 0.99150 0.250\n";
 
 // A line of observed volumes, up to the fields that the cases change.
 const BARE: &str = " bare 25.00 33.00 15.00 112 ";
@@ -57,7 +62,8 @@ fn answer(
     }
     let mut source = Script::new(alloc, pieces, Vec::from_slice(alloc, &[bad_take])?)?;
     let mut sink = Gather::new(alloc, fails)?;
-    let status = run(alloc, &owned, &mut source, &mut sink);
+    let mut folder = Files::new(alloc, Vec::new(alloc), Vec::new(alloc))?;
+    let status = run(alloc, &owned, &mut source, &mut sink, &mut folder);
     Ok((status, Vec::from_slice(alloc, sink.bytes())?))
 }
 
@@ -223,6 +229,13 @@ fn calc_over_ports_that_fail(rt: HostRuntime) -> Result<(), Fail> {
         ("", good, 0, 0, 1, USAGE),
         ("calc x", good, 0, 0, 1, USAGE),
         ("table", good, 0, 0, 1, USAGE),
+        ("table --site", good, 0, 0, 1, USAGE),
+        ("table --site=", good, 0, 0, 1, USAGE),
+        ("table --site -d", good, 0, 0, 1, USAGE),
+        ("table --site=-d", good, 0, 0, 1, USAGE),
+        ("table --site d d", good, 0, 0, 1, USAGE),
+        ("table d", good, 0, 0, 1, USAGE),
+        ("calc --site d", good, 0, 0, 1, USAGE),
     ];
     for (words, input, bad_take, bad_puts, want, text) in cases {
         let (status, bytes) = answer(rt.alloc(), words, input, bad_take, bad_puts)?;
@@ -264,6 +277,176 @@ fn want_of_memory_is_said(rt: HostRuntime) -> Result<(), Fail> {
         let mut sink = Gather::new(rt.alloc(), fails)?;
         assert_eq!(rt; lack_memory(&mut sink), want);
         assert_eq!(rt; sink.bytes(), text.as_bytes());
+    }
+    Ok(())
+}
+
+// The site file of six tanks, which all have one capacity table.
+fn site_text(alloc: Global) -> Result<String, Fail> {
+    let mut text = String::from_str(alloc, TOP)?;
+    for tank in 101..=106 {
+        let product = if tank == 105 { 2 } else { 1 };
+        let (litres, kg) = match tank {
+            101 => (8_000_000, 6_800_000),
+            102 => (5_000_000, 4_250_000),
+            _ => (0, 0),
+        };
+        let keys = format!(in alloc;
+            "[[tank]]\nnumber = {tank}\nproduct = {product}\nshell = \"insulated\"\ncoefficient = 112\nreference_temperature = \"15.00\"\nreference_height = 16000\ntable = \"rows.csv\"\nopening_litres = {litres}\nopening_kg = {kg}\n"
+        )?;
+        text.push_str(keys.as_str())?;
+    }
+    text.push_str("roof_kg = 85000\nroof_low = 1500\nroof_high = 1800\n")?;
+    Ok(text)
+}
+
+const TOP: &str =
+    "format = 1\nname = \"Rowsite\"\n[[product]]\nnumber = 1\nname = \"Product 1\"\nfactors = \"factors.csv\"\n[[product]]\nnumber = 2\nname = \"Product 2\"\nfactors = \"factors.csv\"\n[[party]]\nnumber = 7\nname = \"Party 7\"\n[[party]]\nnumber = 8\nname = \"Party 8\"\n";
+
+const FACTORS: &str =
+    "density,temperature,factor\n840.0,15.00,1.00000\n840.0,20.00,0.99570\n840.0,25.00,0.99140\n850.0,15.00,1.00000\n850.0,20.00,0.99580\n850.0,25.00,0.99150\n860.0,15.00,1.00000\n860.0,20.00,0.99590\n860.0,25.00,0.99160\n";
+
+// The lines of 1,501 rows, ten thousand litres apart, under a first line.
+fn rows_text(alloc: Global, first: &str, parted: &str) -> Result<String, Fail> {
+    let mut text = String::from_str(alloc, first)?;
+    for row in 0..1_501_u32 {
+        let line = format!(in alloc; "{}{parted}{}\n", 10 * row, 10_000 * row)?;
+        text.push_str(line.as_str())?;
+    }
+    Ok(text)
+}
+
+fn file(alloc: Global, name: &str, text: &str) -> Result<(String, Vec<u8>), Fail> {
+    Ok((
+        String::from_str(alloc, name)?,
+        Vec::from_slice(alloc, text.as_bytes())?,
+    ))
+}
+
+// What `table` answers on a site of which one text is replaced by another: its status, and the bytes that were put. So many
+// reads and puts fail at first.
+fn table_answer(
+    alloc: Global,
+    old: &str,
+    new: &str,
+    bad_reads: u64,
+    bad_puts: u64,
+) -> Result<(u8, Vec<u8>), Fail> {
+    let mut files = Vec::new(alloc);
+    let site = site_text(alloc)?;
+    let rows = rows_text(alloc, "mm,litres\n", ",")?;
+    for (name, text) in [
+        ("site.toml", site.as_str()),
+        ("rows.csv", rows.as_str()),
+        ("factors.csv", FACTORS),
+    ] {
+        let text = text.replacen(alloc, old, new, 1)?;
+        files.push(file(alloc, name, text.as_str())?)?;
+    }
+    let words = vec![in alloc;
+        String::from_str(alloc, "table")?,
+        String::from_str(alloc, "--site=d")?,
+    ]?;
+    let mut source = Script::new(alloc, Vec::new(alloc), Vec::new(alloc))?;
+    let mut sink = Gather::new(alloc, first_calls(alloc, bad_puts)?)?;
+    let mut folder = Files::new(alloc, files, first_calls(alloc, bad_reads)?)?;
+    let status = run(alloc, &words, &mut source, &mut sink, &mut folder);
+    Ok((status, Vec::from_slice(alloc, sink.bytes())?))
+}
+
+// The numbers of so many calls, from the first.
+fn first_calls(alloc: Global, count: u64) -> Result<Vec<u64>, Fail> {
+    let mut calls = Vec::new(alloc);
+    for call in 1..=count.min(9) {
+        calls.push(call)?;
+    }
+    Ok(calls)
+}
+
+#[test]
+fn table_prints_every_tank(rt: HostRuntime) -> Result<(), Fail> {
+    let alloc = rt.alloc();
+    let mut want = String::new(alloc);
+    for tank in 101..=106 {
+        let first = format!(in alloc; "tank {tank}\n")?;
+        want.push_str(rows_text(alloc, first.as_str(), " ")?.as_str())?;
+    }
+    let (status, bytes) = table_answer(alloc, "x", "x", 0, 0)?;
+    assert_eq!(rt; status, 0);
+    assert!(rt; bytes.as_slice() == want.as_bytes());
+    Ok(())
+}
+
+#[test]
+fn site_refusals(rt: HostRuntime) -> Result<(), Fail> {
+    let rounding =
+        "name = \"Rowsite\"\nrounding = [\"3 half\", \"5 half\", \"1 half\", \"1 half\", \"1 half\", \"1 half\", \"1 half\", \"1 half\", \"1 half\", \"1 half\", \"1 half\", \"1 half\"]";
+    let cases = [
+        (
+            "number = 102\nproduct = 1",
+            "number = 102\nproduct = 9",
+            0,
+            0,
+            2,
+            "site refused: code 5 item 2 detail 0\n",
+        ),
+        (
+            "860.0,25.00,0.99160\n",
+            "",
+            0,
+            0,
+            2,
+            "site refused: code 8 item 1 detail 9\n",
+        ),
+        (
+            "coefficient = 112\n",
+            "coefficient = 112.0\n",
+            0,
+            0,
+            2,
+            "site refused: code 2 item 1 detail 0\n",
+        ),
+        (
+            "name = \"Rowsite\"",
+            rounding,
+            0,
+            0,
+            2,
+            "site refused: code 3 item 0 detail 0\n",
+        ),
+        ("\"factors.csv\"", "\"no.csv\"", 0, 0, 6, FAULT),
+        ("x", "x", 1, 0, 6, FAULT),
+        ("product = 1", "product = 9", 0, 1, 2, ""),
+        ("x", "x", 0, 1, 6, FAULT),
+        ("x", "x", 0, 2, 6, ""),
+    ];
+    for (old, new, bad_reads, bad_puts, want, text) in cases {
+        let (status, bytes) = table_answer(rt.alloc(), old, new, bad_reads, bad_puts)?;
+        assert_eq!(rt; status, want, "with {new:?}");
+        assert_eq!(rt; bytes.as_slice(), text.as_bytes(), "with {new:?}");
+    }
+    Ok(())
+}
+
+#[test]
+fn places_of_words(rt: HostRuntime) -> Result<(), Fail> {
+    let alloc = rt.alloc();
+    for (words, want) in [
+        ("table --site d", "d"),
+        ("table --site=d/e", "d/e"),
+        ("table --site -d", ""),
+        ("calc", ""),
+        ("", ""),
+    ] {
+        let mut owned = Vec::new(alloc);
+        for word in words.split_whitespace() {
+            owned.push(String::from_str(alloc, word)?)?;
+        }
+        let Some((site, journal)) = places(alloc, &owned) else {
+            return Err(Fail::from(NoMemory));
+        };
+        assert_eq!(rt; site.as_str(), want, "{words}");
+        assert_eq!(rt; journal.as_str(), "", "{words}");
     }
     Ok(())
 }

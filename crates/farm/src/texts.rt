@@ -2,10 +2,12 @@
 
 ghost use Rattle.std.specs.Prelude.{◌≡◌, ◌++◌, OnOk, IfOk};
 ghost use Rattle.farm.specs.Calc.{figure_line, figures_text};
+ghost use Rattle.farm.specs.Issue.{site_refused_text};
 ghost use Rattle.farm.specs.Texts.{cause_word, no_memory, port_fault, refusal_text, usage_line};
 
 use crate::refusal::{Cause, Refused};
 use farm_fixed::{ChainRule, NoMemory, Quantities, Quantity, Unit};
+use farm_site::SiteFault;
 use itoa::Buffer;
 use std::alloc::Global;
 
@@ -51,6 +53,22 @@ fn write_figure<U: Unit>(
     figure.write(out)?;
     out.extend_from_slice(b"\n")?;
     Ok(())
+}
+
+/// The line of a site that its folder doesn't describe.
+#[tactic(auto, unfolding(crate::specs::Issue::site_refused_text))]
+pub fn site_refused_text(alloc: Global, fault: SiteFault) -> Result<Vec<u8>, NoMemory>
+    ensures { IfOk result (λ text. text.items ≡ site_refused_text fault) }
+{
+    let mut number = Buffer::new();
+    let mut text = Vec::from_slice(alloc, b"site refused: code ")?;
+    text.extend_from_slice(number.format(fault.code).as_bytes())?;
+    text.extend_from_slice(b" item ")?;
+    text.extend_from_slice(number.format(fault.item).as_bytes())?;
+    text.extend_from_slice(b" detail ")?;
+    text.extend_from_slice(number.format(fault.detail).as_bytes())?;
+    text.extend_from_slice(b"\n")?;
+    Ok(text)
 }
 
 /// The line of a refusal.
