@@ -323,6 +323,59 @@ fn file(alloc: Global, name: &str, text: &str) -> Result<(String, Vec<u8>), Fail
     ))
 }
 
+// A file of the site, one text in it replaced by another.
+fn replaced(
+    alloc: Global,
+    name: &str,
+    text: &str,
+    old: &str,
+    new: &str,
+) -> Result<(String, Vec<u8>), Fail> {
+    let text = text.replacen(alloc, old, new, 1)?;
+    file(alloc, name, text.as_str())
+}
+
+// The folder of the site, one text in its files replaced by another. So many reads fail at first.
+fn site_folder(alloc: Global, old: &str, new: &str, bad_reads: u64) -> Result<Files, Fail> {
+    let mut files = Vec::new(alloc);
+    files.push(replaced(alloc, "factors.csv", FACTORS, old, new)?)?;
+    add_rows(&mut files, alloc)?;
+    add_site(&mut files, alloc, old, new)?;
+    Ok(Files::new(alloc, files, first_calls(alloc, bad_reads)?)?)
+}
+
+fn add_rows(files: &mut Vec<(String, Vec<u8>)>, alloc: Global) -> Result<(), Fail> {
+    let rows = rows_text(alloc, "mm,litres\n", ",")?;
+    files.push(file(alloc, "rows.csv", rows.as_str())?)?;
+    Ok(())
+}
+
+fn add_site(
+    files: &mut Vec<(String, Vec<u8>)>,
+    alloc: Global,
+    old: &str,
+    new: &str,
+) -> Result<(), Fail> {
+    let site = site_text(alloc)?;
+    files.push(replaced(alloc, "site.toml", site.as_str(), old, new)?)?;
+    Ok(())
+}
+
+// The words `table --site=d`.
+fn table_words(alloc: Global) -> Result<Vec<String>, Fail> {
+    let mut words = Vec::new(alloc);
+    words.push(String::from_str(alloc, "table")?)?;
+    words.push(String::from_str(alloc, "--site=d")?)?;
+    Ok(words)
+}
+
+// Runs `table` over a folder and a sink, with an input that has nothing.
+fn run_table(alloc: Global, folder: &mut Files, sink: &mut Gather) -> Result<u8, Fail> {
+    let words = table_words(alloc)?;
+    let mut source = Script::new(alloc, Vec::new(alloc), Vec::new(alloc))?;
+    Ok(run(alloc, &words, &mut source, sink, folder))
+}
+
 // What `table` answers on a site of which one text is replaced by another: its status, and the bytes that were put. So many
 // reads and puts fail at first.
 fn table_answer(
@@ -332,25 +385,9 @@ fn table_answer(
     bad_reads: u64,
     bad_puts: u64,
 ) -> Result<(u8, Vec<u8>), Fail> {
-    let mut files = Vec::new(alloc);
-    let site = site_text(alloc)?;
-    let rows = rows_text(alloc, "mm,litres\n", ",")?;
-    for (name, text) in [
-        ("site.toml", site.as_str()),
-        ("rows.csv", rows.as_str()),
-        ("factors.csv", FACTORS),
-    ] {
-        let text = text.replacen(alloc, old, new, 1)?;
-        files.push(file(alloc, name, text.as_str())?)?;
-    }
-    let words = vec![in alloc;
-        String::from_str(alloc, "table")?,
-        String::from_str(alloc, "--site=d")?,
-    ]?;
-    let mut source = Script::new(alloc, Vec::new(alloc), Vec::new(alloc))?;
     let mut sink = Gather::new(alloc, first_calls(alloc, bad_puts)?)?;
-    let mut folder = Files::new(alloc, files, first_calls(alloc, bad_reads)?)?;
-    let status = run(alloc, &words, &mut source, &mut sink, &mut folder);
+    let mut folder = site_folder(alloc, old, new, bad_reads)?;
+    let status = run_table(alloc, &mut folder, &mut sink)?;
     Ok((status, Vec::from_slice(alloc, sink.bytes())?))
 }
 
@@ -428,9 +465,20 @@ fn site_refusals(rt: HostRuntime) -> Result<(), Fail> {
     Ok(())
 }
 
+// The site folder of words that are parted by blanks.
+fn place_of(alloc: Global, words: &str) -> Result<String, Fail> {
+    let mut owned = Vec::new(alloc);
+    for word in words.split_whitespace() {
+        owned.push(String::from_str(alloc, word)?)?;
+    }
+    match places(alloc, &owned) {
+        Some((site, journal)) if journal.is_empty() => Ok(site),
+        _ => Err(Fail::from(NoMemory)),
+    }
+}
+
 #[test]
 fn places_of_words(rt: HostRuntime) -> Result<(), Fail> {
-    let alloc = rt.alloc();
     for (words, want) in [
         ("table --site d", "d"),
         ("table --site=d/e", "d/e"),
@@ -438,15 +486,8 @@ fn places_of_words(rt: HostRuntime) -> Result<(), Fail> {
         ("calc", ""),
         ("", ""),
     ] {
-        let mut owned = Vec::new(alloc);
-        for word in words.split_whitespace() {
-            owned.push(String::from_str(alloc, word)?)?;
-        }
-        let Some((site, journal)) = places(alloc, &owned) else {
-            return Err(Fail::from(NoMemory));
-        };
+        let site = place_of(rt.alloc(), words)?;
         assert_eq!(rt; site.as_str(), want, "{words}");
-        assert_eq!(rt; journal.as_str(), "", "{words}");
     }
     Ok(())
 }
