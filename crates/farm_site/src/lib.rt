@@ -26,3 +26,6 @@ pub use lists::{Lines, Parties, Products, Tanks};
 pub use name::Name;
 pub use records::{Party, Product, Tank};
 pub use site::Site;
+
+#[cfg(test)]
+mod tests;
