@@ -2,6 +2,7 @@ mod broken;
 mod limits;
 mod row_site;
 mod small_site;
+mod twice_broken;
 
 use super::*;
 use farm_fixed::{Quantity, Unit};

@@ -1,8 +1,7 @@
 //! Lists and files at the end of what they may be, and just beyond.
 
 use super::*;
-use crate::tests::broken::refused;
-use crate::tests::small_site::{FACTORS, FILES, TABLE, edited_folder, folder_with};
+use crate::tests::small_site::{FACTORS, FILES, TABLE, edited_folder, folder_with, refused};
 
 // A list of the site by its first item, what stands in front of it so many times, and the fault: that of the first of
 // these, which has no key, where the list may be as long.

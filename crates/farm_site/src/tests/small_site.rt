@@ -281,6 +281,20 @@ fn lines_are_read(rt: &impl Abort, lines: &[LineMap]) {
     }
 }
 
+/// The site with these edits has this fault.
+pub fn refused(
+    rt: &impl Abort,
+    alloc: Global,
+    edits: &[Edit<'_>],
+    fault: (u8, u32, u32),
+) -> Result<(), Fail> {
+    let (code, item, detail) = fault;
+    let mut folder = edited_folder(rt, alloc, edits)?;
+    let want = Some(fault_at(code, item, detail));
+    assert_eq!(rt; refusal(alloc, &mut folder), want, "at {edits:?}");
+    Ok(())
+}
+
 #[test]
 fn every_key_is_read(rt: HostRuntime) -> Result<(), Fail> {
     let site = shared(small_site(&rt, rt.alloc())?);
