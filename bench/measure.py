@@ -56,3 +56,4 @@ compare(
 print(f"memory of one line: {kilobytes(FARM, LINE)} KB, of the greatest input: {kilobytes(FARM, LEVELS)} KB")
 compare("the issued tables of 64 table files, awk", [*TABLE, f"{WORK}/tables"], ["awk", "-f", f"{TOP}/bench/rows.awk"], 40)
 compare("the issued tables of 64 strapping files, C", [*TABLE, f"{WORK}/strappings"], [f"{WORK}/strapped"], 40)
+print(f"a site with every list at its limit: {least([*TABLE, f'{WORK}/limits'], 3):.0f} ms, {kilobytes([*TABLE, f'{WORK}/limits'], '/dev/null')} KB")

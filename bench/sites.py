@@ -1,4 +1,5 @@
-"""Writes two sites of 64 tanks, each tank with 5,001 rows, into a folder: one of table files, one of strapping files."""
+"""Writes three sites of 64 tanks, each tank with 5,001 rows, into a folder: one of table files, one of strapping files, and
+one with every list at its limit: 16 products of 100,000 factors, 256 parties, 64 gauges."""
 
 import pathlib
 import sys
@@ -50,6 +51,30 @@ def write(folder, key, ending, text_of):
         (folder / f"tank{number}.{ending}").write_text(text_of(number))
 
 
+def limits(folder):
+    """The site with every list at its limit. Four lines have the 64 gauges."""
+    write(folder, "table", "csv", table)
+    rows = [f"{density:.1f},{temperature / 5:.2f},1.00000\n" for density in range(720, 820) for temperature in range(1_000)]
+    factors = "density,temperature,factor\n" + "".join(rows)
+    site = TOP
+    for number in range(1, 17):
+        (folder / f"factors{number}.csv").write_text(factors)
+    for number in range(2, 17):
+        site += f'\n[[product]]\nnumber = {number}\nname = "Product {number}"\nfactors = "factors{number}.csv"\n'
+    for number in range(1, 257):
+        site += f'\n[[party]]\nnumber = {number}\nname = "Party {number}"\n'
+    site += "".join(tank(number, "table", "csv") for number in TANKS)
+    for line in range(4):
+        site += f'\n[[line]]\nhost = "10.0.0.{line}"\nport = 502\n'
+        for gauge in range(16):
+            site += (
+                f"\n[[line.gauge]]\ntank = {16 * line + gauge + 1}\nunit = 1\nfunction = 4\nstart = 0\nquantity = 10\n"
+                "level = { offset = 0 }\ntemperature = { offset = 1 }\n"
+            )
+    (folder / "site.toml").write_text(site.replace('"factors.csv"', '"factors1.csv"'))
+
+
 work = pathlib.Path(sys.argv[1])
 write(work / "tables", "table", "csv", table)
 write(work / "strappings", "strapping", "toml", strapping)
+limits(work / "limits")
