@@ -2,7 +2,7 @@
 use Rattle.std.proofs.Common.{cond, count_by, false, Bor, map, ◌≤◌, ◌==◌, ◌≡◌, ◌⊎◌, inl, inr, ℕ, suc, ◌+◌, ◌<◌, List, ◌++◌, length, append-nil, length-append, true, nat_lt, Option, Some, None, Result, Ok, Err, IfOk, MatchResult, refl, sym, ap, subst, ◌∙◌, arith}
 use Rattle.std.proofs.lemmas.Bool.Decides.{leb_tells}
 use Rattle.farm_base.specs.Counts.{Count, HasRisen}
-use Rattle.farm_base.specs.Told.{WhereTold, Stream}
+use Rattle.farm_base.specs.Known.{WhereKnown, Stream}
 use Rattle.farm_ports.specs.Ports.{ReadsUpTo}
 use Rattle.farm.specs.declared.refusal.Cause.TheVariants.{Form}
 use Rattle.farm.specs.Line.{limit}
@@ -16,12 +16,12 @@ use Rattle.farm.specs.Runs.{Output, Puts, Delivers, Refuses, LacksMemory, Answer
 use Rattle.farm.proofs.Saying.{says_last}
 
 -- what holds of any input holds of one that is told
-pub where_told : {I : Type 0} (input : Option I) (P : I → Type 0) → ((told : I) → P told) → WhereTold input P
+pub where_told : {I : Type 0} (input : Option I) (P : I → Type 0) → ((told : I) → P told) → WhereKnown input P
 where_told None P holds = tt
 where_told (Some told) P holds = holds told
 
 -- what is told has what follows from it
-pub told_map : {I : Type 0} (input : Option I) (P Q : I → Type 0) → ((told : I) → P told → Q told) → WhereTold input P → WhereTold input Q
+pub told_map : {I : Type 0} (input : Option I) (P Q : I → Type 0) → ((told : I) → P told → Q told) → WhereKnown input P → WhereKnown input Q
 told_map None P Q follows holds = tt
 told_map (Some told) P Q follows holds = follows told holds
 
@@ -117,7 +117,7 @@ long_or_short n = elim (leb_tells (suc n) (limit + 1)) [ inl t ↦ inl (omega (a
 
 -- what was read answers as the whole input does
 read_enough : (old new : Option Stream) (bytes : List ℕ) → ReadsUpTo old new (limit + 1) bytes →
-    WhereTold (given old new) (λ input. calc_text input ≡ calc_text bytes)
+    WhereKnown (given old new) (λ input. calc_text input ≡ calc_text bytes)
 read_enough None None bytes reads = tt
 read_enough (Some old) None bytes reads = tt
 read_enough None (Some new) bytes reads = tt
@@ -132,7 +132,7 @@ read_enough (Some old) (Some new) bytes reads = elim (long_or_short (length byte
 -- the run, where what is known of the input is what it has
 pub of_known : {I Why : Type 0} (refusal : ℕ) (says : Why → List ℕ) (has : I → Option (Result (List ℕ) Why)) (input : Option I)
     (known : Option (Result (List ℕ) Why)) (port : Count) (output : Output) (status : ℕ) →
-    WhereTold input (λ told. has told ≡ known) → AnswersInput refusal says known output status → CommandRun refusal says has input port output status
+    WhereKnown input (λ told. has told ≡ known) → AnswersInput refusal says known output status → CommandRun refusal says has input port output status
 of_known refusal says has None known port output status same answers = record {
   statuses = answers.statuses;
   done = λ _. tt;
@@ -155,7 +155,7 @@ of_known refusal says has (Some told) known port output status same answers = re
 }
 
 -- what answers alike has the same
-had_alike : (input : Option (List ℕ)) (bytes : List ℕ) → WhereTold input (λ told. calc_text told ≡ calc_text bytes) → WhereTold input (λ told. calc_of told ≡ calc_of bytes)
+had_alike : (input : Option (List ℕ)) (bytes : List ℕ) → WhereKnown input (λ told. calc_text told ≡ calc_text bytes) → WhereKnown input (λ told. calc_of told ≡ calc_of bytes)
 had_alike None bytes same = tt
 had_alike (Some told) bytes same = ap Some same
 

@@ -2,8 +2,8 @@
 use Rattle.std.proofs.Common.{ℕ, ◌≤◌, List, [], ◌∷◌, ◌++◌, length, take, append-nil, Option, Result, Ok, Err, refl, sym, subst, arith}
 use Rattle.std.proofs.Math.Seq.{take-length}
 use Rattle.farm_base.specs.Counts.{Rose, HasCause}
-use Rattle.farm_base.specs.Told.{Adds, AddsAll, Fronts}
-use Rattle.farm_base.proofs.Telling.{additions_add_up}
+use Rattle.farm_base.specs.Known.{Adds, AddsAll, Fronts}
+use Rattle.farm_base.proofs.Additions.{additions_add_up}
 use Rattle.farm_ports.specs.Ports.{PutsAll}
 use Rattle.farm.specs.Runs.{Output, output_of, Puts, Says}
 

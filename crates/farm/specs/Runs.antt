@@ -1,7 +1,7 @@
 -- What a run of the program does, by the values that its ports tell and the counts of their faults.
 use Rattle.std.specs.Prelude.{◌≡◌, ◌⊎◌, ℕ, ◌≤◌, length, take, List, [], ◌∷◌, ◌++◌, Option, Some, None, Result, Ok, Err}
 use Rattle.farm_base.specs.Counts.{Count, HasRisen}
-use Rattle.farm_base.specs.Told.{WhereTold, Stream, Adds, AddsAll, AddsWhole}
+use Rattle.farm_base.specs.Known.{WhereKnown, Stream, Adds, AddsAll, AddsWhole}
 use Rattle.farm.specs.declared.refusal.Refused.{Refused}
 use Rattle.farm.specs.Calc.{calc_text}
 use Rattle.farm_ports.specs.Folders.{File}
@@ -47,17 +47,17 @@ pub record CommandRun {Input Why : Type 0} (refusal : ℕ) (says : Why → List 
     (input : Option Input) (port : Count) (output : Output) (status : ℕ) : Type 0 where
   pub statuses : (status ≡ 0) ⊎ (status ≡ refusal) ⊎ (status ≡ 6) ⊎ (status ≡ 7)
   -- the text was put whole
-  pub done : status ≡ 0 → WhereTold input (λ told. (text : List ℕ) × (has told ≡ Some (Ok text)) × Adds output.old output.new text)
+  pub done : status ≡ 0 → WhereKnown input (λ told. (text : List ℕ) × (has told ≡ Some (Ok text)) × Adds output.old output.new text)
   -- the input was refused, and it was said
-  pub refused : status ≡ refusal → WhereTold input (λ told. (why : Why) × (has told ≡ Some (Err why)) × Says output [] [] (says why))
+  pub refused : status ≡ refusal → WhereKnown input (λ told. (why : Why) × (has told ≡ Some (Err why)) × Says output [] [] (says why))
   -- an input that is to be refused is, unless it failed or memory was wanting
-  pub refused_only : WhereTold input (λ told. (why : Why) → has told ≡ Some (Err why) → ¬ (HasRisen port) →
+  pub refused_only : WhereKnown input (λ told. (why : Why) → has told ≡ Some (Err why) → ¬ (HasRisen port) →
       (status ≡ refusal) ⊎ (status ≡ 7) ⊎ ((status ≡ 6) × HasRisen output.count))
   pub faulted : status ≡ 6 → (HasRisen port) ⊎ (HasRisen output.count)
-  pub fault_said : status ≡ 6 → WhereTold input (λ told. Says output (text_of (has told) ∷ []) (no_memory ∷ []) port_fault)
-  pub memory_said : status ≡ 7 → WhereTold input (λ told. Says output (text_of (has told) ∷ []) [] no_memory)
+  pub fault_said : status ≡ 6 → WhereKnown input (λ told. Says output (text_of (has told) ∷ []) (no_memory ∷ []) port_fault)
+  pub memory_said : status ≡ 7 → WhereKnown input (λ told. Says output (text_of (has told) ∷ []) [] no_memory)
   -- a good input over good ports is answered, unless memory was wanting
-  pub complete : WhereTold input (λ told. (text : List ℕ) → has told ≡ Some (Ok text) → ¬ (HasRisen port) → ¬ (HasRisen output.count) →
+  pub complete : WhereKnown input (λ told. (text : List ℕ) → has told ≡ Some (Ok text) → ¬ (HasRisen port) → ¬ (HasRisen output.count) →
       (status ≡ 0) ⊎ (status ≡ 7))
 
 -- what the bytes of an input have

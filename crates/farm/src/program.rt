@@ -1,7 +1,7 @@
 //! What the program does: the run of each command over the ports that it is handed.
 
 ghost use Rattle.std.specs.Prelude.{◌≡◌, ◌≤◌, ◌⊎◌, map, string_bytes, None, Some, MatchResult};
-ghost use Rattle.farm_base.specs.Told.{Stays};
+ghost use Rattle.farm_base.specs.Known.{Stays};
 ghost use Rattle.farm_report.specs.Issued.{issued_text};
 ghost use Rattle.farm.specs.Words.{command_of};
 ghost use Rattle.farm.specs.Texts.{port_fault, refusal_text};

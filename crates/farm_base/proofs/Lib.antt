@@ -1,2 +1,2 @@
-pub mod Counting
-pub mod Telling
+pub mod Rises
+pub mod Additions

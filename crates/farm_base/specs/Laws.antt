@@ -1,7 +1,7 @@
 -- What the words of this crate have in common, stated for every value.
 use Rattle.std.specs.Prelude.{ℕ, ◌+◌, ◌≤◌, List, ◌++◌, Option}
 use Rattle.farm_base.specs.Counts.{RoseBy}
-use Rattle.farm_base.specs.Told.{Stream, Adds, Takes}
+use Rattle.farm_base.specs.Known.{Stream, Adds, Takes}
 
 -- two rises after one another are one rise by their sum
 abbrev pub CountsAddUp : Type 0

@@ -1,4 +1,4 @@
 pub mod Counts
-pub mod Told
+pub mod Known
 pub mod Appended
 pub mod Laws

@@ -2,8 +2,8 @@
 use Rattle.std.proofs.Common.{◌≡◌, ℕ, ◌+◌, ◌-◌, List, ◌++◌, length, take, drop, sym, ap, subst, ◌∙◌, Option, Result, Ok, Err, OnErr}
 use Rattle.std.proofs.Math.Seq.{take-add}
 use Rattle.std.proofs.lemmas.List.{take_rest}
-use Rattle.farm_base.specs.Told.{Adds}
-use Rattle.farm_base.proofs.Telling.{additions_add_up}
+use Rattle.farm_base.specs.Known.{Adds}
+use Rattle.farm_base.proofs.Additions.{additions_add_up}
 
 -- a front of a text, and then a front of its rest, are a front of it
 fronts_join : (text : List ℕ) (done count : ℕ) →

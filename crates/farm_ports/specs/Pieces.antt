@@ -1,7 +1,7 @@
 -- Bytes that come in pieces, one after another.
 use Rattle.std.specs.Prelude.{ℕ, ◌+◌, List, [], ◌∷◌, length, take, drop, min, nat_lt, if◌then◌else◌, Vec}
 use Rattle.std.specs.declared.alloc.Global.{Global}
-use Rattle.farm_base.specs.Told.{Stream}
+use Rattle.farm_base.specs.Known.{Stream}
 
 -- where each piece ends, if the first begins at this offset
 abbrev pub ends_from : ℕ → List (Vec ℕ Global) → List ℕ

@@ -1,12 +1,12 @@
 -- What a call on a source or a sink does to the bytes that the object tells.
 use Rattle.std.specs.Prelude.{◌≡◌, ℕ, ◌<◌, ◌≤◌, List, [], ◌++◌, length, take, Option, Result, Ok, Err}
-use Rattle.farm_base.specs.Told.{Adds, Stream, Takes, WhereTold}
+use Rattle.farm_base.specs.Known.{Adds, Stream, Takes, WhereKnown}
 
 -- A take gave so many bytes off the front of what was left; none for a buffer with room only at the end.
 pub record TakesFront (old new : Option Stream) (buffer : List ℕ) (count : ℕ) : Type 0 where
   pub within : count ≤ length buffer
   pub moved : Takes old new (take count buffer)
-  pub at_end : count ≡ 0 → 0 < length buffer → WhereTold new (λ stream. stream.left ≡ [])
+  pub at_end : count ≡ 0 → 0 < length buffer → WhereKnown new (λ stream. stream.left ≡ [])
 
 -- a take that failed took nothing
 abbrev pub TakeGives : {E : Type 0} → Option Stream → Option Stream → List ℕ → Result ℕ E → Type 0
@@ -33,7 +33,7 @@ PutsAll old new text (Err e) = (n : ℕ) × (n ≤ length text) × Adds old new 
 pub record ReadsUpTo (old new : Option Stream) (most : ℕ) (bytes : List ℕ) : Type 0 where
   pub within : length bytes ≤ most
   pub moved : Takes old new bytes
-  pub to_end : length bytes < most → WhereTold new (λ stream. stream.left ≡ [])
+  pub to_end : length bytes < most → WhereKnown new (λ stream. stream.left ≡ [])
 
 -- One read moved so many bytes to the end of a list that has `most` at most; none of them is the end.
 pub record ReadsOn (old new : Option Stream) (before after : List ℕ) (most count : ℕ) : Type 0 where
@@ -42,4 +42,4 @@ pub record ReadsOn (old new : Option Stream) (before after : List ℕ) (most cou
   pub added : after ≡ before ++ chunk
   pub moved : Takes old new chunk
   pub within : length after ≤ most
-  pub at_end : count ≡ 0 → WhereTold new (λ stream. stream.left ≡ [])
+  pub at_end : count ≡ 0 → WhereKnown new (λ stream. stream.left ≡ [])

@@ -2,7 +2,7 @@
 
 ghost use Rattle.std.specs.Prelude.{◌≡◌, ℕ, ◌<◌, ◌≤◌, List, vec_len, IfOk, OnErr};
 ghost use Rattle.farm_base.specs.Counts.{HasCause, Rose};
-ghost use Rattle.farm_base.specs.Told.{Takes};
+ghost use Rattle.farm_base.specs.Known.{Takes};
 ghost use Rattle.farm_ports.specs.Ports.{PutsAll, ReadsOn, ReadsUpTo};
 
 use crate::{Failed, PortFault, Sink, Source};

@@ -2,7 +2,7 @@
 
 ghost use Rattle.std.specs.Prelude.{◌≡◌, ◌≢◌, ◌≤◌, length, IfOk, None};
 ghost use Rattle.farm_base.specs.Counts.{Rose};
-ghost use Rattle.farm_base.specs.Told.{Stays, WhereTold};
+ghost use Rattle.farm_base.specs.Known.{Stays, WhereKnown};
 ghost use Rattle.farm_ports.specs.Folders.{ReadsFile};
 
 use crate::{Failed, Folder, FolderFault, PortFault, StdSource, read_up_to};
@@ -48,7 +48,7 @@ impl<R: Files> Folder for DirFolder<R> {
     ghost faults = { λ folder. folder.faults };
 
     fn read(&mut self, alloc: Global, name: &str, most: usize) -> Result<Vec<u8>, FolderFault>
-        ensures bytes { IfOk result (λ bytes. WhereTold (⟦<DirFolder<R> as Folder>⟧.files self.new) (ReadsFile name.now most bytes.items)) }
+        ensures bytes { IfOk result (λ bytes. WhereKnown (⟦<DirFolder<R> as Folder>⟧.files self.new) (ReadsFile name.now most bytes.items)) }
         ensures files { Stays (⟦<DirFolder<R> as Folder>⟧.files self.old) (⟦<DirFolder<R> as Folder>⟧.files self.new) }
         ensures later { ⟦<DirFolder<R> as Folder>⟧.faults self.old ≤ ⟦<DirFolder<R> as Folder>⟧.faults self.new }
         ensures failed { result ≡ Err PortFault.Failed → Rose (⟦<DirFolder<R> as Folder>⟧.faults self.old) (⟦<DirFolder<R> as Folder>⟧.faults self.new) }

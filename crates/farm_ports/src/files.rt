@@ -2,7 +2,7 @@
 
 ghost use Rattle.std.specs.Prelude.{◌≡◌, ◌≢◌, ◌↔◌, ◌≤◌, ◌⊎◌, IfOk, IsOk, option_map, Some, None};
 ghost use Rattle.farm_base.specs.Counts.{Rose};
-ghost use Rattle.farm_base.specs.Told.{Stays, WhereTold};
+ghost use Rattle.farm_base.specs.Known.{Stays, WhereKnown};
 ghost use Rattle.farm_ports.specs.Folders.{ReadsFile, file_named, files_of};
 
 use crate::plan::Plan;
@@ -53,7 +53,7 @@ impl Folder for Files {
     ghost faults = { λ folder. folder.plan.faults };
 
     fn read(&mut self, alloc: Global, name: &str, most: usize) -> Result<Vec<u8>, FolderFault>
-        ensures bytes { IfOk result (λ bytes. WhereTold (⟦<Files as Folder>⟧.files self.new) (ReadsFile name.now most bytes.items)) }
+        ensures bytes { IfOk result (λ bytes. WhereKnown (⟦<Files as Folder>⟧.files self.new) (ReadsFile name.now most bytes.items)) }
         ensures files { Stays (⟦<Files as Folder>⟧.files self.old) (⟦<Files as Folder>⟧.files self.new) }
         ensures later { ⟦<Files as Folder>⟧.faults self.old ≤ ⟦<Files as Folder>⟧.faults self.new }
         ensures failed { result ≡ Err PortFault.Failed → Rose (⟦<Files as Folder>⟧.faults self.old) (⟦<Files as Folder>⟧.faults self.new) }

@@ -2,7 +2,7 @@
 
 ghost use Rattle.std.specs.Prelude.{◌≡◌, ◌≤◌, ℕ, List, Option, IfOk};
 ghost use Rattle.farm_base.specs.Counts.{Rose};
-ghost use Rattle.farm_base.specs.Told.{Stays, WhereTold};
+ghost use Rattle.farm_base.specs.Known.{Stays, WhereKnown};
 ghost use Rattle.farm_ports.specs.Folders.{File, ReadsFile};
 
 use crate::PortFault;
@@ -23,7 +23,7 @@ pub trait Folder {
     ///
     /// A missing file is a fault. Whatever is answered, the files stay as they were.
     fn read(&mut self, alloc: Global, name: &str, most: usize) -> Result<Vec<u8>, FolderFault>
-        ensures bytes { IfOk result (λ bytes. WhereTold (Self.files self.new) (ReadsFile name.now most bytes.items)) }
+        ensures bytes { IfOk result (λ bytes. WhereKnown (Self.files self.new) (ReadsFile name.now most bytes.items)) }
         ensures files { Stays (Self.files self.old) (Self.files self.new) }
         ensures later { Self.faults self.old ≤ Self.faults self.new }
         ensures failed { result ≡ Err PortFault.Failed → Rose (Self.faults self.old) (Self.faults self.new) };

@@ -1,6 +1,6 @@
 ghost use Rattle.std.specs.Prelude.{◌≡◌, ◌≤◌, ℕ, List, Option};
 ghost use Rattle.farm_base.specs.Counts.{HasCause, Rose};
-ghost use Rattle.farm_base.specs.Told.{Stream};
+ghost use Rattle.farm_base.specs.Known.{Stream};
 ghost use Rattle.farm_ports.specs.Ports.{PutGives, TakeGives};
 
 use thiserror::Error;

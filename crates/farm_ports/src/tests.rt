@@ -1,5 +1,5 @@
 ghost use Rattle.std.specs.Prelude.{ℕ, List, IfOk, OnOk};
-ghost use Rattle.farm_base.specs.Told.{Adds, Takes, WhereTold};
+ghost use Rattle.farm_base.specs.Known.{Adds, Takes, WhereKnown};
 ghost use Rattle.farm_ports.specs.Folders.{ReadsFile};
 
 use super::*;
@@ -137,7 +137,7 @@ fn a_writer_is_a_sink_until_it_is_full(rt: HostRuntime) {
 
 // The first four bytes of a file.
 fn first_four<F: Folder>(folder: &mut F, alloc: Global, name: &str) -> Result<Vec<u8>, FolderFault>
-    ensures told { IfOk result (λ bytes. WhereTold (F.files folder.new) (ReadsFile name.now 4 bytes.items)) }
+    ensures told { IfOk result (λ bytes. WhereKnown (F.files folder.new) (ReadsFile name.now 4 bytes.items)) }
 {
     folder.read(alloc, name, 4)
 }

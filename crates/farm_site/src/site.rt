@@ -3,7 +3,7 @@
 ghost use Rattle.std.specs.Prelude.{◌≡◌, ◌≤◌, ◌↔◌, List, map, option_map, MatchResult, IfSome, IsNone, IsFalse, IsTrue, Ok, Err, Some};
 ghost use Rattle.toml.specs.View.{view};
 ghost use Rattle.farm_base.specs.Counts.{Rose};
-ghost use Rattle.farm_base.specs.Told.{Stays, WhereTold};
+ghost use Rattle.farm_base.specs.Known.{Stays, WhereKnown};
 ghost use Rattle.farm_ports.specs.Folders.{File};
 ghost use Rattle.farm_site.specs.Described.{site_of_files, site_of_keys, tank_numbered, top_of_files};
 ghost use Rattle.farm_site.specs.Facts.{are_parties, are_products, are_tanks};
@@ -56,7 +56,7 @@ impl Site {
     /// products, parties, tanks and lines; each item whole in turn, its keys and then its file. `Folder` comes only where the
     /// folder failed, and `NoMemory` at any time. What is said stands on the files that the folder still tells at the end.
     pub fn read<F: Folder>(alloc: Global, folder: &mut F) -> Result<Site, SiteReadFault>
-        ensures site { WhereTold (F.files folder.new) (λ files. MatchResult result
+        ensures site { WhereKnown (F.files folder.new) (λ files. MatchResult result
             (λ site. site_of_files files ≡ Ok (record {
               name = site.name;
               rounds = site.rounds;

@@ -1,5 +1,5 @@
-use Rattle.farm_base.proofs.Counting.{rises_add_up}
-use Rattle.farm_base.proofs.Telling.{additions_add_up, takings_add_up}
+use Rattle.farm_base.proofs.Rises.{rises_add_up}
+use Rattle.farm_base.proofs.Additions.{additions_add_up, takings_add_up}
 use Rattle.farm_base.proofs.shared_laws.laws.Goals as goal
 
 pub returns-clause-counts_add_up : goal.returns-clause-counts_add_up

@@ -1,5 +1,5 @@
 use Rattle.std.proofs.Common.{◌≡◌, ◌≤◌, ◌-◌, length, take}
-use Rattle.farm_base.specs.Told.{Adds}
+use Rattle.farm_base.specs.Known.{Adds}
 use Rattle.farm_ports.proofs.copying.put_all.Given as goal
 
 abbrev pub invariant-loop-done : goal.invariant-loop-done

@@ -1,5 +1,5 @@
 use Rattle.std.proofs.Common.{◌++◌}
-use Rattle.farm_base.proofs.Telling.{takings_add_up}
+use Rattle.farm_base.proofs.Additions.{takings_add_up}
 use Rattle.farm_ports.proofs.Parts.{on_err}
 use Rattle.farm_ports.proofs.copying.read_up_to.Goals as goal
 

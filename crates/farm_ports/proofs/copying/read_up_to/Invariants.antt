@@ -1,5 +1,5 @@
 use Rattle.std.proofs.Common.{◌≡◌, ◌≤◌, ◌-◌, vec_len, length}
-use Rattle.farm_base.specs.Told.{Takes}
+use Rattle.farm_base.specs.Known.{Takes}
 use Rattle.farm_ports.proofs.copying.read_up_to.Given as goal
 
 abbrev pub invariant-loop-source : goal.invariant-loop-source

@@ -2,9 +2,9 @@
 use Rattle.std.specs.Prelude.{◌≡◌, ℕ, ◌≤◌, List, [], ◌∷◌, ◌++◌, length, take, Option, Some, None}
 
 -- holds of the value where one is told
-abbrev pub WhereTold : {A : Type 0} → Option A → (A → Type 0) → Type 0
-WhereTold None P = Unit {0}
-WhereTold (Some x) P = P x
+abbrev pub WhereKnown : {A : Type 0} → Option A → (A → Type 0) → Type 0
+WhereKnown None P = Unit {0}
+WhereKnown (Some x) P = P x
 
 -- what is told afterwards is what was told before
 abbrev pub Stays : {A : Type 0} → Option A → Option A → Type 0
