@@ -1,5 +1,5 @@
 -- Counts of faults. An object of the outside counts its faults; the count never falls and stands still at the last u64.
-use Rattle.std.specs.Prelude.{ℕ, ◌+◌, ◌-◌, ◌^◌, ◌≤◌, min, Result, OnErr}
+use Rattle.std.specs.Prelude.{◌≡◌, ℕ, ◌+◌, ◌-◌, ◌^◌, ◌≤◌, min, Result, OnErr}
 
 -- the count is greater by at least n, or stands at its last value
 abbrev pub RoseBy : ℕ → ℕ → ℕ → Type 0
@@ -22,3 +22,7 @@ pub record Count : Type 0 where
 -- the count rose in the call
 abbrev pub HasRisen : Count → Type 0
 HasRisen count = Rose count.before count.now
+
+-- the count didn't rise in the call
+abbrev pub IsQuiet : Count → Type 0
+IsQuiet count = count.now ≡ count.before

@@ -1,5 +1,6 @@
 -- What an object tells of its bytes. Objects in memory tell, real ones don't (None); one may stop telling and never starts again.
-use Rattle.std.specs.Prelude.{◌≡◌, ℕ, ◌≤◌, List, [], ◌∷◌, ◌++◌, length, take, Option, Some, None}
+use Rattle.std.specs.Prelude.{◌≡◌, ℕ, ◌≤◌, List, [], ◌∷◌, ◌++◌, length, take, Option, Some, None, Result, Err}
+use Rattle.farm_base.specs.Counts.{Rose}
 
 -- holds of the value where one is told
 abbrev pub WhereKnown : {A : Type 0} → Option A → (A → Type 0) → Type 0
@@ -50,3 +51,10 @@ pub record AddsWhole (old new : Option (List ℕ)) (texts : List (List ℕ)) (la
   pub bytes : List ℕ
   pub added : Adds old new (bytes ++ last)
   pub fronts : Fronts texts bytes
+
+-- What an object is known to hold stayed; its count hasn't fallen, rose where the call failed for the object, and else stands.
+pub record KeepsKnown {A T E : Type 0} (old new : Option A) (before now : ℕ) (failed : E) (result : Result T E) : Type 0 where
+  pub stays : Stays old new
+  pub never_falls : before ≤ now
+  pub cause : result ≡ Err failed → Rose before now
+  pub quiet : (result ≡ Err failed → ⊥) → now ≡ before
