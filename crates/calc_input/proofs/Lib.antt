@@ -1,0 +1,9 @@
+pub mod Digits
+pub mod Parts
+pub mod VolumeRows
+pub mod FactorFronts
+pub mod TableForms
+pub mod UsedLines
+pub mod Answering
+pub mod DueBlanks
+pub mod DueVolumes
