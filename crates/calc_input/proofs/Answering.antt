@@ -1,5 +1,5 @@
 -- What an input is answered, by its length and its form.
-use Rattle.std.proofs.Common.{◌≡◌, inl, inr, ℕ, suc, ◌<◌, ◌≤◌, nat_lt, true, false, cond, length, List, Result, Ok, Err, sym, ap, ◌∙◌, arith}
+use Rattle.std.proofs.Common.{◌≡◌, inl, inr, ℕ, suc, ◌≤◌, nat_lt, false, cond, length, List, Result, Ok, Err, sym, ap, ◌∙◌, arith}
 use Rattle.std.proofs.lemmas.Bool.Decides.{leb_tells}
 use Rattle.std.specs.Result.{IfOk}
 use Rattle.farm_fixed.specs.declared.records.Quantities.{Quantities}

@@ -1,11 +1,11 @@
 -- The volumes of the capacity table: each line that is read is due, and the one that is refused isn't.
-use Rattle.std.proofs.Common.{◌≡◌, ℕ, zero, suc, ◌+◌, ◌-◌, ◌<◌, ◌≤◌, Bool, true, false, cond, option_and_then, Option, Some, None, List, Result, Ok, Err, ℤ, pos, refl, sym, ap, subst, ◌∙◌, arith}
+use Rattle.std.proofs.Common.{◌≡◌, ℕ, zero, suc, ◌+◌, ◌-◌, ◌<◌, Bool, true, false, cond, option_and_then, Option, Some, None, List, Result, Ok, Err, ℤ, pos, refl, subst, arith}
 use Rattle.std.proofs.lemmas.Int.{ints}
 use Rattle.std.specs.Prelude.{◌≤ℤ◌}
 use Rattle.std.specs.Int.RustNames.{int_lt}
 use Rattle.calc_input.specs.Lines.{line_at, words_of}
 use Rattle.calc_input.specs.TableRows.{volume_in, row_of, rows_from, rows_then, with_row}
-use Rattle.calc_input.specs.RefusedLine.{IsVolumeLine, line_numbered, volume_on}
+use Rattle.calc_input.specs.RefusedLine.{IsVolumeLine}
 use Rattle.calc_input.proofs.VolumeRows.{in_words}
 
 -- the volume on line n, the first being 0
@@ -31,6 +31,7 @@ row_known least row line is = by (volume_in (words_of line)) refl is
         let P : ℤ → Type 0 = λ v. least ≤ℤ v in
         let above : least ≤ℤ volume = grind (arith, ints) in
         (kept_is, subst P same above)
+
     by : (v : Option ℤ) → volume_in (words_of line) ≡ v → option_and_then (λ w. cond (int_lt w least) None (Some w)) v ≡ Some row →
         (v ≡ Some row) × (least ≤ℤ row)
     by None known option_is = cc
@@ -44,6 +45,7 @@ no_row_known least line is volume known above = by (volume_in (words_of line)) k
     kept : (b : Bool) → int_lt volume least ≡ b → cond b None (Some volume) ≡ None → ⊥
     kept true test kept_is = let below : int_lt volume least ≡ true = test in grind (arith, ints)
     kept false test kept_is = cc
+
     by : (v : Option ℤ) → v ≡ Some volume → option_and_then (λ w. cond (int_lt w least) None (Some w)) v ≡ None → ⊥
     by None v_is option_is = cc
     by (Some other) v_is option_is =
@@ -131,11 +133,16 @@ volumes_more lines n least row count is (Err number) found =
 
 -- the first line is none
 volumes_stop : (lines : List (List ℕ)) (n : ℕ) (least : ℤ) (count : ℕ) → row_of least (line_at lines n) ≡ None → FindsVolumes lines n least (suc count) (Err (n + 1))
-volumes_stop lines n least count is =
-    (zero, omega arith, omega arith, λ earlier within. absurd (omega arith), λ at.
+volumes_stop lines n least count is = (
+  zero,
+  omega arith,
+  omega arith,
+  λ earlier within. absurd (omega arith),
+  λ at.
       let here : n + 0 ≡ n = omega arith in
       let P : ℕ → Type 0 = λ k. volume_at lines k ≡ Some at.volume in
-      no_row_known least (line_at lines n) is at.volume (subst P here at.one) (at.first refl))
+      no_row_known least (line_at lines n) is at.volume (subst P here at.one) (at.first refl),
+)
 
 pub volumes_found : (lines : List (List ℕ)) (count n : ℕ) (least : ℤ) → FindsVolumes lines n least count (rows_from count n least lines)
 unfolding rows_from

@@ -1,6 +1,6 @@
 -- A text in parts at a separator, and the lines of an input one after another.
-use Rattle.std.proofs.Common.{◌≡◌, ℕ, ◌+◌, ◌==◌, Bool, true, false, nat_lt, cond, Some, None, take, drop, List, [], ◌∷◌, ◌++◌, length, map, Bor, get_or, ◌-◌, append_assoc, length-drop, length-append, ◌<◌, ◌≤◌, refl, sym, ap, subst, ◌∙◌, arith}
-use Rattle.std.proofs.lemmas.List.{take_all, take_more, map-append}
+use Rattle.std.proofs.Common.{◌≡◌, ℕ, ◌+◌, ◌==◌, Bool, true, false, nat_lt, cond, Some, None, take, drop, List, [], ◌∷◌, ◌++◌, length, map, Bor, ◌-◌, append_assoc, length-drop, ◌<◌, ◌≤◌, refl, sym, ap, subst, ◌∙◌, arith}
+use Rattle.std.proofs.lemmas.List.{take_all, map-append}
 use Rattle.std.proofs.lemmas.List.Splits.{length-slice_split, slice_split_first, slice_split_none}
 use Rattle.std.proofs.lemmas.List.Sums.{fails_before_first}
 use Rattle.std.proofs.lemmas.Bool.Decides.{nat_tests}

@@ -1,5 +1,5 @@
 -- The lines after a form, one after another.
-use Rattle.std.proofs.Common.{◌≡◌, ℕ, suc, ◌+◌, ◌<◌, ◌≤◌, true, false, Some, None, List, ◌∷◌, refl, length, map, drop, get_or, Bor, sym, ap, subst, ◌∙◌, add-one, arith, drop-cons}
+use Rattle.std.proofs.Common.{◌≡◌, ℕ, suc, ◌+◌, ◌<◌, ◌≤◌, true, false, Some, None, List, ◌∷◌, refl, length, map, drop, get_or, Bor, sym, ap, subst, ◌∙◌, arith, drop-cons}
 use Rattle.std.proofs.lemmas.List.{drop-map, length-map}
 use Rattle.std.proofs.Math.ListN.{drop_of_length-le}
 use Rattle.calc_input.specs.Lines.{is_blank_line}
@@ -12,8 +12,8 @@ line_first lines n d within =
     let next : suc n ≡ n + 1 = omega arith in
     let P : ℕ → Type 0 = λ k. drop n (map (λ line. line.now) lines) ≡ (get_or lines n d).now ∷ drop k (map (λ line. line.now) lines) in
     subst P next (
-      drop-map (λ (line : Bor (List ℕ)). line.now) n lines ∙ ap (map (λ (line : Bor (List ℕ)). line.now)) (drop-cons lines n d within)
-      ∙ ap (λ rest. (get_or lines n d).now ∷ rest) (sym (drop-map (λ (line : Bor (List ℕ)). line.now) (suc n) lines))
+    drop-map (λ (line : Bor (List ℕ)). line.now) n lines ∙ ap (map (λ (line : Bor (List ℕ)). line.now)) (drop-cons lines n d within)
+    ∙ ap (λ rest. (get_or lines n d).now ∷ rest) (sym (drop-map (λ (line : Bor (List ℕ)). line.now) (suc n) lines))
     )
 
 -- a line that isn't blank is the first such

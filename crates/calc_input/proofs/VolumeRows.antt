@@ -4,7 +4,7 @@ use Rattle.std.proofs.lemmas.Bool.Decides.{nat_tests}
 use Rattle.std.specs.Int.RustNames.{int_lt}
 use Rattle.strap_table.specs.Capacity.{first_outside, first_falling, first_fault, falling_row, wrong_length}
 use Rattle.farm_fixed.specs.Range.{is_within}
-use Rattle.farm_fixed.specs.Reading.{quantity_of}
+use Rattle.farm_fixed.specs.Parsing.{quantity_of}
 use Rattle.std.specs.Result.{result_ok, MatchResult, IsOk}
 use Rattle.strap_table.specs.declared.fault.TableFault.{TableFault}
 use Rattle.calc_input.specs.Lines.{line_at, words_of}

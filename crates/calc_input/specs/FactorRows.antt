@@ -2,8 +2,7 @@
 use Rattle.std.specs.Prelude.{ℕ, zero, suc, ◌+◌, min, if◌then◌else◌, List, [], ◌∷◌, length, Option, Some, None, Result, Ok, Err, nat_lt}
 use Rattle.farm_base.specs.Bytes.{parts_at}
 use Rattle.farm_vcf.specs.declared.rows.Listed.{Listed}
-use Rattle.farm_vcf.specs.declared.fault.VcfFault.{VcfFault}
-use Rattle.farm_vcf.specs.declared.fault.VcfFault.TheVariants.{NotGrid}
+use Rattle.farm_vcf.specs.Faults.{FactorFault, NotGrid}
 use Rattle.farm_vcf.specs.Grid.{Grid}
 use Rattle.farm_vcf.specs.Rows.{grid_of_rows}
 use Rattle.farm_vcf.specs.Records.{row_of_fields}
@@ -30,7 +29,7 @@ listed_front (suc count) n lines = listed_then (listed_of (line_at lines n)) (li
 
 -- Of count lines from line n on, this many were read as rows, and these are a grid or break it at a row. A last block that is
 -- too short is refused at the last line.
-abbrev pub grid_at : ℕ → ℕ → ℕ → Result Grid VcfFault → Result Grid ℕ
+abbrev pub grid_at : ℕ → ℕ → ℕ → Result Grid FactorFault → Result Grid ℕ
 grid_at count n read (Ok grid) = if nat_lt read count then Err (n + read + 1) else Ok grid
 grid_at count n read (Err (NotGrid row)) = Err (n + min row count)
 grid_at count n read (Err fault) = Err (n + 1)

@@ -1,10 +1,10 @@
 -- The words of an input line as what they stand for.
-use Rattle.std.specs.Prelude.{ℕ, ◌==◌, ◌&&◌, Bool, true, false, if◌then◌else◌, List, [], length, Option, Some, None, codes, nat_le, nat_lt, slice_index_or, option_and_then, ℤ, pos, negsuc}
+use Rattle.std.specs.Prelude.{ℕ, ◌&&◌, Bool, true, false, if◌then◌else◌, List, [], length, Option, Some, None, codes, nat_le, nat_lt, slice_index_or, option_and_then, ℤ, pos, negsuc}
 use Rattle.std.specs.Result.{result_ok}
 use Rattle.std.specs.Str.{bytes_eq, all_ascii_digits}
 use Rattle.std.specs.Str.Parse.{digits_value}
-use Rattle.farm_fixed.specs.Range.{IsWithin, is_within}
-use Rattle.farm_fixed.specs.Reading.{quantity_of}
+use Rattle.farm_fixed.specs.Range.{is_within}
+use Rattle.farm_fixed.specs.Parsing.{quantity_of}
 
 infixl 10 ◌>>=◌
 -- the next step on what the first one gives, where it gives something

@@ -1,5 +1,5 @@
 -- The two forms of an input, and the number of the first line that isn't in form. Lines count from 0 in the code, line numbers from 1.
-use Rattle.std.specs.Prelude.{◌≡◌, ℕ, ◌+◌, Bool, if◌then◌else◌, List, [], ◌∷◌, drop, Option, Some, None, Result, Ok, Err, codes, pos}
+use Rattle.std.specs.Prelude.{ℕ, ◌+◌, Bool, if◌then◌else◌, List, [], ◌∷◌, drop, Option, Some, None, Result, Ok, Err, codes, pos}
 use Rattle.std.specs.Str.{bytes_eq}
 use Rattle.farm_base.specs.Steps.{◌>>=◌, or_fault}
 use Rattle.calc_input.specs.declared.volumes_line.Volumes.{Volumes}

@@ -1,9 +1,7 @@
 -- Which line of an input is refused, in the words of the rule: each line before it is what is due there, and it isn't.
 -- Lines are numbered from 1.
 use Rattle.std.specs.Prelude.{◌≡◌, ℕ, ◌+◌, ◌-◌, ◌<◌, ◌≤◌, Bool, true, false, IsTrue, List, length, take, Option, Some, IsSome, ℤ, ◌≤ℤ◌}
-use Rattle.farm_vcf.specs.declared.rows.Listed.{Listed}
 use Rattle.farm_vcf.specs.Blocks.{AreWhole, GoesOn, IsFirstBlock}
-use Rattle.calc_input.specs.declared.refusal.Refused.{Refused}
 use Rattle.calc_input.specs.declared.refusal.Cause.{Cause}
 use Rattle.calc_input.specs.declared.refusal.Cause.TheVariants.{Form, Chain}
 use Rattle.calc_input.specs.Lines.{is_blank_line, line_at, lines_of, words_of}

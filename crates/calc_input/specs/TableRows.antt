@@ -39,4 +39,3 @@ rows_then (Some row) n more = with_row row (more row)
 unfoldable pub rows_from : ℕ → ℕ → ℤ → List (List ℕ) → Result (List ℤ) ℕ
 rows_from zero n before lines = Ok []
 rows_from (suc count) n before lines = rows_then (row_of before (line_at lines n)) n (λ row. rows_from count (n + 1) row lines)
-

@@ -18,4 +18,3 @@ mod volumes_line;
 
 pub use answer::{LIMIT, Unanswered, figures_of_input, laws};
 pub use refusal::{Cause, Refused};
-

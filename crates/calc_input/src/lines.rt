@@ -5,6 +5,7 @@ ghost use Rattle.std.specs.Str.Lines.{strip_carriage_return};
 ghost use Rattle.farm_base.specs.Bytes.{is_blank, parts_at};
 ghost use Rattle.calc_input.specs.Lines.{is_blank_line, line_at, lines_of, words_of};
 
+use farm_base::is_blank;
 use std::alloc::{AllocError, Global};
 
 /// The lines of an input, each without the line feed that ends it and a carriage return before that.
@@ -86,11 +87,4 @@ pub fn is_blank_line(line: &[u8]) -> bool
         }
     }
     true
-}
-
-// Whether a byte is a space or a tab.
-fn is_blank(byte: u8) -> bool
-    ensures { result ≡ is_blank byte }
-{
-    byte == b' ' || byte == b'\t'
 }
