@@ -1,10 +1,11 @@
 -- Volumes that are read one after another.
-use Rattle.std.proofs.Common.{◌≡◌, ℕ, zero, suc, ◌+◌, ◌-◌, ◌<◌, ◌≤◌, List, [], ◌∷◌, ◌++◌, length, append_assoc, append-nil, Bool, true, false, cond, if◌then◌else◌, option_and_then, ◌^◌, Option, Some, None, Result, Ok, Err, ℤ, pos, negsuc, refl, sym, ap, subst, ◌∙◌, arith}
+use Rattle.std.proofs.Common.{◌≡◌, ℕ, zero, suc, ◌+◌, ◌-◌, ◌<◌, ◌≤◌, List, [], ◌∷◌, ◌++◌, length, append_assoc, append-nil, Bool, true, false, cond, if◌then◌else◌, option_and_then, Option, Some, None, Result, Ok, Err, ℤ, pos, negsuc, refl, sym, ap, subst, ◌∙◌, arith}
 use Rattle.std.proofs.lemmas.Bool.Decides.{nat_tests}
 use Rattle.std.specs.Int.RustNames.{int_lt}
-use Rattle.strap_table.specs.Capacity.{first_outside, first_falling, first_fault, falling_row, wrong_length}
+use Rattle.strap_table.specs.Faults.{first_outside, first_falling, first_fault, falling_row, wrong_length}
 use Rattle.farm_fixed.specs.Range.{is_within}
 use Rattle.farm_fixed.specs.Parsing.{quantity_of}
+use Rattle.farm_fixed.specs.declared.limits.TheConstants.{MOST_LITRES}
 use Rattle.std.specs.Result.{result_ok, MatchResult, IsOk}
 use Rattle.strap_table.specs.declared.fault.TableFault.{TableFault}
 use Rattle.calc_input.specs.Lines.{line_at, words_of}
@@ -58,7 +59,7 @@ rows_done count i before rows lines past =
 
 -- a row that was read is a volume, and not below the one before
 pub record IsRowAfter (before row : ℤ) : Type 0 where
-  pub inside : is_within (pos 0) (pos (10 ^ 9)) row ≡ true
+  pub inside : is_within (pos 0) MOST_LITRES row ≡ true
   pub risen : int_lt row before ≡ false
 
 kept_if : (least most row value : ℤ) (b : Bool) → is_within least most value ≡ b → cond b (Some value) None ≡ Some row → is_within least most row ≡ true
@@ -69,13 +70,13 @@ kept_within : (least most row : ℤ) (value : Option ℤ) → within least most 
 kept_within least most row None kept = cc
 kept_within least most row (Some value) kept = kept_if least most row value (is_within least most value) refl kept
 
-volume_inside : (word : List ℕ) (row : ℤ) → volume_of word ≡ Some row → is_within (pos 0) (pos (10 ^ 9)) row ≡ true
+volume_inside : (word : List ℕ) (row : ℤ) → volume_of word ≡ Some row → is_within (pos 0) MOST_LITRES row ≡ true
 unfolding volume_of
 volume_inside word row is =
-    kept_within (pos 0) (pos (10 ^ 9)) row (result_ok (quantity_of 0 (negsuc 99999999999999999) (pos 100000000000000000) word)) is
+    kept_within (pos 0) MOST_LITRES row (result_ok (quantity_of 0 (negsuc 99999999999999999) (pos 100000000000000000) word)) is
 
 -- the volume of a line is within the range of a capacity table
-pub in_words : (words : List (List ℕ)) (row : ℤ) → volume_in words ≡ Some row → is_within (pos 0) (pos (10 ^ 9)) row ≡ true
+pub in_words : (words : List (List ℕ)) (row : ℤ) → volume_in words ≡ Some row → is_within (pos 0) MOST_LITRES row ≡ true
 in_words [] row is = cc
 in_words (word ∷ []) row is = volume_inside word row is
 in_words (word ∷ next ∷ words) row is = cc

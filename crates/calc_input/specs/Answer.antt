@@ -1,5 +1,5 @@
 -- `calc`: from the bytes of an input to its ten figures, or the refusal.
-use Rattle.std.specs.Prelude.{ℕ, ◌+◌, ◌==◌, min, if◌then◌else◌, List, length, take, count_by, Option, Some, None, Result, Ok, Err, nat_lt, pos}
+use Rattle.std.specs.Prelude.{◌≡◌, ℕ, ◌+◌, ◌<◌, ◌==◌, min, if◌then◌else◌, List, ◌++◌, length, take, count_by, Option, Some, None, Result, Ok, Err, nat_lt, pos}
 use Rattle.std.specs.Ordering.{int_eq}
 use Rattle.farm_fixed.specs.declared.records.Quantities.{Quantities}
 use Rattle.farm_fixed.specs.declared.records.ChainRule.{ChainRule}
@@ -77,3 +77,7 @@ unfoldable pub answer_of : List ℕ → Result Quantities Refused
 answer_of bytes =
     if nat_lt limit (length bytes) then Err (refused_at (over_line bytes) Form)
     else answer_of_form (form_of (lines_of bytes))
+
+-- an input over the limit is answered as its front is, if that is over the limit too
+abbrev pub FrontDecides : Type 0
+FrontDecides = (front rest : List ℕ) → limit < length front → answer_of (front ++ rest) ≡ answer_of front

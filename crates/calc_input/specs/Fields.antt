@@ -1,10 +1,12 @@
 -- The words of an input line as what they stand for.
 use Rattle.std.specs.Prelude.{ℕ, ◌&&◌, Bool, true, false, if◌then◌else◌, List, [], length, Option, Some, None, codes, nat_le, nat_lt, slice_index_or, option_and_then, ℤ, pos, negsuc}
+use Rattle.std.specs.Int.RustNames.{unsigned_abs}
 use Rattle.std.specs.Result.{result_ok}
 use Rattle.std.specs.Str.{bytes_eq, all_ascii_digits}
 use Rattle.std.specs.Str.Parse.{digits_value}
 use Rattle.farm_fixed.specs.Range.{is_within}
 use Rattle.farm_fixed.specs.Parsing.{quantity_of}
+use Rattle.farm_fixed.specs.declared.limits.TheConstants.{MOST_COEFFICIENT, MOST_HEIGHT, MOST_LITRES, MOST_ROOF_MASS}
 
 infixl 10 ◌>>=◌
 -- the next step on what the first one gives, where it gives something
@@ -18,11 +20,11 @@ within least most (Some value) = if is_within least most value then Some value e
 
 -- a volume to calculate with: litres, up to 10^9
 unfoldable pub volume_of : List ℕ → Option ℤ
-volume_of word = within (pos 0) (pos 1000000000) (result_ok (quantity_of 0 (negsuc 99999999999999999) (pos 100000000000000000) word))
+volume_of word = within (pos 0) MOST_LITRES (result_ok (quantity_of 0 (negsuc 99999999999999999) (pos 100000000000000000) word))
 
 -- the mass of a floating roof: kilograms, up to 10^7
 unfoldable pub roof_of : List ℕ → Option ℤ
-roof_of word = within (pos 0) (pos 10000000) (result_ok (quantity_of 0 (negsuc 99999999999999999) (pos 100000000000000000) word))
+roof_of word = within (pos 0) MOST_ROOF_MASS (result_ok (quantity_of 0 (negsuc 99999999999999999) (pos 100000000000000000) word))
 
 -- a temperature
 unfoldable pub temperature_of : List ℕ → Option ℤ
@@ -50,11 +52,11 @@ unfoldable pub digits_of : List ℕ → Option ℕ
 digits_of word =
     if nat_lt 0 (length word) && nat_le (length word) 20 && all_ascii_digits word then Some (digits_value 10 word) else None
 
--- a shell's coefficient: 0 to 1,000
+-- a shell's coefficient, up to 1,000 ten-millionths per C
 unfoldable pub coefficient_of : List ℕ → Option ℤ
 coefficient_of word = do
   value ← digits_of word
-  if nat_le value 1000 then Some (pos value) else None
+  if nat_le value (unsigned_abs MOST_COEFFICIENT) then Some (pos value) else None
 
 -- word n of a line, the first being 0
 abbrev pub word_at : List (List ℕ) → ℕ → List ℕ
@@ -62,4 +64,4 @@ word_at words n = slice_index_or words n []
 
 -- a height
 unfoldable pub height_of : List ℕ → Option ℤ
-height_of word = result_ok (quantity_of 0 (pos 0) (pos 50000) word)
+height_of word = result_ok (quantity_of 0 (pos 0) MOST_HEIGHT word)

@@ -3,6 +3,7 @@ use Rattle.std.specs.Prelude.{ℕ, ◌==◌, ◌&&◌, if◌then◌else◌, List
 use Rattle.std.specs.Int.RustNames.{int_lt}
 use Rattle.std.specs.Str.{bytes_eq}
 use Rattle.farm_fixed.specs.Range.{IsWithin}
+use Rattle.farm_fixed.specs.declared.limits.TheConstants.{MOST_COEFFICIENT, MOST_ROOF_MASS}
 use Rattle.strap_table.specs.declared.tank.Roof.{Roof}
 use Rattle.calc_input.specs.declared.levels_line.Levels.{Levels}
 use Rattle.calc_input.specs.Fields.{◌>>=◌, word_at, height_of, roof_of, temperature_of, density_of, share_of, shell_of, coefficient_of}
@@ -40,6 +41,6 @@ levels_of words = if length words == 13 && bytes_eq (word_at words 0) (codes "le
 
 -- levels that can be calculated with
 pub record IsGauged (levels : Levels) : Type 0 where
-  pub coefficient : IsWithin (pos 0) (pos 1000) levels.shell.coefficient
-  pub mass : IsWithin (pos 0) (pos 10000000) levels.roof.mass
+  pub coefficient : IsWithin (pos 0) MOST_COEFFICIENT levels.shell.coefficient
+  pub mass : IsWithin (pos 0) MOST_ROOF_MASS levels.roof.mass
   pub zone : levels.roof.low ≤ℤ levels.roof.high

@@ -10,7 +10,7 @@ ghost use Rattle.calc_input.specs.declared.answer.Unanswered.TheVariants as vari
 ghost use Rattle.calc_input.specs.VolumesLine.{IsCalculable};
 ghost use Rattle.calc_input.specs.LevelsLine.{IsGauged};
 ghost use Rattle.calc_input.specs.Forms.{CanBeCalculated};
-ghost use Rattle.calc_input.specs.Answer.{answer_of, figures_of_form, figures_of_volumes, figures_or_refused, last_line, limit, over_line, roof_on, tank_of};
+ghost use Rattle.calc_input.specs.Answer.{FrontDecides, answer_of, figures_of_form, figures_of_volumes, figures_or_refused, last_line, limit, over_line, roof_on, tank_of};
 ghost use Rattle.calc_input.specs.RefusedLine.{AreInForm, IsRefusal, OneRefusedLine};
 
 use crate::fault::FormFault;
@@ -20,7 +20,7 @@ use crate::lines::{line_feeds, lines_of};
 use crate::volumes_line::Volumes;
 use crate::{Cause, Refused};
 use farm_chain::{figures, quantities};
-use farm_fixed::{ChainRule, Mm, NoMemory, Quantities};
+use farm_fixed::{ChainRule, MOST_COEFFICIENT, Mm, NoMemory, Quantities};
 use farm_rounding::RoundTable;
 use std::alloc::{AllocError, Global};
 use strap_table::{Roof, TankSpec};
@@ -66,9 +66,10 @@ pub fn figures_of_input(alloc: Global, bytes: &[u8]) -> Result<Quantities, Unans
     answer_of(alloc, bytes)
 }
 
-/// Does nothing: its contract is the law that an input has one refused line at most.
+/// Does nothing: its contract is the laws that an input has one refused line at most, and that a front over the limit decides.
 pub fn laws()
     ensures one_refused_line { OneRefusedLine }
+    ensures front_decides { FrontDecides }
 {}
 
 // The figures of an input, or its refusal, by the lines of the input.
@@ -160,7 +161,7 @@ fn figures_of_levels(input: &TableInput) -> Result<Quantities, ChainRule>
 fn tank_of(levels: &Levels) -> TankSpec
     requires { IsGauged levels.now }
     ensures value { result ≡ tank_of levels.now }
-    ensures coefficient { IsWithin (pos 0) (pos 1000) result.shell.coefficient }
+    ensures coefficient { IsWithin (pos 0) MOST_COEFFICIENT result.shell.coefficient }
     ensures roof { IfSome result.roof IsFloatingRoof }
 {
     TankSpec {

@@ -6,20 +6,15 @@ ghost use Rattle.std.specs.Str.{all_ascii_digits};
 ghost use Rattle.std.specs.Str.Parse.{digits_value};
 ghost use Rattle.calc_input.specs.Fields.{coefficient_of, density_of, digits_of, factor_of, roof_of, shell_of, share_of, temperature_of, volume_of, height_of, word_at};
 
-use farm_fixed::{Centi, Dens, Fac5, Kg, Litres, Mm, Permil5};
-
-/// The most litres of a volume to calculate with.
-const MOST_LITRES: i64 = 1_000_000_000;
-/// The most kilograms of a floating roof.
-const MOST_ROOF: i64 = 10_000_000;
-/// The greatest coefficient of a shell.
-const MOST_COEFFICIENT: u128 = 1_000;
+use farm_fixed::{
+    Centi, Dens, Fac5, Kg, Litres, MOST_COEFFICIENT, MOST_LITRES, MOST_ROOF_MASS, Mm, Permil5,
+};
 
 /// A volume to calculate with.
 #[tactic(auto, unfolding(crate::specs::Fields::volume_of))]
 pub fn volume_of(word: &[u8]) -> Option<Litres>
     ensures value { result ≡ volume_of word.now }
-    ensures range { IfSome result (IsWithin (pos 0) (pos 1000000000)) }
+    ensures range { IfSome result (IsWithin (pos 0) MOST_LITRES) }
 {
     let volume = Litres::read(word).ok()?;
     if volume.get() < 0 || volume.get() > MOST_LITRES {
@@ -32,10 +27,10 @@ pub fn volume_of(word: &[u8]) -> Option<Litres>
 #[tactic(auto, unfolding(crate::specs::Fields::roof_of))]
 pub fn roof_of(word: &[u8]) -> Option<Kg>
     ensures value { result ≡ roof_of word.now }
-    ensures range { IfSome result (IsWithin (pos 0) (pos 10000000)) }
+    ensures range { IfSome result (IsWithin (pos 0) MOST_ROOF_MASS) }
 {
     let mass = Kg::read(word).ok()?;
-    if mass.get() < 0 || mass.get() > MOST_ROOF {
+    if mass.get() < 0 || mass.get() > MOST_ROOF_MASS {
         return None;
     }
     Some(mass)
@@ -96,10 +91,10 @@ pub fn height_of(word: &[u8]) -> Option<Mm>
 #[tactic(auto, unfolding(crate::specs::Fields::coefficient_of))]
 pub fn coefficient_of(word: &[u8]) -> Option<i64>
     ensures value { result ≡ coefficient_of word.now }
-    ensures range { IfSome result (IsWithin (pos 0) (pos 1000)) }
+    ensures range { IfSome result (IsWithin (pos 0) MOST_COEFFICIENT) }
 {
     let coefficient = digits_of(word)?;
-    if coefficient > MOST_COEFFICIENT {
+    if coefficient > u128::from(MOST_COEFFICIENT.unsigned_abs()) {
         return None;
     }
     Some(coefficient as i64)
