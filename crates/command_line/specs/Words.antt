@@ -1,8 +1,8 @@
 -- The words of the command line: a command, and its options, each as two words `--name value` or one `--name=value`.
 use Rattle.std.specs.Prelude.{ℕ, ◌==◌, Bool, true, false, List, [], ◌∷◌, ◌++◌, length, take, drop, Option, Some, None, codes, if◌then◌else◌}
 use Rattle.std.specs.Str.{bytes_eq}
-use Rattle.command_line.specs.declared.command.Command.{Command}
-use Rattle.command_line.specs.declared.command.Command.TheVariants.{Calc, Table}
+use Rattle.command_line.specs.declared.command.Subcommand.{Subcommand}
+use Rattle.command_line.specs.declared.command.Subcommand.TheVariants.{Calc, Table}
 
 -- the value of an option: it isn't empty, and doesn't begin with a minus
 abbrev pub value_of : List ℕ → Option (List ℕ)
@@ -26,7 +26,7 @@ table_site [] = None
 table_site (word ∷ words) = if bytes_eq word (codes "table") then site_option words else None
 
 -- `table`, where its words name a folder
-abbrev pub table_command : Option (List ℕ) → Option Command
+abbrev pub table_command : Option (List ℕ) → Option Subcommand
 table_command None = None
 table_command (Some site) = Some Table
 
@@ -37,7 +37,7 @@ is_calc (word ∷ []) = bytes_eq word (codes "calc")
 is_calc (word ∷ other ∷ words) = false
 
 -- the command of the words, none where they aren't in the form
-abbrev pub command_of : List (List ℕ) → Option Command
+abbrev pub command_of : List (List ℕ) → Option Subcommand
 command_of words = if is_calc words then Some Calc else table_command (table_site words)
 
 -- a text, empty where there is none

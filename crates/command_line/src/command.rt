@@ -7,23 +7,23 @@ use std::alloc::Global;
 
 /// A command of the program.
 #[derive(Clone, Copy, Debug, PartialEq, Eq)]
-pub enum Command {
+pub enum Subcommand {
     /// The figures of observed volumes or of levels.
     Calc,
     /// The issued capacity tables of a site.
     Table,
 }
 
-impl Command {
+impl Subcommand {
     /// The command of the words behind the program's name, none where they aren't in the form.
-    pub fn of_words(words: &[String]) -> Option<Command>
+    pub fn of_words(words: &[String]) -> Option<Subcommand>
         ensures { result ≡ command_of (map string_bytes words.now) }
     {
         if is_calc(words) {
-            return Some(Command::Calc);
+            return Some(Subcommand::Calc);
         }
         match table_site(words) {
-            Some(_) => Some(Command::Table),
+            Some(_) => Some(Subcommand::Table),
             None => None,
         }
     }

@@ -1,20 +1,24 @@
--- What was said, from what each put added.
+-- What was printed, from what each put added.
 use Rattle.std.proofs.Common.{ℕ, ◌≤◌, List, [], ◌∷◌, ◌++◌, length, take, append-nil, Option, Result, Ok, Err, refl, sym, subst, arith}
 use Rattle.std.proofs.Math.Seq.{take-length}
 use Rattle.farm_base.specs.Counts.{Rose, HasCause}
 use Rattle.farm_base.specs.Known.{Adds, AddsAll, Fronts}
 use Rattle.farm_base.proofs.Additions.{additions_add_up}
 use Rattle.farm_ports.specs.Ports.{PutsAll}
-use Rattle.farm_run.specs.Runs.{Output, output_of, Puts, Says}
+use Rattle.farm_run.specs.Runs.{EndsWith, Output, Puts, Says}
 
 -- a whole text is a front of itself
 whole_front : (old new : Option (List ℕ)) (text : List ℕ) → Adds old new text → (n : ℕ) × (n ≤ length text) × Adds old new (take n text)
 whole_front old new text added =
     let P : List ℕ → Type 0 = λ t. Adds old new t in (length text, omega arith, subst P (sym (take-length text)) added)
 
+-- an output by what it holds and its count, before and after
+abbrev pub output_with : Option (List ℕ) → Option (List ℕ) → ℕ → ℕ → Output
+output_with old new before now = record { old = old; new = new; count = record { before = before; now = now } }
+
 -- what one put of all of a text did
 pub puts_from_put : {T E : Type 0} (old new : Option (List ℕ)) (before now : ℕ) (text : List ℕ) (result : Result T E) →
-    PutsAll old new text result → HasCause before now result → Puts (output_of old new before now) text
+    PutsAll old new text result → HasCause before now result → Puts (output_with old new before now) text
 puts_from_put old new before now text (Ok done) bytes cause = record { front = whole_front old new text bytes; whole = λ _. bytes }
 puts_from_put old new before now text (Err e) bytes cause = record { front = bytes; whole = λ quiet. absurd (quiet cause.failed) }
 
@@ -52,7 +56,7 @@ rose_later before middle now rose later = omega arith
 -- a front of a text was put and the output failed; then a front of the last was
 pub says_after_fault : (old middle new : Option (List ℕ)) (before between now : ℕ) (others : List (List ℕ)) (text last : List ℕ) →
     (n : ℕ) × (n ≤ length text) × Adds old middle (take n text) → Rose before between → between ≤ now →
-    Puts (output_of middle new between now) last →
+    Puts (output_with middle new between now) last →
     AddsAll old new (text ∷ others ++ last ∷ []) × Rose before now
 says_after_fault old middle new before between now others text last first rose later puts =
     let n = first.0 in
@@ -66,9 +70,17 @@ says_after_fault old middle new before between now others text last first rose l
     )
 
 -- and nothing of a text before them
-pub behind_a_text : {old new : Option (List ℕ)} {texts : List (List ℕ)} (text : List ℕ) → AddsAll old new texts → AddsAll old new (text ∷ texts)
+pub after_a_text : {old new : Option (List ℕ)} {texts : List (List ℕ)} (text : List ℕ) → AddsAll old new texts → AddsAll old new (text ∷ texts)
 behind_a_text text adds = record {
   bytes = adds.bytes;
   added = adds.added;
   fronts = (0, omega arith, adds.bytes, refl, adds.fronts);
 }
+
+-- what was said whole is what the bytes end with
+pub says_ends : (output : Output) (texts middle : List (List ℕ)) (last : List ℕ) → Says output texts middle last → EndsWith output last
+says_ends output texts middle last says = λ quiet. let whole = says.whole quiet in (whole.bytes, whole.added)
+
+-- a text that was put is what the bytes end with
+pub puts_ends : (output : Output) (last : List ℕ) → Puts output last → EndsWith output last
+puts_ends output last puts = λ quiet. ([], puts.whole quiet)
