@@ -4,6 +4,7 @@
 //! `--name value` or one word `--name=value`. A value isn't empty and doesn't begin with `-`. Nothing else is taken.
 #![tactic(auto)]
 
-mod command;
+mod commands;
+mod options;
 
-pub use command::{Subcommand, places};
+pub use commands::{Subcommand, places};
