@@ -3,9 +3,9 @@ use Rattle.std.specs.Prelude.{ℕ, List, ◌++◌, codes, decimal, Option, Some,
 use Rattle.farm_ports.specs.Folders.{File}
 use Rattle.farm_report.specs.Issued.{issued_text}
 use Rattle.farm_site.specs.Described.{Described, site_of_files}
-use Rattle.farm_site.specs.declared.fault.SiteFault.{SiteFault}
-use Rattle.farm_site.specs.declared.fault.SiteReadFault.{SiteReadFault}
-use Rattle.farm_site.specs.declared.fault.SiteReadFault.TheVariants.{NoMemory, Folder, Bad}
+use Rattle.site_keys.specs.declared.fault.SiteFault.{SiteFault}
+use Rattle.site_keys.specs.declared.fault.SiteReadFault.{SiteReadFault}
+use Rattle.site_keys.specs.declared.fault.SiteReadFault.TheVariants.{NoMemory, Folder, Bad}
 
 -- the tables of a site that was described, or the fault; neither where a file isn't there
 abbrev pub issued_of : Result Described SiteReadFault → Option (Result (List ℕ) SiteFault)

@@ -4,14 +4,14 @@ use Rattle.toml.specs.Data.{Data}
 use Rattle.farm_ports.specs.Folders.{File}
 use Rattle.farm_rounding.specs.Table.{Row}
 use Rattle.modbus_poll.specs.declared.map.LineMap.{LineMap}
-use Rattle.farm_site.specs.declared.fault.SiteReadFault.{SiteReadFault}
+use Rattle.site_keys.specs.declared.fault.SiteReadFault.{SiteReadFault}
 use Rattle.farm_site.specs.declared.records.Party.{Party}
 use Rattle.farm_site.specs.declared.records.Product.{Product}
 use Rattle.farm_site.specs.declared.records.Tank.{Tank}
-use Rattle.farm_site.specs.Faults.{◌>>=◌}
-use Rattle.farm_site.specs.Files.{content, toml_of}
-use Rattle.farm_site.specs.Keys.{natural_at}
-use Rattle.farm_site.specs.Lines.{lines_of}
+use Rattle.site_keys.specs.Faults.{◌>>=◌}
+use Rattle.site_keys.specs.Files.{content, toml_of}
+use Rattle.site_keys.specs.Keys.{natural_at}
+use Rattle.site_lines.specs.Lines.{lines_of}
 use Rattle.farm_site.specs.Parties.{parties_of}
 use Rattle.farm_site.specs.Products.{product_number, products_of}
 use Rattle.farm_site.specs.Tanks.{tank_number, tanks_of}

@@ -4,7 +4,7 @@ use Rattle.modbus_poll.specs.Maps.{is_between}
 use Rattle.farm_site.specs.declared.records.Party.{Party}
 use Rattle.farm_site.specs.declared.records.Product.{Product}
 use Rattle.farm_site.specs.declared.records.Tank.{Tank}
-use Rattle.farm_site.specs.Lists.{are_numbered}
+use Rattle.site_keys.specs.Lists.{are_numbered}
 use Rattle.farm_site.specs.Parties.{is_party, party_number}
 use Rattle.farm_site.specs.Products.{is_product, product_number}
 use Rattle.farm_site.specs.Tanks.{is_tank, tank_number}

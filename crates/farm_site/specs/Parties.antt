@@ -2,10 +2,10 @@
 use Rattle.std.specs.Prelude.{ℕ, ◌&&◌, Bool, List, [], map, codes, Result, Ok}
 use Rattle.toml.specs.Data.{Data}
 use Rattle.modbus_poll.specs.Maps.{is_between}
-use Rattle.farm_site.specs.declared.fault.SiteReadFault.{SiteReadFault}
+use Rattle.site_keys.specs.declared.fault.SiteReadFault.{SiteReadFault}
 use Rattle.farm_site.specs.declared.records.Party.{Party}
-use Rattle.farm_site.specs.Faults.{◌>>=◌}
-use Rattle.farm_site.specs.Lists.{list_at, numbered_from, own_number}
+use Rattle.site_keys.specs.Faults.{◌>>=◌}
+use Rattle.site_keys.specs.Lists.{list_at, numbered_from, own_number}
 use Rattle.farm_site.specs.Top.{is_name, name_at}
 
 -- the number of a party

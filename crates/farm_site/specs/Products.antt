@@ -7,13 +7,13 @@ use Rattle.farm_vcf.specs.Records.{vcf_of}
 use Rattle.farm_vcf.specs.declared.fault.VcfFault.{VcfFault}
 use Rattle.farm_vcf.specs.declared.fault.VcfFault.TheVariants as factors
 use Rattle.modbus_poll.specs.Maps.{is_between}
-use Rattle.farm_site.specs.declared.fault.SiteReadFault.{SiteReadFault}
-use Rattle.farm_site.specs.declared.fault.SiteReadFault.TheVariants.{NoMemory}
+use Rattle.site_keys.specs.declared.fault.SiteReadFault.{SiteReadFault}
+use Rattle.site_keys.specs.declared.fault.SiteReadFault.TheVariants.{NoMemory}
 use Rattle.farm_site.specs.declared.records.Product.{Product}
-use Rattle.farm_site.specs.Faults.{◌>>=◌, bad, detail}
-use Rattle.farm_site.specs.Files.{content}
-use Rattle.farm_site.specs.Keys.{text_at}
-use Rattle.farm_site.specs.Lists.{list_at, numbered_from, own_number}
+use Rattle.site_keys.specs.Faults.{◌>>=◌, bad, detail}
+use Rattle.site_keys.specs.Files.{content}
+use Rattle.site_keys.specs.Keys.{text_at}
+use Rattle.site_keys.specs.Lists.{list_at, numbered_from, own_number}
 use Rattle.farm_site.specs.Top.{is_name, name_at}
 
 -- the number of a product

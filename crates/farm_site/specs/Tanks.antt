@@ -11,14 +11,14 @@ use Rattle.farm_rounding.specs.Table.{Row}
 use Rattle.strap_table.specs.declared.tank.Roof.{Roof}
 use Rattle.strap_table.specs.declared.tank.TankSpec.{TankSpec}
 use Rattle.modbus_poll.specs.Maps.{is_between}
-use Rattle.farm_site.specs.declared.fault.SiteReadFault.{SiteReadFault}
+use Rattle.site_keys.specs.declared.fault.SiteReadFault.{SiteReadFault}
 use Rattle.farm_site.specs.declared.records.Tank.{Tank}
-use Rattle.farm_site.specs.Faults.{◌>>=◌, bad, ranged}
-use Rattle.farm_site.specs.Files.{content}
-use Rattle.farm_site.specs.Keys.{has, quantity_at, text_at, whole_at}
-use Rattle.farm_site.specs.Lists.{is_among, list_at, numbered_from, own_number, reference_at}
-use Rattle.farm_site.specs.Strappings.{strapped_file}
-use Rattle.farm_site.specs.Tables.{table_of_file}
+use Rattle.site_keys.specs.Faults.{◌>>=◌, bad, ranged}
+use Rattle.site_keys.specs.Files.{content}
+use Rattle.site_keys.specs.Keys.{has, quantity_at, text_at, whole_at}
+use Rattle.site_keys.specs.Lists.{is_among, list_at, numbered_from, own_number, reference_at}
+use Rattle.site_tables.specs.Strappings.{strapped_file}
+use Rattle.site_tables.specs.Tables.{table_of_file}
 
 -- the number of a tank
 abbrev pub tank_number : Tank → ℕ

@@ -1,19 +1,15 @@
 -- The top of a site file: its format, the name of the site, and how figures are rounded.
 use Rattle.std.specs.Prelude.{ℕ, ◌+◌, ◌==◌, ◌&&◌, Bool, if◌then◌else◌, List, [], ◌∷◌, ◌++◌, length, codes, Option, Some, None, Result, Ok}
-use Rattle.std.specs.List.{list_all, before_first, after_first}
+use Rattle.std.specs.List.{before_first, after_first}
 use Rattle.std.specs.Str.{bytes_eq}
 use Rattle.toml.specs.Data.{Data, as_str}
 use Rattle.farm_rounding.specs.declared.mode.Mode.{Mode}
 use Rattle.farm_rounding.specs.declared.mode.Mode.TheVariants.{HalfAway, TowardZero}
 use Rattle.farm_rounding.specs.Table.{Row, is_row, usual_rows}
-use Rattle.modbus_poll.specs.Maps.{is_between}
-use Rattle.farm_site.specs.declared.fault.SiteReadFault.{SiteReadFault}
-use Rattle.farm_site.specs.Faults.{◌>>=◌, bad, needed, ranged}
-use Rattle.farm_site.specs.Keys.{array_at, has, text_at}
-
--- a text has at least 1 byte, and each byte lies in a range
-abbrev pub is_text : ℕ → ℕ → ℕ → List ℕ → Bool
-is_text longest least most text = is_between 1 longest (length text) && list_all (is_between least most) text
+use Rattle.site_keys.specs.declared.fault.SiteReadFault.{SiteReadFault}
+use Rattle.site_keys.specs.Faults.{◌>>=◌, bad, needed, ranged}
+use Rattle.site_keys.specs.Keys.{array_at, has, text_at}
+use Rattle.site_keys.specs.Texts.{is_text}
 
 -- a name has 1 to 32 printable bytes
 abbrev pub is_name : List ℕ → Bool

@@ -3,14 +3,13 @@
 ghost use Rattle.std.specs.Prelude.{◌≡◌, ◌≤◌, [], length, map, MatchResult, IfOk, IsTrue, IsFalse, Ok, IfErr};
 ghost use Rattle.toml.specs.View.{view};
 ghost use Rattle.farm_site.specs.Facts.{are_parties};
-ghost use Rattle.farm_site.specs.Faults.{IsOwn, IsRefused};
-ghost use Rattle.farm_site.specs.Lists.{are_numbered, is_among, numbered_from};
+ghost use Rattle.site_keys.specs.Faults.{IsOwn, IsRefused};
+ghost use Rattle.site_keys.specs.Lists.{are_numbered, is_among, numbered_from};
 ghost use Rattle.farm_site.specs.Parties.{is_party, parties_of, party_number, party_of};
 
-use crate::keys::Keys;
-use crate::numbered::{Numbered, list_at, own_number, place};
+use crate::Party;
 use crate::top::name_at;
-use crate::{Party, SiteReadFault};
+use site_keys::{Keys, Numbered, SiteReadFault, list_at, own_number, place};
 use std::alloc::Global;
 use toml::Value;
 

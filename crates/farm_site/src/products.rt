@@ -6,18 +6,17 @@ ghost use Rattle.farm_base.specs.Counts.{Rose};
 ghost use Rattle.farm_ports.specs.Folders.{File};
 ghost use Rattle.farm_vcf.specs.Records.{vcf_of};
 ghost use Rattle.farm_site.specs.Facts.{are_products};
-ghost use Rattle.farm_site.specs.Faults.{IsOwn, IsRefused};
-ghost use Rattle.farm_site.specs.Lists.{are_numbered, is_among, numbered_from};
+ghost use Rattle.site_keys.specs.Faults.{IsOwn, IsRefused};
+ghost use Rattle.site_keys.specs.Lists.{are_numbered, is_among, numbered_from};
 ghost use Rattle.farm_site.specs.Products.{factors_read, is_product, product_number, product_of, products_of};
 
-use crate::fault::{FACTORS, TEXT, bad, bad_at};
-use crate::files::content;
-use crate::keys::Keys;
-use crate::numbered::{Numbered, list_at, own_number, place};
+use crate::Product;
 use crate::top::name_at;
-use crate::{Product, SiteReadFault};
 use farm_ports::Folder;
 use farm_vcf::{Vcf, VcfFault};
+use site_keys::{
+    FACTORS, Keys, Numbered, SiteReadFault, TEXT, bad, bad_at, content, list_at, own_number, place,
+};
 use std::alloc::Global;
 use toml::Value;
 

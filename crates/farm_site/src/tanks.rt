@@ -6,21 +6,20 @@ ghost use Rattle.farm_base.specs.Counts.{Rose};
 ghost use Rattle.farm_ports.specs.Folders.{File};
 ghost use Rattle.farm_fixed.specs.Range.{IsWithin};
 ghost use Rattle.farm_site.specs.Facts.{are_tanks};
-ghost use Rattle.farm_site.specs.Faults.{IsOwn, IsRefused};
-ghost use Rattle.farm_site.specs.Lists.{are_numbered, is_among, numbered_from};
+ghost use Rattle.site_keys.specs.Faults.{IsOwn, IsRefused};
+ghost use Rattle.site_keys.specs.Lists.{are_numbered, is_among, numbered_from};
 ghost use Rattle.farm_site.specs.Products.{product_number};
 ghost use Rattle.farm_site.specs.Tanks.{file_key, floating_at, is_opening, is_roof, is_spec, is_stock, is_strapped, is_tank, opening_at, roof_at, shell_at, shell_kind, spec_at, stock_at, table_in, tank_number, tank_of, tanks_of};
 
-use crate::fault::{FIELD, RANGE, bad};
-use crate::files::content;
-use crate::keys::Keys;
-use crate::numbered::{Numbered, list_at, own_number, place, reference};
-use crate::strappings::strapped_file;
-use crate::tables::table_of_file;
-use crate::{Product, SiteReadFault, Tank};
+use crate::{Product, Tank};
 use farm_fixed::{Amount, HundredthDegree, Kg, Mm, Shell};
 use farm_ports::Folder;
 use farm_rounding::RoundTable;
+use site_keys::{
+    FIELD, Keys, Numbered, RANGE, SiteReadFault, bad, content, list_at, own_number, place,
+    reference,
+};
+use site_tables::{strapped_file, table_of_file};
 use std::alloc::Global;
 use strap_table::{CapTable, Roof, TankSpec};
 use toml::Value;

@@ -1,17 +1,15 @@
 //! The top keys of a site file.
 
 ghost use Rattle.std.specs.Prelude.{◌≡◌, ◌==◌, [], length, map, MatchResult, Ok, IfOk, IfSome, IsTrue, IfErr};
-ghost use Rattle.std.specs.List.{after_first, before_first, list_all, position};
+ghost use Rattle.std.specs.List.{after_first, before_first, position};
 ghost use Rattle.toml.specs.View.{view};
 ghost use Rattle.farm_rounding.specs.Table.{is_row};
-ghost use Rattle.modbus_poll.specs.Maps.{is_between};
-ghost use Rattle.farm_site.specs.Faults.{IsOwn, IsRefused};
-ghost use Rattle.farm_site.specs.Top.{is_name, is_text, mode_of, name_at, rounds_at, row_in, row_of_value, rows_after, step_of, twelve_rows};
+ghost use Rattle.site_keys.specs.Faults.{IsOwn, IsRefused};
+ghost use Rattle.farm_site.specs.Top.{is_name, mode_of, name_at, rounds_at, row_in, row_of_value, rows_after, step_of, twelve_rows};
 
-use crate::fault::{FIELD, RANGE, bad};
-use crate::keys::Keys;
-use crate::{Name, SiteReadFault};
+use crate::Name;
 use farm_rounding::{FACTOR_TIES, Mode, RoundTable};
+use site_keys::{FIELD, Keys, RANGE, SiteReadFault, bad, is_text};
 use std::alloc::Global;
 use toml::Value;
 
@@ -31,25 +29,6 @@ pub fn name_at(alloc: Global, keys: &Keys<'_>) -> Result<Name, SiteReadFault>
         return Err(bad(RANGE, keys.item));
     }
     Ok(Name::new(String::from_str(alloc, text)?))
-}
-
-/// Whether a text has at least one byte and not over `longest`, and each lies in a range.
-pub fn is_text(text: &[u8], longest: usize, least: u8, most: u8) -> bool
-    ensures { result ≡ is_text longest least most text.now }
-{
-    !text.is_empty() && text.len() <= longest && lies_within(text, least, most)
-}
-
-// Whether each byte of a text lies in a range.
-fn lies_within(text: &[u8], least: u8, most: u8) -> bool
-    ensures { result ≡ list_all (is_between least most) text.now }
-{
-    for byte in text {
-        if *byte < least || *byte > most {
-            return false;
-        }
-    }
-    true
 }
 
 /// How the site rounds: the twelve rows of a list, or the usual ones where there is none.

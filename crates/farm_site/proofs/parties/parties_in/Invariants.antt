@@ -1,6 +1,6 @@
 use Rattle.std.proofs.Common.{◌≡◌, ◌+◌, true, [], drop, length, map}
 use Rattle.toml.specs.View.{view}
-use Rattle.farm_site.specs.Lists.{are_numbered, numbered_from}
+use Rattle.site_keys.specs.Lists.{are_numbered, numbered_from}
 use Rattle.farm_site.specs.Parties.{is_party, party_number, party_of}
 use Rattle.farm_site.proofs.parties.parties_in.Given as goal
 

@@ -1,6 +1,6 @@
 use Rattle.std.proofs.Common.{refl, arith}
 use Rattle.farm_site.specs.Products.{is_product, product_number, product_of}
-use Rattle.farm_site.proofs.PlacedFacts.{numbered_more, placed_length, placed_numbered}
+use Rattle.site_keys.proofs.PlacedFacts.{numbered_more, placed_length, placed_numbered}
 use Rattle.farm_site.proofs.products.products_in.Goals as goal
 
 pub loop-index-preserved : goal.loop-index-preserved

@@ -1,7 +1,7 @@
 use Rattle.std.proofs.Common.{map, refl, arith}
 use Rattle.farm_site.specs.Products.{product_number}
 use Rattle.farm_site.specs.Tanks.{is_tank, tank_number, tank_of}
-use Rattle.farm_site.proofs.PlacedFacts.{numbered_more, placed_length, placed_numbered}
+use Rattle.site_keys.proofs.PlacedFacts.{numbered_more, placed_length, placed_numbered}
 use Rattle.farm_site.proofs.tanks.tanks_in.Goals as goal
 
 pub loop-index-preserved : goal.loop-index-preserved

@@ -1,7 +1,7 @@
 use Rattle.std.proofs.Common.{◌≡◌, ◌+◌, ◌≤◌, true, List, [], Some, drop, length, map}
 use Rattle.toml.specs.View.{view}
 use Rattle.farm_ports.specs.Folders.{File}
-use Rattle.farm_site.specs.Lists.{are_numbered, numbered_from}
+use Rattle.site_keys.specs.Lists.{are_numbered, numbered_from}
 use Rattle.farm_site.specs.Products.{product_number}
 use Rattle.farm_site.specs.Tanks.{is_tank, tank_number, tank_of}
 use Rattle.farm_site.proofs.tanks.tanks_in.Given as goal

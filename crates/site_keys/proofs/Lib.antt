@@ -1,0 +1,4 @@
+pub mod Arrays
+pub mod Contents
+pub mod PlacedFacts
+pub mod Reading
