@@ -1,6 +1,6 @@
 pub mod TextLaws
 pub mod Parts
-pub mod ReadingLaws
+pub mod ParsingLaws
 pub mod PrintingLaws
 pub mod RoundTrip
 pub mod Values

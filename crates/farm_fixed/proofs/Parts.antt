@@ -3,14 +3,14 @@ use Rattle.std.proofs.Common.{◌≡◌, ℕ, ◌+◌, ◌<◌, suc, Bool, true,
 use Rattle.std.specs.Char.{IsAsciiDigit}
 use Rattle.std.specs.List.{position_or_len, before_first, after_first}
 use Rattle.farm_fixed.specs.Text.{Number, sign_text, fraction_text, IsTextOf, bad_offset}
-use Rattle.farm_fixed.specs.Reading.{unsigned_text, number_of}
+use Rattle.farm_fixed.specs.Parsing.{unsigned_text, number_of}
 use Rattle.farm_fixed.proofs.TextLaws.{Digits, not_minus, not_point, number_from_none}
 
-abbrev place : List ℕ → ℕ
-place text = position_or_len (λ byte. byte == 46) text
+abbrev point_at : List ℕ → ℕ
+point_at text = position_or_len (λ byte. byte == 46) text
 
-place_after_digit : (d : ℕ) (t : List ℕ) → IsAsciiDigit d → place (d ∷ t) ≡ suc (place t)
-place_after_digit d t digit = simp (not_point d digit) (omega arith)
+point_after_digit : (d : ℕ) (t : List ℕ) → IsAsciiDigit d → point_at (d ∷ t) ≡ suc (point_at t)
+point_after_digit d t digit = simp (not_point d digit) (omega arith)
 
 take_one_more : (n d : ℕ) (k : ℕ) (t : List ℕ) → n ≡ suc k → take n (d ∷ t) ≡ d ∷ take k t
 take_one_more n d k t e = rw e refl
@@ -24,7 +24,7 @@ before_point [] [] digits = refl
 before_point [] (d ∷ ds) digits = refl
 before_point (d ∷ ds) fraction digits =
     let rest = ds ++ fraction_text fraction in
-    take_one_more (place (d ∷ rest)) d (place rest) rest (place_after_digit d rest digits.0) ∙ ap (λ k. d ∷ k) (before_point ds fraction digits.1)
+    take_one_more (point_at (d ∷ rest)) d (point_at rest) rest (point_after_digit d rest digits.0) ∙ ap (λ k. d ∷ k) (before_point ds fraction digits.1)
 
 -- and the decimals after it
 pub after_point : (whole fraction : List ℕ) → Digits whole → after_first (λ byte. byte == 46) (whole ++ fraction_text fraction) ≡ fraction
@@ -32,7 +32,7 @@ after_point [] [] digits = refl
 after_point [] (d ∷ ds) digits = refl
 after_point (d ∷ ds) fraction digits =
     let rest = ds ++ fraction_text fraction in
-    drop_one_more (place (d ∷ rest)) d (place rest) rest (place_after_digit d rest digits.0) ∙ after_point ds fraction digits.1
+    drop_one_more (point_at (d ∷ rest)) d (point_at rest) rest (point_after_digit d rest digits.0) ∙ after_point ds fraction digits.1
 
 -- the sign and the unsigned text of a number's text
 sign_is : (negative : Bool) (whole fraction : List ℕ) → 0 < length whole → Digits whole → (get_or (sign_text negative ++ whole ++ fraction_text fraction) 0 0 == 45) ≡ negative

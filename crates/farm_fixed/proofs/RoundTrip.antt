@@ -12,11 +12,11 @@ use Rattle.std.specs.Int.RustNames.{unsigned_abs}
 use Rattle.std.specs.Str.Parse.{digits_value, digits_value_after}
 use Rattle.farm_fixed.specs.Printing.{padded, magnitude_text, minus_of, quantity_text}
 use Rattle.farm_fixed.specs.Range.{IsWithin, IsSmall}
-use Rattle.farm_fixed.specs.Reading.{quantity_from, quantity_of}
+use Rattle.farm_fixed.specs.Parsing.{quantity_from, quantity_of}
 use Rattle.farm_fixed.specs.Text.{Number, IsTextOf, sign_text, fraction_text, signed, value_of}
 use Rattle.farm_fixed.proofs.Parts.{parts_are}
 use Rattle.farm_fixed.proofs.PrintingLaws.{small_units, some_scale, small_scale, short_decimals, small_quotient}
-use Rattle.farm_fixed.proofs.ReadingLaws.{from_within, quantity_of-number}
+use Rattle.farm_fixed.proofs.ParsingLaws.{from_within, quantity_of-number}
 use Rattle.farm_fixed.proofs.TextLaws.{Digits, none_from_number}
 use Rattle.farm_fixed.proofs.Values.{value-append}
 

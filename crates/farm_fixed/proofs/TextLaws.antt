@@ -3,8 +3,8 @@ use Rattle.std.proofs.Common.{◌≡◌, ℕ, ◌+◌, ◌<◌, ◌≤◌, suc, 
 use Rattle.std.proofs.lemmas.Bool.Decides.{nat_tests}
 use Rattle.std.specs.Char.{IsAsciiDigit, is_ascii_digit}
 use Rattle.std.specs.List.{AllByRecursion}
-use Rattle.farm_fixed.specs.declared.parsing.Place.{Place}
-use Rattle.farm_fixed.specs.declared.parsing.Place.TheVariants.{AtStart, AfterMinus, InWhole, AfterPoint, InFraction}
+use Rattle.farm_fixed.specs.declared.parsing.Position.{Position}
+use Rattle.farm_fixed.specs.declared.parsing.Position.TheVariants.{AtStart, AfterMinus, InWhole, AfterPoint, InFraction}
 use Rattle.farm_fixed.specs.Text.{sign_text, fraction_text, IsNumber, IsBadAt, after, may_end, bad_then, bad_from, bad_offset}
 
 -- digits, as bytes
@@ -17,8 +17,8 @@ pub record IsUnsigned (t whole fraction : List ℕ) : Type 0 where
   pub digits : Digits whole
   pub decimals : Digits fraction
 
--- what may follow at a place
-abbrev pub Rest : Place → List ℕ → Type 0
+-- what may follow at a position
+abbrev pub Rest : Position → List ℕ → Type 0
 Rest AtStart t = IsNumber t
 Rest AfterMinus t = (whole : List ℕ) × (fraction : List ℕ) × IsUnsigned t whole fraction × (0 < length whole)
 Rest InWhole t = (whole : List ℕ) × (fraction : List ℕ) × IsUnsigned t whole fraction
@@ -41,7 +41,7 @@ same_byte : (b c : ℕ) → (b == c) ≡ true → b ≡ c
 same_byte b c h = grind (arith, nat_tests)
 
 -- something always may follow
-pub completes : (p : Place) → (t : List ℕ) × Rest p t
+pub completes : (p : Position) → (t : List ℕ) × Rest p t
 completes AtStart = (48 ∷ [], (record { negative = false; whole = 48 ∷ []; fraction = [] }, record { parts = refl; nonempty = omega arith; whole = ((omega arith, omega arith), tt); fraction = tt }))
 completes AfterMinus = (48 ∷ [], (48 ∷ [], [], record { parts = refl; digits = ((omega arith, omega arith), tt); decimals = tt }, omega arith))
 completes InWhole = ([], ([], [], record { parts = refl; digits = tt; decimals = tt }))
@@ -52,7 +52,7 @@ completes InFraction = ([], tt)
 pub one_digit_more : (b : ℕ) (t whole fraction : List ℕ) → IsAsciiDigit b → IsUnsigned t whole fraction → IsUnsigned (b ∷ t) (b ∷ whole) fraction
 one_digit_more b t whole fraction digit rest = record { parts = ap (λ ds. b ∷ ds) rest.parts; digits = (digit, rest.digits); decimals = rest.decimals }
 
-joins_start : (b : ℕ) (t : List ℕ) (minus digit : Bool) → (b == 45) ≡ minus → is_ascii_digit b ≡ digit → (q : Place) →
+joins_start : (b : ℕ) (t : List ℕ) (minus digit : Bool) → (b == 45) ≡ minus → is_ascii_digit b ≡ digit → (q : Position) →
     (if minus then Some AfterMinus else (if digit then Some InWhole else None)) ≡ Some q → Rest q t → IsNumber (b ∷ t)
 joins_start b t true digit m d AfterMinus e rest = (
   record { negative = true; whole = rest.0; fraction = rest.1 },
@@ -72,7 +72,7 @@ joins_start b t false true m d AfterPoint e rest = cc
 joins_start b t false true m d InFraction e rest = cc
 joins_start b t false false m d q e rest = cc
 
-joins_minus : (b : ℕ) (t : List ℕ) (digit : Bool) → is_ascii_digit b ≡ digit → (q : Place) →
+joins_minus : (b : ℕ) (t : List ℕ) (digit : Bool) → is_ascii_digit b ≡ digit → (q : Position) →
     (if digit then Some InWhole else None) ≡ Some q → Rest q t → Rest AfterMinus (b ∷ t)
 joins_minus b t true d InWhole e rest = (b ∷ rest.0, rest.1, one_digit_more b t rest.0 rest.1 (from_test b d) rest.2, omega arith)
 joins_minus b t true d AtStart e rest = cc
@@ -85,7 +85,7 @@ after_point : (b : ℕ) (t : List ℕ) → b ≡ 46 → 0 < length t → Digits 
 after_point b [] point some digits = absurd (omega arith)
 after_point b (d ∷ ds) point some digits = ([], d ∷ ds, record { parts = ap (λ k. k ∷ d ∷ ds) point; digits = tt; decimals = digits })
 
-joins_whole : (b : ℕ) (t : List ℕ) (point digit : Bool) → (b == 46) ≡ point → is_ascii_digit b ≡ digit → (q : Place) →
+joins_whole : (b : ℕ) (t : List ℕ) (point digit : Bool) → (b == 46) ≡ point → is_ascii_digit b ≡ digit → (q : Position) →
     (if point then Some AfterPoint else (if digit then Some InWhole else None)) ≡ Some q → Rest q t → Rest InWhole (b ∷ t)
 joins_whole b t true digit m d AfterPoint e rest = after_point b t (same_byte b 46 m) rest.0 rest.1
 joins_whole b t true digit m d AtStart e rest = cc
@@ -99,7 +99,7 @@ joins_whole b t false true m d AfterPoint e rest = cc
 joins_whole b t false true m d InFraction e rest = cc
 joins_whole b t false false m d q e rest = cc
 
-joins_fraction : (b : ℕ) (t : List ℕ) (digit : Bool) → is_ascii_digit b ≡ digit → (q : Place) →
+joins_fraction : (b : ℕ) (t : List ℕ) (digit : Bool) → is_ascii_digit b ≡ digit → (q : Position) →
     (if digit then Some InFraction else None) ≡ Some q → Rest q t → Digits (b ∷ t)
 joins_fraction b t true d InFraction e rest = (from_test b d, rest)
 joins_fraction b t true d AtStart e rest = cc
@@ -108,17 +108,17 @@ joins_fraction b t true d InWhole e rest = cc
 joins_fraction b t true d AfterPoint e rest = cc
 joins_fraction b t false d q e rest = cc
 
--- what may follow at the next place may follow after the byte
-pub joins : (p : Place) (b : ℕ) (t : List ℕ) (q : Place) → after p b ≡ Some q → Rest q t → Rest p (b ∷ t)
+-- what may follow at the next position may follow after the byte
+pub joins : (p : Position) (b : ℕ) (t : List ℕ) (q : Position) → after p b ≡ Some q → Rest q t → Rest p (b ∷ t)
 joins AtStart b t q e rest = joins_start b t (b == 45) (is_ascii_digit b) refl refl q e rest
 joins AfterMinus b t q e rest = joins_minus b t (is_ascii_digit b) refl q e rest
 joins InWhole b t q e rest = joins_whole b t (b == 46) (is_ascii_digit b) refl refl q e rest
 joins AfterPoint b t q e rest = (omega arith, joins_fraction b t (is_ascii_digit b) refl q e rest)
 joins InFraction b t q e rest = joins_fraction b t (is_ascii_digit b) refl q e rest
 
--- the byte of a text that may follow leads to a place where the rest may follow
-abbrev pub Splits : Place → ℕ → List ℕ → Type 0
-Splits p b t = (q : Place) × (after p b ≡ Some q) × Rest q t
+-- the byte of a text that may follow leads to a position where the rest may follow
+abbrev pub Splits : Position → ℕ → List ℕ → Type 0
+Splits p b t = (q : Position) × (after p b ≡ Some q) × Rest q t
 
 start_digit : (b : ℕ) → IsAsciiDigit b → after AtStart b ≡ Some InWhole
 start_digit b h = simp (not_minus b h, digit_test b h)
@@ -167,7 +167,7 @@ splits_whole b t (d ∷ ds) fraction u =
     let is : b ≡ d = head_of b d t (ds ++ fraction_text fraction) u.parts in
     (InWhole, rw is (whole_digit d u.digits.0), (ds, fraction, record { parts = tail_of b d t (ds ++ fraction_text fraction) u.parts; digits = u.digits.1; decimals = u.decimals }))
 
-pub splits : (p : Place) (b : ℕ) (t : List ℕ) → Rest p (b ∷ t) → Splits p b t
+pub splits : (p : Position) (b : ℕ) (t : List ℕ) → Rest p (b ∷ t) → Splits p b t
 splits AtStart b t (number, w) = splits_start b t number.negative number.whole number.fraction w.parts w.nonempty w.whole w.fraction
 splits AfterMinus b t (whole, fraction, u, some) = splits_minus b t whole fraction u some
 splits InWhole b t (whole, fraction, u) = splits_whole b t whole fraction u
@@ -175,7 +175,7 @@ splits AfterPoint b t (some, digits) = (InFraction, point_digit b digits.0, digi
 splits InFraction b t digits = (InFraction, fraction_digit b digits.0, digits.1)
 
 -- a number may end where may_end says, and nowhere else
-pub ends : (p : Place) → may_end p ≡ true → Rest p []
+pub ends : (p : Position) → may_end p ≡ true → Rest p []
 ends AtStart e = cc
 ends AfterMinus e = cc
 ends InWhole e = ([], [], record { parts = refl; digits = tt; decimals = tt })
@@ -187,21 +187,21 @@ nothing_before true whole fraction e some = cc
 nothing_before false [] fraction e some = omega arith
 nothing_before false (d ∷ ds) fraction e some = cc
 
-pub ends_not : (p : Place) → may_end p ≡ false → Rest p [] → ⊥
+pub ends_not : (p : Position) → may_end p ≡ false → Rest p [] → ⊥
 ends_not AtStart e (number, w) = nothing_before number.negative number.whole number.fraction w.parts w.nonempty
 ends_not AfterMinus e (whole, fraction, u, some) = nothing_before false whole fraction u.parts some
 ends_not InWhole e rest = cc
 ends_not AfterPoint e (some, digits) = omega arith
 ends_not InFraction e rest = cc
 
--- offset is where a text that follows at a place goes wrong
-pub record IsBadAfter (p : Place) (t : List ℕ) (offset : ℕ) : Type 0 where
+-- offset is where a text that follows at a position goes wrong
+pub record IsBadAfter (p : Position) (t : List ℕ) (offset : ℕ) : Type 0 where
   pub within : offset ≤ length t
   pub good_before : (rest : List ℕ) × Rest p (take offset t ++ rest)
   pub bad_there : offset < length t → (rest : List ℕ) → Rest p (take (offset + 1) t ++ rest) → ⊥
   pub too_short : offset ≡ length t → Rest p t → ⊥
 
-bad_end : (p : Place) → may_end p ≡ false → IsBadAfter p [] 0
+bad_end : (p : Position) → may_end p ≡ false → IsBadAfter p [] 0
 bad_end p e = record {
   within = omega arith;
   good_before = completes p;
@@ -209,7 +209,7 @@ bad_end p e = record {
   too_short = λ _ rest. ends_not p e rest;
 }
 
-bad_byte : (p : Place) (b : ℕ) (t : List ℕ) → after p b ≡ None → IsBadAfter p (b ∷ t) 0
+bad_byte : (p : Position) (b : ℕ) (t : List ℕ) → after p b ≡ None → IsBadAfter p (b ∷ t) 0
 bad_byte p b t e = record {
   within = omega arith;
   good_before = completes p;
@@ -217,7 +217,7 @@ bad_byte p b t e = record {
   too_short = λ none. absurd (omega arith);
 }
 
-bad_later : (p : Place) (b : ℕ) (t : List ℕ) (q : Place) (offset : ℕ) → after p b ≡ Some q → IsBadAfter q t offset → IsBadAfter p (b ∷ t) (suc offset)
+bad_later : (p : Position) (b : ℕ) (t : List ℕ) (q : Position) (offset : ℕ) → after p b ≡ Some q → IsBadAfter q t offset → IsBadAfter p (b ∷ t) (suc offset)
 bad_later p b t q offset e bad = record {
   within = omega (arith, bad.within);
   good_before = (bad.good_before.0, joins p b (take offset t ++ bad.good_before.0) q e bad.good_before.1);
@@ -231,35 +231,35 @@ bad_later p b t q offset e bad = record {
       bad.too_short (omega arith) (subst (λ k. Rest k t) same w.2);
 }
 
--- an answer tells whether a text may follow at a place, and else where it goes wrong
-abbrev IsRight : Place → ℕ → List ℕ → Option ℕ → Type 0
+-- an answer tells whether a text may follow at a position, and else where it goes wrong
+abbrev IsRight : Position → ℕ → List ℕ → Option ℕ → Type 0
 IsRight p before t None = Rest p t
 IsRight p before t (Some n) = (offset : ℕ) × (n ≡ before + offset) × IsBadAfter p t offset
 
-right_end : (p : Place) (before : ℕ) (end : Bool) → may_end p ≡ end → IsRight p before [] (if end then None else Some before)
+right_end : (p : Position) (before : ℕ) (end : Bool) → may_end p ≡ end → IsRight p before [] (if end then None else Some before)
 right_end p before true e = ends p e
 right_end p before false e = (0, omega arith, bad_end p e)
 
-right_later : (p : Place) (before b : ℕ) (t : List ℕ) (q : Place) (answer : Option ℕ) → after p b ≡ Some q → IsRight q (before + 1) t answer → IsRight p before (b ∷ t) answer
+right_later : (p : Position) (before b : ℕ) (t : List ℕ) (q : Position) (answer : Option ℕ) → after p b ≡ Some q → IsRight q (before + 1) t answer → IsRight p before (b ∷ t) answer
 right_later p before b t q None e right = joins p b t q e right
 right_later p before b t q (Some n) e (offset, is, bad) = (suc offset, omega arith, bad_later p b t q offset e bad)
 
-right_then : (p : Place) (before b : ℕ) (t : List ℕ) (next : Option Place) → ((q : Place) → IsRight q (before + 1) t (bad_from q (before + 1) t)) →
+right_then : (p : Position) (before b : ℕ) (t : List ℕ) (next : Option Position) → ((q : Position) → IsRight q (before + 1) t (bad_from q (before + 1) t)) →
     after p b ≡ next → IsRight p before (b ∷ t) (bad_then next before (λ q. bad_from q (before + 1) t))
 right_then p before b t None later e = (0, omega arith, bad_byte p b t e)
 right_then p before b t (Some q) later e = right_later p before b t q (bad_from q (before + 1) t) e (later q)
 
 -- `bad_from` tells whether the text may follow, and else where it goes wrong
-pub right_answer : (p : Place) (before : ℕ) (t : List ℕ) → IsRight p before t (bad_from p before t)
+pub right_answer : (p : Position) (before : ℕ) (t : List ℕ) → IsRight p before t (bad_from p before t)
 right_answer p before [] = right_end p before (may_end p) refl
 right_answer p before (b ∷ t) = right_then p before b t (after p b) (λ q. right_answer q (before + 1) t) refl
 
-accepts_end : (p : Place) (before : ℕ) (end : Bool) → may_end p ≡ end → Rest p [] → (if end then None else Some before) ≡ None
+accepts_end : (p : Position) (before : ℕ) (end : Bool) → may_end p ≡ end → Rest p [] → (if end then None else Some before) ≡ None
 accepts_end p before true e rest = refl
 accepts_end p before false e rest = absurd (ends_not p e rest)
 
 -- what may follow is accepted
-pub accepts : (p : Place) (before : ℕ) (t : List ℕ) → Rest p t → bad_from p before t ≡ None
+pub accepts : (p : Position) (before : ℕ) (t : List ℕ) → Rest p t → bad_from p before t ≡ None
 accepts p before [] rest = accepts_end p before (may_end p) refl rest
 accepts p before (b ∷ t) rest =
     let w = splits p b t rest in

@@ -1,5 +1,5 @@
 pub mod Range
 pub mod Text
-pub mod Reading
+pub mod Parsing
 pub mod Printing
 pub mod Whole

@@ -3,8 +3,8 @@ use Rattle.std.specs.Prelude.{◌≡◌, ℕ, ◌+◌, ◌-◌, ◌<◌, ◌≤�
 use Rattle.std.specs.Char.{IsAsciiDigit, is_ascii_digit}
 use Rattle.std.specs.List.{AllByRecursion}
 use Rattle.std.specs.Str.Parse.{digits_value}
-use Rattle.farm_fixed.specs.declared.parsing.Place.{Place}
-use Rattle.farm_fixed.specs.declared.parsing.Place.TheVariants.{AtStart, AfterMinus, InWhole, AfterPoint, InFraction}
+use Rattle.farm_fixed.specs.declared.parsing.Position.{Position}
+use Rattle.farm_fixed.specs.declared.parsing.Position.TheVariants.{AtStart, AfterMinus, InWhole, AfterPoint, InFraction}
 
 -- the parts of a number's text: digits as bytes, no fraction where there is no point
 pub record Number : Type 0 where
@@ -42,8 +42,8 @@ pub record IsBadAt (text : List ℕ) (offset : ℕ) : Type 0 where
   pub bad_there : offset < length text → BeginsNumber (take (offset + 1) text) → ⊥
   pub too_short : offset ≡ length text → IsNumber text → ⊥
 
--- the place after a byte, None where no number has that byte there
-abbrev pub after : Place → ℕ → Option Place
+-- the position after a byte, None where no number has that byte there
+abbrev pub after : Position → ℕ → Option Position
 after AtStart byte = if byte == 45 then Some AfterMinus else (if is_ascii_digit byte then Some InWhole else None)
 after AfterMinus byte = if is_ascii_digit byte then Some InWhole else None
 after InWhole byte = if byte == 46 then Some AfterPoint else (if is_ascii_digit byte then Some InWhole else None)
@@ -51,20 +51,20 @@ after AfterPoint byte = if is_ascii_digit byte then Some InFraction else None
 after InFraction byte = if is_ascii_digit byte then Some InFraction else None
 
 -- a number may end there
-abbrev pub may_end : Place → Bool
+abbrev pub may_end : Position → Bool
 may_end InWhole = true
 may_end InFraction = true
-may_end place = false
+may_end position = false
 
--- the offset of the first bad byte, once the place after the byte at this offset is known
-abbrev pub bad_then : Option Place → ℕ → (Place → Option ℕ) → Option ℕ
+-- the offset of the first bad byte, once the position after the byte at this offset is known
+abbrev pub bad_then : Option Position → ℕ → (Position → Option ℕ) → Option ℕ
 bad_then None offset rest = Some offset
-bad_then (Some place) offset rest = rest place
+bad_then (Some position) offset rest = rest position
 
--- the offset of the first bad byte from a place on, where offset bytes stand before
-abbrev pub bad_from : Place → ℕ → List ℕ → Option ℕ
-bad_from place offset [] = if may_end place then None else Some offset
-bad_from place offset (byte ∷ bytes) = bad_then (after place byte) offset (λ next. bad_from next (offset + 1) bytes)
+-- the offset of the first bad byte from a position on, where offset bytes stand before
+abbrev pub bad_from : Position → ℕ → List ℕ → Option ℕ
+bad_from position offset [] = if may_end position then None else Some offset
+bad_from position offset (byte ∷ bytes) = bad_then (after position byte) offset (λ next. bad_from next (offset + 1) bytes)
 
 -- the offset of the first bad byte, None for the text of a number
 abbrev pub bad_offset : List ℕ → Option ℕ

@@ -2,7 +2,7 @@
 use Rattle.std.specs.Prelude.{ℕ, ◌==◌, ◌&&◌, Bool, nat_le, if◌then◌else◌, List, length, Option, Some, None, slice_index, ℤ}
 use Rattle.std.specs.Str.{all_ascii_digits}
 use Rattle.std.specs.Str.Parse.{digits_value}
-use Rattle.farm_fixed.specs.Reading.{unsigned_text}
+use Rattle.farm_fixed.specs.Parsing.{unsigned_text}
 use Rattle.farm_fixed.specs.Text.{signed}
 
 -- from 1 to 18 digits

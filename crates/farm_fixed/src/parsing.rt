@@ -5,11 +5,11 @@ ghost use Rattle.std.specs.Char.{IsAsciiDigit};
 ghost use Rattle.std.specs.List.{AllByRecursion, position, before_first, after_first};
 ghost use Rattle.std.specs.Str.Parse.{digits_value, digits_value_after};
 ghost use Rattle.farm_fixed.specs.Text.{after, may_end, bad_offset, signed};
-ghost use Rattle.farm_fixed.specs.Reading.{unsigned_text};
+ghost use Rattle.farm_fixed.specs.Parsing.{unsigned_text};
 
 /// Where in a number the next byte stands.
 #[derive(Clone, Copy)]
-pub enum Place {
+pub enum Position {
     AtStart,
     AfterMinus,
     InWhole,
@@ -17,18 +17,20 @@ pub enum Place {
     InFraction,
 }
 
-impl Place {
-    /// The place after this byte, `None` where no number has the byte here.
-    fn after(self, byte: u8) -> Option<Place>
+impl Position {
+    /// The position after this byte, `None` where no number has the byte here.
+    fn after(self, byte: u8) -> Option<Position>
         ensures { result ≡ after self byte }
     {
         match (self, byte) {
-            (Place::AtStart, b'-') => Some(Place::AfterMinus),
-            (Place::AtStart | Place::AfterMinus | Place::InWhole, b'0'..=b'9') => {
-                Some(Place::InWhole)
+            (Position::AtStart, b'-') => Some(Position::AfterMinus),
+            (Position::AtStart | Position::AfterMinus | Position::InWhole, b'0'..=b'9') => {
+                Some(Position::InWhole)
             }
-            (Place::InWhole, b'.') => Some(Place::AfterPoint),
-            (Place::AfterPoint | Place::InFraction, b'0'..=b'9') => Some(Place::InFraction),
+            (Position::InWhole, b'.') => Some(Position::AfterPoint),
+            (Position::AfterPoint | Position::InFraction, b'0'..=b'9') => Some(
+                Position::InFraction,
+            ),
             _ => None,
         }
     }
@@ -37,7 +39,7 @@ impl Place {
     fn may_end(self) -> bool
         ensures { result ≡ may_end self }
     {
-        matches!(self, Place::InWhole | Place::InFraction)
+        matches!(self, Position::InWhole | Position::InFraction)
     }
 }
 
@@ -46,14 +48,14 @@ impl Place {
 pub fn bad_offset(text: &[u8]) -> Option<usize>
     ensures { result ≡ bad_offset text.now }
 {
-    let mut place = Place::AtStart;
+    let mut position = Position::AtStart;
     for (offset, byte) in text.iter().enumerate() {
-        match place.after(*byte) {
-            Some(next) => place = next,
+        match position.after(*byte) {
+            Some(next) => position = next,
             None => return Some(offset),
         }
     }
-    if place.may_end() {
+    if position.may_end() {
         None
     } else {
         Some(text.len())

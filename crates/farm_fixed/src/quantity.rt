@@ -4,7 +4,7 @@ ghost use Rattle.std.specs.Prelude.{◌≡◌, ◌+◌, ◌<◌, ◌≤◌, ℕ,
 ghost use Rattle.std.specs.Result.{OkIff};
 ghost use Rattle.farm_base.specs.Appended.{Appends};
 ghost use Rattle.farm_fixed.specs.Range.{IsWithin, IsSmall};
-ghost use Rattle.farm_fixed.specs.Reading.{IsReading, number_of, quantity_from, quantity_of};
+ghost use Rattle.farm_fixed.specs.Parsing.{IsReadAs, number_of, quantity_from, quantity_of};
 ghost use Rattle.farm_fixed.specs.Text.{bad_offset};
 ghost use Rattle.farm_fixed.specs.Printing.{quantity_text};
 
@@ -81,7 +81,7 @@ impl<U: Unit> Quantity<U> {
     /// The faults are tested in the order of `ReadFault`.
     pub fn read(text: &[u8]) -> Result<Self, ReadFault>
         ensures value { result ≡ quantity_of U.PLACES U.LEAST U.MOST text.now }
-        ensures meaning { IsReading U.PLACES U.LEAST U.MOST text.now result }
+        ensures meaning { IsReadAs U.PLACES U.LEAST U.MOST text.now result }
     {
         if text.is_empty() {
             return Err(ReadFault::Empty);

@@ -6,9 +6,9 @@ use Rattle.std.proofs.lemmas.List.{take_all, length-map, length-take, length-dro
 use Rattle.std.specs.Int.RustNames.{int_lt}
 use Rattle.std.specs.Ordering.{int_eq}
 use Rattle.std.specs.Prelude.{ℤ, ◌<ℤ◌, Ok, Err}
-use Rattle.farm_vcf.specs.declared.fault.VcfFault.TheVariants.{NotGrid}
 use Rattle.farm_vcf.specs.declared.rows.Listed.{Listed}
 use Rattle.farm_vcf.specs.Closest.{Rises, listed_at}
+use Rattle.farm_vcf.specs.Faults.{NotGrid}
 use Rattle.farm_vcf.specs.Grid.{IsGrid}
 use Rattle.farm_vcf.specs.Rows.{continues, densities_from, discontinued_from, factors_of, grid_in_blocks, grid_of_blocks, grid_of_rows, next_column, temperatures_of, unrisen, unrisen_from, width_from}
 

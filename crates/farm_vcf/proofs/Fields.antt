@@ -1,12 +1,12 @@
 -- Rows of records, one after the other.
-use Rattle.std.proofs.Common.{◌≡◌, ◌≢◌, ℕ, zero, suc, ◌-◌, ◌<◌, ◌≤◌, List, [], ◌∷◌, ◌++◌, length, map, take, drop, true, false, Some, None, refl, arith}
+use Rattle.std.proofs.Common.{◌≡◌, ◌≢◌, ℕ, zero, suc, ◌-◌, ◌<◌, ◌≤◌, List, [], ◌∷◌, ◌++◌, length, map, take, drop, true, false, Option, Some, None, refl, arith}
 use Rattle.std.proofs.lemmas.List.{take_all}
 use Rattle.std.specs.Prelude.{Result, Ok, Err}
 use Rattle.csv.specs.Records.{Row, field_at, fields_of}
-use Rattle.farm_vcf.specs.declared.fault.VcfFault.{VcfFault}
-use Rattle.farm_vcf.specs.declared.fault.VcfFault.TheVariants.{Csv, BadField, TooMany, NotGrid, NoMemory}
 use Rattle.farm_vcf.specs.declared.rows.Listed.{Listed}
-use Rattle.farm_vcf.specs.Rows.{IsRefused, grid_of_rows}
+use Rattle.farm_base.specs.Steps.{IsRefusedAs}
+use Rattle.farm_vcf.specs.Faults.{FactorFault, Csv, NotGrid}
+use Rattle.farm_vcf.specs.Rows.{grid_of_rows}
 use Rattle.farm_csv.specs.Records.{equal_lengths, records_of}
 use Rattle.farm_vcf.specs.Records.{grid_of_few, grid_of_records, grid_under_header, rows_from, vcf_of, row_of, row_of_fields}
 
@@ -39,17 +39,14 @@ field_there (x ∷ fields) zero within none = cc
 field_there (x ∷ fields) (suc i) within none = field_there fields i (omega arith) none
 
 -- rows that stand before those that are found
-abbrev pub prepended : List Listed → Result (List Listed) VcfFault → Result (List Listed) VcfFault
+abbrev pub prepended : List Listed → Result (List Listed) FactorFault → Result (List Listed) FactorFault
 prepended rows (Ok more) = Ok (rows ++ more)
 prepended rows (Err fault) = Err fault
 
 -- a fault of the rows is one of their grid
-pub refused_rows : (fault : VcfFault) (rows : Result (List Listed) VcfFault) → IsRefused fault rows → IsRefused fault (grid_of_few rows)
-refused_rows Csv rows is = rw is refl
-refused_rows (BadField number) rows is = rw is refl
-refused_rows TooMany rows is = rw is refl
-refused_rows (NotGrid number) rows is = rw is refl
-refused_rows NoMemory rows is = tt
+pub refused_rows : (fault : Option FactorFault) (rows : Result (List Listed) FactorFault) → IsRefusedAs fault rows → IsRefusedAs fault (grid_of_few rows)
+refused_rows None rows is = tt
+refused_rows (Some fault) rows is = rw is refl
 
 -- records of different lengths
 pub uneven_records : (text : List ℕ) → equal_lengths (records_of text) ≡ false → vcf_of text ≡ Err Csv

@@ -1,17 +1,18 @@
--- The grid of rows in the words of the rule: the rows are its blocks, or they break first at the row that is told.
+-- The grid of rows in the words of the rule: the rows are its blocks, or they break first at the row of the fault.
 use Rattle.std.proofs.Common.{◌≡◌, inl, inr, ℕ, zero, suc, ◌+◌, ◌*◌, ◌%◌, ◌<◌, ◌≤◌, Bool, true, false, if◌then◌else◌, List, [], ◌∷◌, length, take, drop, Option, Some, None, nat_lt, refl, sym, subst, ◌∙◌, ap, arith}
 use Rattle.std.proofs.Math.Nat.{mul-mod_left}
 use Rattle.std.proofs.lemmas.Bool.Decides.{nat_tests}
 use Rattle.std.specs.Ordering.{int_eq}
-use Rattle.std.specs.Prelude.{ℤ, MatchResult, Result, Ok, Err}
+use Rattle.std.specs.Prelude.{ℤ, IfSome, MatchResult, Result, Ok, Err}
 use Rattle.farm_csv.specs.Records.{equal_lengths, records_of}
+use Rattle.farm_base.specs.Steps.{IsRefusedAs}
 use Rattle.farm_vcf.specs.declared.fault.VcfFault.{VcfFault}
-use Rattle.farm_vcf.specs.declared.fault.VcfFault.TheVariants.{Csv, BadField, TooMany, NotGrid, NoMemory}
+use Rattle.farm_vcf.specs.Faults.{FactorFault, Csv, BadField, TooMany, NotGrid, reported}
 use Rattle.farm_vcf.specs.declared.rows.Listed.{Listed}
 use Rattle.farm_vcf.specs.Blocks.{AreWhole, BreaksAt, GoesOn, IsFaultOfRows, IsFirstBlock, IsFirstBreak, IsGridOf, density_of}
 use Rattle.farm_vcf.specs.Grid.{Grid}
 use Rattle.farm_vcf.specs.Records.{IsFaultOfText, IsGridOfText, grid_of_few, grid_of_records, grid_under_header, row_of, rows_below_header, rows_from, vcf_of, with_row}
-use Rattle.farm_vcf.specs.Rows.{IsRefused, densities_from, discontinued_from, grid_in_blocks, grid_of_blocks, grid_of_rows, temperatures_of, unless, unrisen, width_from}
+use Rattle.farm_vcf.specs.Rows.{densities_from, discontinued_from, grid_in_blocks, grid_of_blocks, grid_of_rows, temperatures_of, unless, unrisen, width_from}
 use Rattle.farm_vcf.proofs.Blocks.{int_eq_itself, int_eq_same, row_for_each, width_of_block}
 use Rattle.farm_vcf.proofs.Breaks.{Finds, block_finds, finds_more, later_finds, of_block}
 use Rattle.farm_vcf.proofs.Entries.{place_within}
@@ -180,48 +181,57 @@ blocks_mean width density rows first some is =
         let P : ℕ → Type 0 = λ m. discontinued_from (temperatures_of (take width rows)) (m + 1) density 0 (drop width rows) ≡ None in
         is_grid_of width density rows first some is (all_on width rows (length rows) block later) (row_for_each width density rows some first.within (subst P (sym wide) e))
 
--- what is told of rows is right
+-- the grid of rows and their fault are right
 pub rows_mean : (rows : List Listed) → MatchResult (grid_of_rows rows) (IsGridOf rows) (IsFaultOfRows rows)
 unfolding grid_of_rows
 rows_mean [] = break_at 0 0 1 [] refl (record { within = omega arith; one_density = λ index inside. absurd (omega (arith, inside)); another = λ left. absurd (omega (arith, left)) })
     (λ earlier early. absurd (omega (arith, early))) (inr (refl, λ whole. absurd (omega (arith, whole.some))))
 rows_mean (row ∷ rows) = blocks_mean (width_from row.density (row ∷ rows)) row.density (row ∷ rows) (first_block row rows) (some_first row rows) refl
 
--- and so is what a call tells
-pub told_of_rows : (rows : List Listed) (told : Result Grid VcfFault) → MatchResult told (λ grid. grid_of_rows rows ≡ Ok grid) (λ fault. IsRefused fault (grid_of_rows rows)) → MatchResult told (IsGridOf rows) (IsFaultOfRows rows)
-told_of_rows rows (Ok grid) is = rw is at (rows_mean rows)
-told_of_rows rows (Err Csv) is = rw is at (rows_mean rows)
-told_of_rows rows (Err (BadField number)) is = rw is at (rows_mean rows)
-told_of_rows rows (Err TooMany) is = rw is at (rows_mean rows)
-told_of_rows rows (Err (NotGrid number)) is = rw is at (rows_mean rows)
-told_of_rows rows (Err NoMemory) is = tt
+-- a fault that a call reports is right where the definition's is
+reported_right : (P : Grid → Type 0) (Q : FactorFault → Type 0) (answer : Result Grid FactorFault) (fault : Option FactorFault) →
+    MatchResult answer P Q → IsRefusedAs fault answer → IfSome fault Q
+reported_right P Q answer None right is = tt
+reported_right P Q answer (Some fault) right is =
+    let M : Result Grid FactorFault → Type 0 = λ a. MatchResult a P Q in subst M is right
 
--- rows that aren't read are told by a record
-rows_not_read : (text : List ℕ) (number : ℕ) (records : List (List (List ℕ))) (fault : VcfFault) → rows_from number records ≡ Err fault → IsFaultOfText text fault
+-- and a grid that a call answers
+answered_right : (P : Grid → Type 0) (Q : FactorFault → Type 0) (answer : Result Grid FactorFault) (grid : Grid) →
+    MatchResult answer P Q → answer ≡ Ok grid → P grid
+answered_right P Q answer grid right is =
+    let M : Result Grid FactorFault → Type 0 = λ a. MatchResult a P Q in subst M is right
+
+-- so what a call answers for rows is right
+pub answer_of_rows : (rows : List Listed) (answer : Result Grid VcfFault) → MatchResult answer (λ grid. grid_of_rows rows ≡ Ok grid) (λ fault. IsRefusedAs (reported fault) (grid_of_rows rows)) →
+    MatchResult answer (IsGridOf rows) (λ fault. IfSome (reported fault) (IsFaultOfRows rows))
+answer_of_rows rows (Ok grid) is = answered_right (IsGridOf rows) (IsFaultOfRows rows) (grid_of_rows rows) grid (rows_mean rows) is
+answer_of_rows rows (Err fault) is = reported_right (IsGridOf rows) (IsFaultOfRows rows) (grid_of_rows rows) (reported fault) (rows_mean rows) is
+
+-- rows that aren't read are refused by a record
+rows_not_read : (text : List ℕ) (number : ℕ) (records : List (List (List ℕ))) (fault : FactorFault) → rows_from number records ≡ Err fault → IsFaultOfText text fault
 rows_not_read text number [] fault is = cc
 rows_not_read text number (fields ∷ records) fault is = by (row_of fields) (rows_from (number + 1) records) is (rows_not_read text (number + 1) records fault)
   where
-    by : (row : Option Listed) (rows : Result (List Listed) VcfFault) → with_row number row rows ≡ Err fault → (rows ≡ Err fault → IsFaultOfText text fault) → IsFaultOfText text fault
-    by None rows is more = let P : VcfFault → Type 0 = λ other. IsFaultOfText text other in let same : BadField number ≡ fault = cc in subst P same tt
+    by : (row : Option Listed) (rows : Result (List Listed) FactorFault) → with_row number row rows ≡ Err fault → (rows ≡ Err fault → IsFaultOfText text fault) → IsFaultOfText text fault
+    by None rows is more = let P : FactorFault → Type 0 = λ other. IsFaultOfText text other in let same : BadField number ≡ fault = cc in subst P same tt
     by (Some row) (Err other) is more = more is
     by (Some row) (Ok rows) is more = cc
 
-not_read : (text : List ℕ) (records : List (List (List ℕ))) (fault : VcfFault) → rows_below_header records ≡ Err fault → IsFaultOfText text fault
+not_read : (text : List ℕ) (records : List (List (List ℕ))) (fault : FactorFault) → rows_below_header records ≡ Err fault → IsFaultOfText text fault
 not_read text [] fault is = cc
 not_read text (header ∷ records) fault is = rows_not_read text 1 records fault is
 
-few_mean : (text : List ℕ) (few : Result (List Listed) VcfFault) → rows_below_header (records_of text) ≡ few → MatchResult (grid_of_few few) (IsGridOfText text) (IsFaultOfText text)
+few_mean : (text : List ℕ) (few : Result (List Listed) FactorFault) → rows_below_header (records_of text) ≡ few → MatchResult (grid_of_few few) (IsGridOfText text) (IsFaultOfText text)
 few_mean text (Err fault) is = not_read text (records_of text) fault is
 few_mean text (Ok rows) is = by (nat_lt 100000 (length rows)) (grid_of_rows rows) (rows_mean rows)
   where
-    by : (many : Bool) (grid : Result Grid VcfFault) → MatchResult grid (IsGridOf rows) (IsFaultOfRows rows) → MatchResult (if many then Err TooMany else grid) (IsGridOfText text) (IsFaultOfText text)
+    by : (many : Bool) (grid : Result Grid FactorFault) → MatchResult grid (IsGridOf rows) (IsFaultOfRows rows) → MatchResult (if many then Err TooMany else grid) (IsGridOfText text) (IsFaultOfText text)
     by true grid mean = tt
     by false (Ok grid) mean = record { rows = rows; read = is; grid_of = mean }
     by false (Err (NotGrid number)) mean = record { rows = rows; read = is; breaks = mean }
     by false (Err Csv) mean = tt
     by false (Err (BadField number)) mean = tt
     by false (Err TooMany) mean = tt
-    by false (Err NoMemory) mean = tt
 
 text_means : (text : List ℕ) → MatchResult (vcf_of text) (IsGridOfText text) (IsFaultOfText text)
 unfolding grid_of_records grid_under_header
@@ -232,11 +242,8 @@ text_means text = by (equal_lengths (records_of text)) (few_mean text (rows_belo
     by true mean = mean
     by false mean = tt
 
--- what is told of a text is right
-pub told_of_text : (text : List ℕ) (told : Result Grid VcfFault) → MatchResult told (λ grid. vcf_of text ≡ Ok grid) (λ fault. IsRefused fault (vcf_of text)) → MatchResult told (IsGridOfText text) (IsFaultOfText text)
-told_of_text text (Ok grid) is = rw is at (text_means text)
-told_of_text text (Err (NotGrid number)) is = rw is at (text_means text)
-told_of_text text (Err Csv) is = tt
-told_of_text text (Err (BadField number)) is = tt
-told_of_text text (Err TooMany) is = tt
-told_of_text text (Err NoMemory) is = tt
+-- what a call answers for a text is right
+pub answer_of_text : (text : List ℕ) (answer : Result Grid VcfFault) → MatchResult answer (λ grid. vcf_of text ≡ Ok grid) (λ fault. IsRefusedAs (reported fault) (vcf_of text)) →
+    MatchResult answer (IsGridOfText text) (λ fault. IfSome (reported fault) (IsFaultOfText text))
+answer_of_text text (Ok grid) is = answered_right (IsGridOfText text) (IsFaultOfText text) (vcf_of text) grid (text_means text) is
+answer_of_text text (Err fault) is = reported_right (IsGridOfText text) (IsFaultOfText text) (vcf_of text) (reported fault) (text_means text) is

@@ -1,9 +1,8 @@
--- What rows in blocks are, in the words of the rule. A row's index counts from 0; the number that a fault tells counts from 1.
+-- What rows in blocks are, in the words of the rule. A row's index counts from 0; the number of a fault counts from 1.
 use Rattle.std.specs.Prelude.{◌≡◌, ℕ, ◌+◌, ◌-◌, ◌*◌, ◌%◌, ◌<◌, ◌≤◌, ◌⊎◌, List, map, length, ℤ, ◌<ℤ◌}
-use Rattle.farm_vcf.specs.declared.fault.VcfFault.{VcfFault}
-use Rattle.farm_vcf.specs.declared.fault.VcfFault.TheVariants.{Csv, BadField, TooMany, NotGrid, NoMemory}
 use Rattle.farm_vcf.specs.declared.rows.Listed.{Listed}
 use Rattle.farm_vcf.specs.Closest.{listed_at}
+use Rattle.farm_vcf.specs.Faults.{FactorFault, Csv, BadField, TooMany, NotGrid}
 use Rattle.farm_vcf.specs.Grid.{Grid, factor_at}
 use Rattle.farm_vcf.specs.Rows.{factors_of, temperatures_of}
 
@@ -67,10 +66,9 @@ pub record IsFirstBreak (rows : List Listed) (number : ℕ) : Type 0 where
   pub breaks : BreaksAt width rows index
   pub no_grid : (grid : Grid) → ¬ (IsGridOf rows grid)
 
--- a fault of rows is right: they break first there, or there is no memory
-abbrev pub IsFaultOfRows : List Listed → VcfFault → Type 0
+-- a fault of rows is right: they break first there
+abbrev pub IsFaultOfRows : List Listed → FactorFault → Type 0
 IsFaultOfRows rows (NotGrid number) = IsFirstBreak rows number
-IsFaultOfRows rows NoMemory = Unit {0}
 IsFaultOfRows rows Csv = ⊥
 IsFaultOfRows rows (BadField number) = ⊥
 IsFaultOfRows rows TooMany = ⊥

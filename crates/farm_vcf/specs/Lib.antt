@@ -1,5 +1,6 @@
 pub mod Closest
 pub mod Grid
+pub mod Faults
 pub mod Rows
 pub mod Blocks
 pub mod Records

@@ -1,12 +1,11 @@
 -- The records of a factor file: a header that isn't looked at, and then a density, a temperature and a factor each.
 use Rattle.std.specs.Prelude.{◌≡◌, ℕ, ◌+◌, nat_lt, if◌then◌else◌, List, [], ◌∷◌, length, Option, Some, None, Result, Ok, Err, ℤ, pos, negsuc}
 use Rattle.farm_fixed.specs.declared.fault.ReadFault.{ReadFault}
-use Rattle.farm_fixed.specs.Reading.{quantity_of}
+use Rattle.farm_fixed.specs.Parsing.{quantity_of}
 use Rattle.farm_csv.specs.Blanks.{without_blanks}
 use Rattle.farm_csv.specs.Records.{equal_lengths, records_of}
-use Rattle.farm_vcf.specs.declared.fault.VcfFault.{VcfFault}
-use Rattle.farm_vcf.specs.declared.fault.VcfFault.TheVariants.{Csv, BadField, TooMany, NotGrid}
 use Rattle.farm_vcf.specs.declared.rows.Listed.{Listed}
+use Rattle.farm_vcf.specs.Faults.{FactorFault, Csv, BadField, TooMany, NotGrid}
 use Rattle.farm_vcf.specs.Grid.{Grid}
 use Rattle.farm_vcf.specs.Blocks.{IsFirstBreak, IsGridOf}
 use Rattle.farm_vcf.specs.Rows.{grid_of_rows}
@@ -35,36 +34,36 @@ row_of (density ∷ temperature ∷ factor ∷ []) = row_of_fields density tempe
 row_of (density ∷ temperature ∷ factor ∷ field ∷ fields) = None
 
 -- one row more, in front
-abbrev pub with_row : ℕ → Option Listed → Result (List Listed) VcfFault → Result (List Listed) VcfFault
+abbrev pub with_row : ℕ → Option Listed → Result (List Listed) FactorFault → Result (List Listed) FactorFault
 with_row number None rows = Err (BadField number)
 with_row number (Some row) (Err fault) = Err fault
 with_row number (Some row) (Ok rows) = Ok (row ∷ rows)
 
 -- the rows of records, counted from a number, or the first record that is none
-abbrev pub rows_from : ℕ → List (List (List ℕ)) → Result (List Listed) VcfFault
+abbrev pub rows_from : ℕ → List (List (List ℕ)) → Result (List Listed) FactorFault
 rows_from number [] = Ok []
 rows_from number (fields ∷ records) = with_row number (row_of fields) (rows_from (number + 1) records)
 
 -- the grid of rows, of which there may be so many
-abbrev pub grid_of_few : Result (List Listed) VcfFault → Result Grid VcfFault
+abbrev pub grid_of_few : Result (List Listed) FactorFault → Result Grid FactorFault
 grid_of_few (Err fault) = Err fault
 grid_of_few (Ok rows) = if nat_lt 100000 (length rows) then Err TooMany else grid_of_rows rows
 
 -- the rows of the records below the header, none where there is no header
-abbrev pub rows_below_header : List (List (List ℕ)) → Result (List Listed) VcfFault
+abbrev pub rows_below_header : List (List (List ℕ)) → Result (List Listed) FactorFault
 rows_below_header [] = Ok []
 rows_below_header (header ∷ records) = rows_from 1 records
 
 -- the grid of the records below the header
-unfoldable pub grid_under_header : List (List (List ℕ)) → Result Grid VcfFault
+unfoldable pub grid_under_header : List (List (List ℕ)) → Result Grid FactorFault
 grid_under_header records = grid_of_few (rows_below_header records)
 
 -- the grid of the records of a file
-unfoldable pub grid_of_records : List (List (List ℕ)) → Result Grid VcfFault
+unfoldable pub grid_of_records : List (List (List ℕ)) → Result Grid FactorFault
 grid_of_records records = if equal_lengths records then grid_under_header records else Err Csv
 
 -- the grid of a text, or why it is none
-abbrev pub vcf_of : List ℕ → Result Grid VcfFault
+abbrev pub vcf_of : List ℕ → Result Grid FactorFault
 vcf_of text = grid_of_records (records_of text)
 
 -- a grid is that of a text: of the rows below its header
@@ -79,7 +78,7 @@ pub record IsFirstBreakOfText (text : List ℕ) (number : ℕ) : Type 0 where
   pub read : rows_below_header (records_of text) ≡ Ok rows
   pub breaks : IsFirstBreak rows number
 
--- where a text is told to be no grid, its rows break first there; of the other faults this says nothing
-abbrev pub IsFaultOfText : List ℕ → VcfFault → Type 0
+-- where a text is reported to be no grid, its rows break first there; of the other faults this says nothing
+abbrev pub IsFaultOfText : List ℕ → FactorFault → Type 0
 IsFaultOfText text (NotGrid number) = IsFirstBreakOfText text number
 IsFaultOfText text fault = Unit {0}

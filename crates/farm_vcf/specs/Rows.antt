@@ -1,17 +1,11 @@
 -- The rows of a factor file, and the grid that they are. A row is a density, a temperature and a factor; rows are counted from 1.
-use Rattle.std.specs.Prelude.{◌≡◌, ℕ, ◌+◌, Bool, ◌&&◌, ◌==◌, if◌then◌else◌, List, [], ◌∷◌, map, take, drop, length, Option, Some, None, Result, Ok, Err, ℤ}
+use Rattle.std.specs.Prelude.{ℕ, ◌+◌, Bool, ◌&&◌, ◌==◌, if◌then◌else◌, List, [], ◌∷◌, map, take, drop, length, Option, Some, None, Result, Ok, Err, ℤ}
 use Rattle.std.specs.Int.RustNames.{int_lt}
 use Rattle.std.specs.Ordering.{int_eq}
-use Rattle.farm_vcf.specs.declared.fault.VcfFault.{VcfFault}
-use Rattle.farm_vcf.specs.declared.fault.VcfFault.TheVariants.{NotGrid, NoMemory}
 use Rattle.farm_vcf.specs.declared.rows.Listed.{Listed}
 use Rattle.farm_vcf.specs.Closest.{listed_at}
+use Rattle.farm_vcf.specs.Faults.{FactorFault, NotGrid}
 use Rattle.farm_vcf.specs.Grid.{Grid}
-
--- A fault is the answer. Want of memory may come at any time.
-abbrev pub IsRefused : {A : Type 0} → VcfFault → Result A VcfFault → Type 0
-IsRefused NoMemory answer = Unit {0}
-IsRefused fault answer = answer ≡ Err fault
 
 -- how many of the leading rows have a density
 abbrev pub width_from : ℤ → List Listed → ℕ
@@ -71,18 +65,18 @@ grid_of_blocks width density rows = record {
 }
 
 -- the first row that is found breaks the grid; else the answer stands
-abbrev pub unless : {A : Type 0} → Option ℕ → Result A VcfFault → Result A VcfFault
+abbrev pub unless : {A : Type 0} → Option ℕ → Result A FactorFault → Result A FactorFault
 unless (Some number) answer = Err (NotGrid number)
 unless None answer = answer
 
 -- the first block is the leading rows of one density: its temperatures rise, and the blocks after it go on with it
-unfoldable pub grid_in_blocks : ℕ → ℤ → List Listed → Result Grid VcfFault
+unfoldable pub grid_in_blocks : ℕ → ℤ → List Listed → Result Grid FactorFault
 grid_in_blocks width density rows =
     unless (unrisen (take width rows))
     (unless (discontinued_from (temperatures_of (take width rows)) (width + 1) density 0 (drop width rows))
     (Ok (grid_of_blocks width density rows)))
 
 -- the grid of rows, or the first row at which they are none
-unfoldable pub grid_of_rows : List Listed → Result Grid VcfFault
+unfoldable pub grid_of_rows : List Listed → Result Grid FactorFault
 grid_of_rows [] = Err (NotGrid 1)
 grid_of_rows (row ∷ rows) = grid_in_blocks (width_from row.density (row ∷ rows)) row.density (row ∷ rows)

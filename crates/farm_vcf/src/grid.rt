@@ -1,11 +1,12 @@
-ghost use Rattle.std.specs.Prelude.{◌≡◌, ◌≤◌, ◌*◌, ◌&&◌, ◌==◌, nat_le, MatchResult, None, Ok, Some, IsTrue, length};
+ghost use Rattle.std.specs.Prelude.{◌≡◌, ◌≤◌, ◌*◌, ◌&&◌, ◌==◌, nat_le, IfSome, MatchResult, None, Ok, Some, IsTrue, length};
 ghost use Rattle.std.specs.Result.{OkIff};
+ghost use Rattle.farm_base.specs.Steps.{IsRefusedAs};
+ghost use Rattle.farm_vcf.specs.Faults.{reported};
 ghost use Rattle.farm_vcf.specs.Records.{IsFaultOfText, IsGridOfText, vcf_of};
-ghost use Rattle.farm_vcf.specs.Rows.{IsRefused};
 ghost use Rattle.farm_vcf.specs.Grid.{IsEntry, IsGrid, IsInGrid, grid_factor, grid_from, is_full};
 
 use crate::closest::{closest, is_covered, rises};
-use crate::reading::vcf_of;
+use crate::records::vcf_of;
 use crate::{BadGrid, NoEntry, VcfFault};
 use farm_fixed::{Centi, Dens, Fac5};
 use farm_rounding::Mode;
@@ -56,8 +57,8 @@ impl Vcf {
     ///
     /// The text is CSV by the csv reader's defaults. Blanks at the ends of a field are dropped.
     pub fn read(alloc: Global, text: &[u8]) -> Result<Vcf, VcfFault>
-        ensures value { MatchResult result (λ grid. vcf_of text.now ≡ Ok grid) (λ fault. IsRefused fault (vcf_of text.now)) }
-        ensures meaning { MatchResult result (λ grid. IsGridOfText text.now grid) (λ fault. IsFaultOfText text.now fault) }
+        ensures value { MatchResult result (λ grid. vcf_of text.now ≡ Ok grid) (λ fault. IsRefusedAs (reported fault) (vcf_of text.now)) }
+        ensures meaning { MatchResult result (λ grid. IsGridOfText text.now grid) (λ fault. IfSome (reported fault) (IsFaultOfText text.now)) }
     {
         vcf_of(alloc, text)
     }

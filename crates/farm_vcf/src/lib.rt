@@ -7,12 +7,12 @@
 mod closest;
 mod fault;
 mod grid;
-mod reading;
+mod records;
 mod rows;
 
 pub use fault::{BadGrid, NoEntry, VcfFault};
 pub use grid::Vcf;
-pub use reading::row_of_fields;
+pub use records::row_of_fields;
 pub use rows::{Listed, grid_of_rows};
 
 #[cfg(test)]

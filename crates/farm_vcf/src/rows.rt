@@ -1,8 +1,10 @@
 //! The rows of a factor file, and the grid that they are.
 
-ghost use Rattle.std.specs.Prelude.{◌≡◌, ◌≤◌, ◌<◌, ◌+◌, ◌∷◌, [], drop, length, take, MatchResult, Ok};
+ghost use Rattle.std.specs.Prelude.{◌≡◌, ◌≤◌, ◌<◌, ◌+◌, ◌∷◌, [], drop, length, take, IfSome, MatchResult, Ok};
+ghost use Rattle.farm_base.specs.Steps.{IsRefusedAs};
+ghost use Rattle.farm_vcf.specs.Faults.{reported};
 ghost use Rattle.farm_vcf.specs.Blocks.{IsFaultOfRows, IsGridOf};
-ghost use Rattle.farm_vcf.specs.Rows.{IsRefused, continues, densities_from, discontinued_from, factors_of, grid_in_blocks, grid_of_rows, next_column, temperatures_of, unrisen, unrisen_from, width_from};
+ghost use Rattle.farm_vcf.specs.Rows.{continues, densities_from, discontinued_from, factors_of, grid_in_blocks, grid_of_rows, next_column, temperatures_of, unrisen, unrisen_from, width_from};
 ghost use Rattle.farm_vcf.specs.declared.fault.VcfFault.TheVariants.{NoMemory};
 
 use crate::grid::assembled;
@@ -26,8 +28,8 @@ pub struct Listed {
 /// At most 100,000 rows are asked for. Whatever lists factors row by row is a grid by this one rule.
 pub fn grid_of_rows(alloc: Global, rows: &[Listed]) -> Result<Vcf, VcfFault>
     requires { length rows.now ≤ 100000 }
-    ensures value { MatchResult result (λ grid. grid_of_rows rows.now ≡ Ok grid) (λ fault. IsRefused fault (grid_of_rows rows.now)) }
-    ensures meaning { MatchResult result (λ grid. IsGridOf rows.now grid) (λ fault. IsFaultOfRows rows.now fault) }
+    ensures value { MatchResult result (λ grid. grid_of_rows rows.now ≡ Ok grid) (λ fault. IsRefusedAs (reported fault) (grid_of_rows rows.now)) }
+    ensures meaning { MatchResult result (λ grid. IsGridOf rows.now grid) (λ fault. IfSome (reported fault) (IsFaultOfRows rows.now)) }
 {
     match rows {
         [] => Err(VcfFault::NotGrid(1)),
@@ -45,7 +47,7 @@ fn grid_in_blocks(
     requires some { 0 < width }
     requires within { width ≤ length rows.now }
     requires few { length rows.now ≤ 100000 }
-    ensures { MatchResult result (λ grid. grid_in_blocks width density rows.now ≡ Ok grid) (λ fault. IsRefused fault (grid_in_blocks width density rows.now)) }
+    ensures { MatchResult result (λ grid. grid_in_blocks width density rows.now ≡ Ok grid) (λ fault. IsRefusedAs (reported fault) (grid_in_blocks width density rows.now)) }
 {
     if let Some(number) = unrisen(&rows[..width]) {
         return Err(VcfFault::NotGrid(number));

@@ -1,21 +1,20 @@
 -- What holds of parts without a fault.
 use Rattle.std.proofs.Common.{◌≡◌, ℕ, ◌≤◌, Option, Some, None, refl, arith}
 use Rattle.std.proofs.lemmas.Bool.Decides.{nat_tests}
-use Rattle.strap_courses.specs.declared.fault.StrapFault.{StrapFault}
-use Rattle.strap_courses.specs.declared.fault.StrapFault.TheVariants.{BadBottom, BadCourse, BadDeadwood}
+use Rattle.farm_base.specs.Steps.{or_else}
 use Rattle.strap_courses.specs.Courses.{StrappedTank, bottom_height, height_of}
-use Rattle.strap_courses.specs.Faults.{at_number, bad_course, bad_deadwood, bad_point, first_fault, no_course, or_else, wrong_height}
+use Rattle.strap_courses.specs.Faults.{TankFault, BadBottom, BadCourse, BadDeadwood, at_number, bad_course, bad_deadwood, bad_point, first_fault, no_course, wrong_height}
 
 -- a fault is found first by whatever finds one
-pub no_first : (a b : Option StrapFault) → or_else a b ≡ None → a ≡ None
+pub no_first : (a b : Option TankFault) → or_else a b ≡ None → a ≡ None
 no_first None b none = refl
 no_first (Some fault) b none = cc
 
-pub no_second : (a b : Option StrapFault) → or_else a b ≡ None → b ≡ None
+pub no_second : (a b : Option TankFault) → or_else a b ≡ None → b ≡ None
 no_second None b none = none
 no_second (Some fault) b none = cc
 
-no_number : (fault : ℕ → StrapFault) (n : Option ℕ) → at_number fault n ≡ None → n ≡ None
+no_number : (fault : ℕ → TankFault) (n : Option ℕ) → at_number fault n ≡ None → n ≡ None
 no_number fault None none = refl
 no_number fault (Some n) none = cc
 

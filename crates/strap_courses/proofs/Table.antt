@@ -1,14 +1,13 @@
 -- Rows one after another, and what they have in common.
-use Rattle.std.proofs.Common.{◌≡◌, ℕ, zero, suc, ◌+◌, ◌-◌, ◌^◌, ◌<◌, ◌≤◌, Bool, true, false, List, [], ◌∷◌, ◌++◌, length, get_or, Option, Some, None, Result, Ok, Err, ℤ, pos, ◌≤ℤ◌, refl, sym, ap, ◌∙◌, subst, add-one, append_assoc, append-nil, arith}
+use Rattle.std.proofs.Common.{◌≡◌, ℕ, zero, suc, ◌+◌, ◌-◌, ◌^◌, ◌<◌, ◌≤◌, Bool, true, false, List, [], ◌∷◌, ◌++◌, length, get_or, Option, Some, None, Ok, Err, ℤ, pos, ◌≤ℤ◌, refl, sym, ap, ◌∙◌, subst, add-one, append_assoc, append-nil, arith}
 use Rattle.std.proofs.lemmas.Int.{ints}
 use Rattle.std.specs.Int.RustNames.{int_lt}
+use Rattle.farm_base.specs.Steps.{IsRefusedAs, or_else}
 use Rattle.farm_fixed.specs.Range.{IsWithin, is_within}
 use Rattle.farm_rounding.specs.Table.{Row}
-use Rattle.strap_courses.specs.declared.fault.StrapFault.{StrapFault}
-use Rattle.strap_courses.specs.declared.fault.StrapFault.TheVariants.{NoCourse, BadCourse, BadDeadwood, BadBottom, NotRising, TooTall, TooLarge, NoMemory}
 use Rattle.strap_courses.specs.Courses.{StrappedTank}
-use Rattle.strap_courses.specs.Rows.{IsRefused, IsStrappedTable, first_wrong, row_count, rows_from, strapped_row, strapped_rows, unless_wrong, wrong_row}
-use Rattle.strap_courses.specs.Faults.{or_else}
+use Rattle.strap_courses.specs.Rows.{IsStrappedTable, first_wrong, row_count, rows_from, strapped_row, strapped_rows, unless_wrong, wrong_row}
+use Rattle.strap_courses.specs.Faults.{TankFault, NotRising, TooLarge}
 use Rattle.strap_courses.proofs.Faultless.{no_first, no_second}
 
 -- so many rows are as many
@@ -38,7 +37,7 @@ not_below : (row before : ℤ) → int_lt row before ≡ false → before ≤ℤ
 not_below row before accepted = grind (arith, ints)
 
 -- a fault isn't none
-not_none : (fault : StrapFault) → Some fault ≡ None → ⊥
+not_none : (fault : TankFault) → Some fault ≡ None → ⊥
 not_none fault some = cc
 
 -- what holds of a row that isn't wrong
@@ -78,7 +77,7 @@ rising_rows rows k d none short =
     subst P (sym (add-one k)) rising
 
 -- rows of which none is wrong are the answer
-accepted : (wrong : Option StrapFault) (rows answer : List ℤ) → unless_wrong rows wrong ≡ Ok answer → (wrong ≡ None) × (rows ≡ answer)
+accepted : (wrong : Option TankFault) (rows answer : List ℤ) → unless_wrong rows wrong ≡ Ok answer → (wrong ≡ None) × (rows ≡ answer)
 accepted None rows answer ok = (refl, cc)
 accepted (Some fault) rows answer ok = cc
 
@@ -99,7 +98,7 @@ strapped_table rounds tank rows ok =
     })
 
 -- a fault at a row that is reached is the answer
-pub wrong_at : (rounds : List Row) (tank : StrappedTank) (i count : ℕ) (before : ℤ) (fault : StrapFault) → i < count → count ≡ row_count tank →
+pub wrong_at : (rounds : List Row) (tank : StrappedTank) (i count : ℕ) (before : ℤ) (fault : TankFault) → i < count → count ≡ row_count tank →
     first_wrong i before (rows_from rounds tank i (count - i)) ≡ first_wrong 0 (pos 0) (rows_from rounds tank 0 count) →
     wrong_row i before (strapped_row rounds tank i) ≡ Some fault → strapped_rows rounds tank ≡ Err fault
 unfolding strapped_rows
@@ -111,6 +110,13 @@ wrong_at rounds tank i count before fault short count_is reached wrong =
     sym reached ∙ ap (λ rows. first_wrong i before rows) (rows_more rounds tank i count short) ∙ here in
     let P : ℕ → Type 0 = λ n. unless_wrong (rows_from rounds tank 0 n) (first_wrong 0 (pos 0) (rows_from rounds tank 0 n)) ≡ Err fault in
     subst P count_is (ap (λ wrong. unless_wrong (rows_from rounds tank 0 count) wrong) first)
+
+-- so what a call reports there is the answer
+pub reported_at : (rounds : List Row) (tank : StrappedTank) (i count : ℕ) (before : ℤ) (fault : Option TankFault) → i < count → count ≡ row_count tank →
+    first_wrong i before (rows_from rounds tank i (count - i)) ≡ first_wrong 0 (pos 0) (rows_from rounds tank 0 count) →
+    wrong_row i before (strapped_row rounds tank i) ≡ fault → IsRefusedAs fault (strapped_rows rounds tank)
+reported_at rounds tank i count before None short count_is reached wrong = tt
+reported_at rounds tank i count before (Some fault) short count_is reached wrong = wrong_at rounds tank i count before fault short count_is reached wrong
 
 -- past a row that isn't wrong, the others are looked at
 pub right_at : (rounds : List Row) (tank : StrappedTank) (i count : ℕ) (before : ℤ) → i < count → wrong_row i before (strapped_row rounds tank i) ≡ None →
@@ -140,14 +146,3 @@ right_to_the_end rounds tank i count before rows all count_is so_far reached =
     let whole : rows_from rounds tank 0 count ≡ rows = sym so_far ∙ ap (λ later. rows ++ later) none ∙ append-nil rows in
     let P : ℕ → Type 0 = λ n. unless_wrong (rows_from rounds tank 0 n) (first_wrong 0 (pos 0) (rows_from rounds tank 0 n)) ≡ Ok rows in
     subst P count_is (ap (λ wrong. unless_wrong (rows_from rounds tank 0 count) wrong) first ∙ ap Ok whole)
-
--- a fault that is the answer is told
-pub is_refused : (fault : StrapFault) (answer : Result (List ℤ) StrapFault) → answer ≡ Err fault → IsRefused fault answer
-is_refused NoCourse answer told = told
-is_refused (BadCourse n) answer told = told
-is_refused (BadDeadwood n) answer told = told
-is_refused (BadBottom n) answer told = told
-is_refused (NotRising i) answer told = told
-is_refused TooTall answer told = told
-is_refused (TooLarge i) answer told = told
-is_refused NoMemory answer told = tt

@@ -9,8 +9,8 @@ mod arithmetic;
 mod bottom;
 mod deadwood;
 mod fault;
+mod faults;
 mod parts;
-mod search;
 mod shell;
 mod strapping;
 

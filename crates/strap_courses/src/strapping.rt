@@ -1,15 +1,17 @@
-ghost use Rattle.std.specs.Prelude.{◌≡◌, ◌≤◌, ◌*◌, ◌^◌, pos, IfOk, MatchResult, None, Ok, Some};
+ghost use Rattle.std.specs.Prelude.{◌≡◌, ◌≤◌, ◌*◌, ◌^◌, pos, IfOk, MatchResult, None, Err, Ok, Some};
 ghost use Rattle.std.specs.Int.RustNames.{unsigned_abs};
+ghost use Rattle.farm_base.specs.Steps.{IsRefusedAs};
 ghost use Rattle.farm_fixed.specs.Range.{IsWithin};
 ghost use Rattle.farm_rounding.specs.Table.{row_at};
+ghost use Rattle.strap_courses.specs.declared.fault.StrapFault.TheVariants.{NoMemory};
 ghost use Rattle.strap_courses.specs.Courses.{bottom_height, exact_volume, height_of, last_point};
-ghost use Rattle.strap_courses.specs.Faults.{first_fault};
-ghost use Rattle.strap_courses.specs.Rows.{IsRefused, IsStrappedTable, row_count, rounded, strapped_row, strapped_rows, wrong_row};
+ghost use Rattle.strap_courses.specs.Faults.{first_fault, found, reported};
+ghost use Rattle.strap_courses.specs.Rows.{IsStrappedTable, row_count, rounded, strapped_row, strapped_rows, wrong_row};
 
 use crate::arithmetic::{less, product, rounded, sum};
 use crate::bottom::{bottom_height, bottom_row, whole_bottom};
 use crate::deadwood::deadwood_parts;
-use crate::search::first_fault;
+use crate::faults::first_fault;
 use crate::shell::{height, held_between};
 use crate::{Course, Deadwood, StrapFault};
 use farm_fixed::Mm;
@@ -56,7 +58,8 @@ impl Strapping {
     ) -> Result<Strapping, StrapFault>
         ensures first { MatchResult result
             (λ _. first_fault (record { courses = courses.items; deadwoods = deadwoods.items; bottom = bottom.items }) ≡ None)
-            (λ fault. first_fault (record { courses = courses.items; deadwoods = deadwoods.items; bottom = bottom.items }) ≡ Some fault) }
+            (λ fault. first_fault (record { courses = courses.items; deadwoods = deadwoods.items; bottom = bottom.items }) ≡ reported fault) }
+        ensures takes_no_memory { ¬ (result ≡ Err NoMemory) }
         ensures parts { IfOk result (λ tank. tank ≡ record { courses = courses.items; deadwoods = deadwoods.items; bottom = bottom.items }) }
     {
         match first_fault(&courses, &deadwoods, &bottom) {
@@ -75,7 +78,7 @@ impl Strapping {
     /// rounding. `TooLarge` or `NotRising` at the first row that is wrong, in this order at one row. Each row is summed from
     /// the bottom anew.
     pub fn rows(&self, alloc: Global, rounds: &RoundTable) -> Result<Vec<i64>, StrapFault>
-        ensures value { MatchResult result (λ rows. strapped_rows rounds.now self.now ≡ Ok rows.items) (λ fault. IsRefused fault (strapped_rows rounds.now self.now)) }
+        ensures value { MatchResult result (λ rows. strapped_rows rounds.now self.now ≡ Ok rows.items) (λ fault. IsRefusedAs (reported fault) (strapped_rows rounds.now self.now)) }
         ensures meaning { IfOk result (λ rows. IsStrappedTable rounds.now self.now rows.items) }
         ensures tank { first_fault self.now ≡ None }
     {
@@ -140,7 +143,7 @@ impl Strapping {
 
 // What is wrong with row i after the one before it.
 fn wrong_row(i: usize, before: i128, row: i128) -> Option<StrapFault>
-    ensures value { result ≡ wrong_row i before row }
+    ensures value { wrong_row i before row ≡ found result }
     ensures range { result ≡ None → IsWithin (pos 0) (pos (10 ^ 9)) row }
 {
     if row < 0 || row > GREATEST_ROW {

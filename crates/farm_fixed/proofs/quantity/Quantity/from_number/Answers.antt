@@ -5,9 +5,9 @@ use Rattle.std.specs.Char.{IsAsciiDigit}
 use Rattle.std.specs.List.{AllByRecursion, before_first, after_first}
 use Rattle.std.specs.Result.{OkIff}
 use Rattle.farm_fixed.specs.Range.{IsWithin}
-use Rattle.farm_fixed.specs.Reading.{number_of}
+use Rattle.farm_fixed.specs.Parsing.{number_of}
 use Rattle.farm_fixed.proofs.Parts.{text_of_parts}
-use Rattle.farm_fixed.proofs.ReadingLaws.{from_fine, value_from_parts, from_new, from_mapped}
+use Rattle.farm_fixed.proofs.ParsingLaws.{from_fine, value_from_parts, from_new, from_mapped}
 use Rattle.farm_fixed.proofs.quantity.Quantity.from_number.Goals as goal
 
 pub returns-then-fraction-places : goal.returns-then-fraction-places

@@ -1,5 +1,5 @@
 use Rattle.std.proofs.Common.{sym, ◌∙◌}
-use Rattle.farm_fixed.proofs.ReadingLaws.{quantity_of-empty, quantity_of-bad, quantity_of-number, empty_length, some_length, right_answer_for}
+use Rattle.farm_fixed.proofs.ParsingLaws.{quantity_of-empty, quantity_of-bad, quantity_of-number, empty_length, some_length, right_answer_for}
 use Rattle.farm_fixed.proofs.quantity.Quantity.read.Goals as goal
 
 pub returns-then-is_empty-clause-value : goal.returns-then-is_empty-clause-value

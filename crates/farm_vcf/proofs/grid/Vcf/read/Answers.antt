@@ -1,5 +1,5 @@
-use Rattle.farm_vcf.proofs.Meanings.{told_of_text}
+use Rattle.farm_vcf.proofs.Meanings.{answer_of_text}
 use Rattle.farm_vcf.proofs.grid.Vcf.read.Goals as goal
 
 pub returns-clause-meaning : goal.returns-clause-meaning
-returns-clause-meaning c = told_of_text c.args.text.now c.vcf_of.result c.vcf_of.ensures
+returns-clause-meaning c = answer_of_text c.args.text.now c.vcf_of.result c.vcf_of.ensures

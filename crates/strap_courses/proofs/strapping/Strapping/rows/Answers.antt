@@ -1,10 +1,11 @@
-use Rattle.std.proofs.Common.{◌≡◌, ◌+◌, ◌-◌, ◌^◌, ◌++◌, [], ◌∷◌, List, None, Some, ℤ, pos, to_z, of_z, w64, refl, sym, subst, ap, ◌∙◌, rules}
+use Rattle.std.proofs.Common.{◌≡◌, ◌+◌, ◌-◌, ◌^◌, ◌++◌, [], ◌∷◌, List, None, ℤ, pos, to_z, of_z, w64, refl, sym, subst, ap, ◌∙◌, rules}
 use mir.Val.{SFits}
 use Rattle.std.specs.Int.{w128}
 use Rattle.std.proofs.lemmas.Int.{to_z-of_z}
 use Rattle.farm_fixed.specs.Range.{IsWithin}
-use Rattle.strap_courses.specs.Rows.{first_wrong, rows_from, strapped_row, strapped_rows, wrong_row}
-use Rattle.strap_courses.proofs.Table.{is_refused, right_at, right_to_the_end, row_pushed, strapped_table, wrong_at}
+use Rattle.strap_courses.specs.Faults.{reported}
+use Rattle.strap_courses.specs.Rows.{first_wrong, rows_from, strapped_row, wrong_row}
+use Rattle.strap_courses.proofs.Table.{reported_at, right_at, right_to_the_end, row_pushed, strapped_table}
 use Rattle.strap_courses.proofs.strapping.Strapping.rows.Goals as goal
 
 pub returns-in-Some-clause-value : goal.returns-in-Some-clause-value
@@ -14,9 +15,8 @@ returns-in-Some-clause-value c =
     let i = c.loop-i.i in
     let before = to_z w128 c.loop-i.before-bits in
     let row_is : to_z w128 (of_z w128 c.row-row.result) ≡ strapped_row rounds tank i = to_z-of_z w128 c.row-row.result (search rules) ∙ c.row-row.ensures in
-    let wrong : wrong_row i before (strapped_row rounds tank i) ≡ Some c.in-Some.fault = sym (c.in-Some.ensures.value ∙ ap (λ row. wrong_row i before row) row_is) in
-    is_refused c.in-Some.fault (strapped_rows rounds tank)
-    (wrong_at rounds tank i c.row_count-count.result before c.in-Some.fault c.loop-i-test.true c.row_count-count.ensures.value c.loop-i.invariant.right wrong)
+    let wrong : wrong_row i before (strapped_row rounds tank i) ≡ reported c.in-Some.fault = sym (ap (λ row. wrong_row i before row) row_is) ∙ c.in-Some.ensures.value in
+    reported_at rounds tank i c.row_count-count.result before (reported c.in-Some.fault) c.loop-i-test.true c.row_count-count.ensures.value c.loop-i.invariant.right wrong
 
 pub loop-i-preserved : goal.loop-i-preserved
 loop-i-preserved c =
@@ -28,7 +28,7 @@ loop-i-preserved c =
     let rows = c.loop-i.rows.items in
     let row = to_z w128 (of_z w128 c.row-row.result) in
     let row_is : row ≡ strapped_row rounds tank i = to_z-of_z w128 c.row-row.result (search rules) ∙ c.row-row.ensures in
-    let none : wrong_row i before (strapped_row rounds tank i) ≡ None = sym (c.in_default.ensures.value ∙ ap (λ row. wrong_row i before row) row_is) in
+    let none : wrong_row i before (strapped_row rounds tank i) ≡ None = sym (ap (λ row. wrong_row i before row) row_is) ∙ c.in_default.ensures.value in
     let range : IsWithin (pos 0) (pos (10 ^ 9)) row = c.in_default.ensures.range refl in
     let fits : SFits w64 row = search rules in
     let pushed : c.push.new.self.items ≡ rows ++ strapped_row rounds tank i ∷ [] =

@@ -1,7 +1,7 @@
 use Rattle.std.proofs.Common.{◌≡◌, ◌∙◌, length, sym, arith}
 use Rattle.csv.specs.Records.{fields_of}
 use Rattle.farm_vcf.proofs.Fields.{field_there, not_three, three_fields}
-use Rattle.farm_vcf.proofs.reading.row_of.Goals as goal
+use Rattle.farm_vcf.proofs.records.row_of.Goals as goal
 
 pub returns-then-len-ne3 : goal.returns-then-len-ne3
 returns-then-len-ne3 c = sym (not_three (fields_of c.args.fields.now) (λ three. c.if-len-ne3.true (c.len.ensures ∙ three)))

@@ -35,12 +35,12 @@ quantity_of places least most (byte ∷ bytes) =
     unless_bad (bad_offset (byte ∷ bytes)) (quantity_from places least most (number_of (byte ∷ bytes)))
 
 -- Reading in the words of the rule: the answer is right for this text.
-abbrev pub IsReading : ℕ → ℤ → ℤ → List ℕ → Result ℤ ReadFault → Type 0
-IsReading places least most text (Ok value) =
+abbrev pub IsReadAs : ℕ → ℤ → ℤ → List ℕ → Result ℤ ReadFault → Type 0
+IsReadAs places least most text (Ok value) =
     (number : Number) × IsTextOf text number × (length number.fraction ≤ places) × (value ≡ value_of places number) × IsWithin least most value
-IsReading places least most text (Err Empty) = text ≡ []
-IsReading places least most text (Err (BadByte offset)) = (0 < length text) × IsBadAt text offset
-IsReading places least most text (Err TooFine) =
+IsReadAs places least most text (Err Empty) = text ≡ []
+IsReadAs places least most text (Err (BadByte offset)) = (0 < length text) × IsBadAt text offset
+IsReadAs places least most text (Err TooFine) =
     (number : Number) × IsTextOf text number × (places < length number.fraction)
-IsReading places least most text (Err OutOfRange) =
+IsReadAs places least most text (Err OutOfRange) =
     (number : Number) × IsTextOf text number × (length number.fraction ≤ places) × ¬ (IsWithin least most (value_of places number))

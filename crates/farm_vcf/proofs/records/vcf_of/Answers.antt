@@ -1,5 +1,5 @@
 use Rattle.farm_vcf.proofs.Fields.{even_records, uneven_records}
-use Rattle.farm_vcf.proofs.reading.vcf_of.Goals as goal
+use Rattle.farm_vcf.proofs.records.vcf_of.Goals as goal
 
 pub returns-in-Ok : goal.returns-in-Ok
 returns-in-Ok c =

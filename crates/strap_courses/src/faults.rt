@@ -1,7 +1,8 @@
 //! What is wrong with parts: the first fault, each cause looked for over its whole list.
 
-ghost use Rattle.std.specs.Prelude.{◌≡◌};
-ghost use Rattle.strap_courses.specs.Faults.{bad_course, bad_deadwood, bad_point, deducts_too_much, first_fault, follows, is_bad_course, is_bad_deadwood, is_bottom_volume, wrong_height};
+ghost use Rattle.std.specs.Prelude.{◌≡◌, Some};
+ghost use Rattle.strap_courses.specs.declared.fault.StrapFault.TheVariants.{NoMemory};
+ghost use Rattle.strap_courses.specs.Faults.{bad_course, bad_deadwood, bad_point, deducts_too_much, first_fault, follows, found, is_bad_course, is_bad_deadwood, is_bottom_volume, wrong_height};
 
 use crate::arithmetic::millimetres;
 use crate::bottom::bottom_height;
@@ -22,7 +23,8 @@ pub fn first_fault(
     deadwoods: &[Deadwood],
     bottom: &[(Mm, i64)],
 ) -> Option<StrapFault>
-    ensures { result ≡ first_fault (record { courses = courses.now; deadwoods = deadwoods.now; bottom = bottom.now }) }
+    ensures first { first_fault (record { courses = courses.now; deadwoods = deadwoods.now; bottom = bottom.now }) ≡ found result }
+    ensures takes_no_memory { ¬ (result ≡ Some NoMemory) }
 {
     if courses.is_empty() {
         return Some(StrapFault::NoCourse);
@@ -118,7 +120,8 @@ fn is_bottom_volume(point: (Mm, i64)) -> bool
 
 // The fault of courses of this height over a bottom of that.
 fn wrong_height(top: u64, height: u128) -> Option<StrapFault>
-    ensures { result ≡ wrong_height top height }
+    ensures first { wrong_height top height ≡ found result }
+    ensures takes_no_memory { ¬ (result ≡ Some NoMemory) }
 {
     if height < LEAST_HEIGHT || height > GREATEST_HEIGHT || height < u128::from(top) {
         return Some(StrapFault::TooTall);

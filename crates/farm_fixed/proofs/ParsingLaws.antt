@@ -9,7 +9,7 @@ use Rattle.farm_fixed.specs.declared.fault.ReadFault.{ReadFault}
 use Rattle.farm_fixed.specs.declared.fault.ReadFault.TheVariants.{Empty, BadByte, TooFine, OutOfRange}
 use Rattle.farm_fixed.specs.Range.{IsWithin, is_within, IsSmall}
 use Rattle.farm_fixed.specs.Text.{Number, IsTextOf, bad_offset, signed, value_of}
-use Rattle.farm_fixed.specs.Reading.{number_of, quantity_from, unless_bad, quantity_of, IsReading}
+use Rattle.farm_fixed.specs.Parsing.{number_of, quantity_from, unless_bad, quantity_of, IsReadAs}
 use Rattle.farm_fixed.proofs.TextLaws.{bad_at_from_some}
 use Rattle.farm_fixed.proofs.Parts.{text_of_parts}
 
@@ -118,7 +118,7 @@ quantity_of-empty places least most (byte ∷ bytes) e = absurd (omega arith)
 
 right_from : (places : ℕ) (least most : ℤ) (byte : ℕ) (bytes : List ℕ) (fine within : Bool) → let text = byte ∷ bytes in let number = number_of text in
     nat_lt places (length number.fraction) ≡ fine → is_within least most (value_of places number) ≡ within → IsTextOf text number →
-    IsReading places least most text (if fine then Err TooFine else (if within then Ok (value_of places number) else Err OutOfRange))
+    IsReadAs places least most text (if fine then Err TooFine else (if within then Ok (value_of places number) else Err OutOfRange))
 right_from places least most byte bytes true within f r w = (number_of (byte ∷ bytes), w, grind (arith, nat_tests))
 right_from places least most byte bytes false true f r w = (number_of (byte ∷ bytes), w, grind (arith, nat_tests), refl, is_within-true least most (value_of places (number_of (byte ∷ bytes))) r)
 right_from places least most byte bytes false false f r w = (
@@ -131,7 +131,7 @@ right_from places least most byte bytes false false f r w = (
 )
 
 right_unless : (places : ℕ) (least most : ℤ) (byte : ℕ) (bytes : List ℕ) (bad : Option ℕ) → bad_offset (byte ∷ bytes) ≡ bad →
-    IsReading places least most (byte ∷ bytes) (unless_bad bad (quantity_from places least most (number_of (byte ∷ bytes))))
+    IsReadAs places least most (byte ∷ bytes) (unless_bad bad (quantity_from places least most (number_of (byte ∷ bytes))))
 unfolding quantity_from
 right_unless places least most byte bytes (Some offset) e = (omega arith, bad_at_from_some (byte ∷ bytes) offset e)
 right_unless places least most byte bytes None e =
@@ -139,14 +139,14 @@ right_unless places least most byte bytes None e =
     right_from places least most byte bytes (nat_lt places (length number.fraction)) (is_within least most (value_of places number)) refl refl (text_of_parts (byte ∷ bytes) e)
 
 -- what a text is read as is right in the words of the rule
-pub reading_is_right : (places : ℕ) (least most : ℤ) (text : List ℕ) → IsReading places least most text (quantity_of places least most text)
+pub parsing_is_right : (places : ℕ) (least most : ℤ) (text : List ℕ) → IsReadAs places least most text (quantity_of places least most text)
 unfolding quantity_of
-reading_is_right places least most [] = refl
-reading_is_right places least most (byte ∷ bytes) = right_unless places least most byte bytes (bad_offset (byte ∷ bytes)) refl
+parsing_is_right places least most [] = refl
+parsing_is_right places least most (byte ∷ bytes) = right_unless places least most byte bytes (bad_offset (byte ∷ bytes)) refl
 
 -- an answer that is what the text is read as is right
-pub right_answer_for : (places : ℕ) (least most : ℤ) (text : List ℕ) (answer : Result ℤ ReadFault) → answer ≡ quantity_of places least most text → IsReading places least most text answer
-right_answer_for places least most text answer is = subst (IsReading places least most text) (sym is) (reading_is_right places least most text)
+pub right_answer_for : (places : ℕ) (least most : ℤ) (text : List ℕ) (answer : Result ℤ ReadFault) → answer ≡ quantity_of places least most text → IsReadAs places least most text answer
+right_answer_for places least most text answer is = subst (IsReadAs places least most text) (sym is) (parsing_is_right places least most text)
 
 -- the value as it is cut off, from what it was made of
 pub value_from_parts : (places : ℕ) (number : Number) (negative : Bool) (whole fraction : List ℕ) (magnitude : ℕ) (v : ℤ) →

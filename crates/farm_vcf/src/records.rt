@@ -1,8 +1,9 @@
-//! Reading a factor file.
+//! The records of a factor file, and the grid that they list.
 
 ghost use Rattle.std.specs.Prelude.{◌≡◌, map, MatchResult, Ok};
 ghost use Rattle.csv.specs.Records.{fields_of};
-ghost use Rattle.farm_vcf.specs.Rows.{IsRefused};
+ghost use Rattle.farm_base.specs.Steps.{IsRefusedAs};
+ghost use Rattle.farm_vcf.specs.Faults.{reported};
 ghost use Rattle.farm_vcf.specs.Records.{grid_of_few, grid_under_header, row_of, row_of_fields, rows_from, vcf_of};
 
 use crate::rows::{Listed, grid_of_rows};
@@ -17,7 +18,7 @@ const MOST: usize = 100_000;
 
 /// The grid of a text.
 pub fn vcf_of(alloc: Global, text: &[u8]) -> Result<Vcf, VcfFault>
-    ensures { MatchResult result (λ grid. vcf_of text.now ≡ Ok grid) (λ fault. IsRefused fault (vcf_of text.now)) }
+    ensures { MatchResult result (λ grid. vcf_of text.now ≡ Ok grid) (λ fault. IsRefusedAs (reported fault) (vcf_of text.now)) }
 {
     match records_of(alloc, text) {
         Ok(records) => grid_under_header(alloc, records.as_slice()),
@@ -28,7 +29,7 @@ pub fn vcf_of(alloc: Global, text: &[u8]) -> Result<Vcf, VcfFault>
 
 /// The grid of the records after the header.
 fn grid_under_header(alloc: Global, records: &[ByteRecord]) -> Result<Vcf, VcfFault>
-    ensures { MatchResult result (λ grid. grid_under_header (map fields_of records.now) ≡ Ok grid) (λ fault. IsRefused fault (grid_under_header (map fields_of records.now))) }
+    ensures { MatchResult result (λ grid. grid_under_header (map fields_of records.now) ≡ Ok grid) (λ fault. IsRefusedAs (reported fault) (grid_under_header (map fields_of records.now))) }
 {
     match records {
         [] => Err(VcfFault::NotGrid(1)),
@@ -38,7 +39,7 @@ fn grid_under_header(alloc: Global, records: &[ByteRecord]) -> Result<Vcf, VcfFa
 
 /// The grid of the records, no header among them.
 fn grid_of_body(alloc: Global, records: &[ByteRecord]) -> Result<Vcf, VcfFault>
-    ensures { MatchResult result (λ grid. grid_of_few (rows_from 1 (map fields_of records.now)) ≡ Ok grid) (λ fault. IsRefused fault (grid_of_few (rows_from 1 (map fields_of records.now)))) }
+    ensures { MatchResult result (λ grid. grid_of_few (rows_from 1 (map fields_of records.now)) ≡ Ok grid) (λ fault. IsRefusedAs (reported fault) (grid_of_few (rows_from 1 (map fields_of records.now)))) }
 {
     match rows_of(alloc, records) {
         Ok(rows) => grid_of_few(alloc, rows.as_slice()),
@@ -48,7 +49,7 @@ fn grid_of_body(alloc: Global, records: &[ByteRecord]) -> Result<Vcf, VcfFault>
 
 /// The grid of rows, of which there may be so many.
 fn grid_of_few(alloc: Global, rows: &[Listed]) -> Result<Vcf, VcfFault>
-    ensures { MatchResult result (λ grid. grid_of_few (Ok rows.now) ≡ Ok grid) (λ fault. IsRefused fault (grid_of_few (Ok rows.now))) }
+    ensures { MatchResult result (λ grid. grid_of_few (Ok rows.now) ≡ Ok grid) (λ fault. IsRefusedAs (reported fault) (grid_of_few (Ok rows.now))) }
 {
     if rows.len() > MOST {
         return Err(VcfFault::TooMany);
@@ -58,7 +59,7 @@ fn grid_of_few(alloc: Global, rows: &[Listed]) -> Result<Vcf, VcfFault>
 
 /// The rows of records.
 fn rows_of(alloc: Global, records: &[ByteRecord]) -> Result<Vec<Listed>, VcfFault>
-    ensures { MatchResult result (λ list. rows_from 1 (map fields_of records.now) ≡ Ok list.items) (λ fault. IsRefused fault (rows_from 1 (map fields_of records.now))) }
+    ensures { MatchResult result (λ list. rows_from 1 (map fields_of records.now) ≡ Ok list.items) (λ fault. IsRefusedAs (reported fault) (rows_from 1 (map fields_of records.now))) }
 {
     let mut rows = Vec::new(alloc);
     for (index, fields) in records.iter().enumerate() {

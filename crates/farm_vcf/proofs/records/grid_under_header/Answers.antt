@@ -1,5 +1,5 @@
 use Rattle.farm_vcf.proofs.Fields.{after_header, no_header}
-use Rattle.farm_vcf.proofs.reading.grid_under_header.Goals as goal
+use Rattle.farm_vcf.proofs.records.grid_under_header.Goals as goal
 
 pub returns-in-empty : goal.returns-in-empty
 returns-in-empty c = no_header c.args.records.now c.in-empty.len_below
