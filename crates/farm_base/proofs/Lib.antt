@@ -1,2 +1,3 @@
 pub mod Rises
 pub mod Additions
+pub mod BoolTests

@@ -11,7 +11,7 @@ Rose before now = RoseBy 1 before now
 
 -- the count hasn't fallen, and the call failed only where it rose
 pub record HasCause {T E : Type 0} (before now : ℕ) (result : Result T E) : Type 0 where
-  pub later : before ≤ now
+  pub never_falls : before ≤ now
   pub failed : OnErr result (Rose before now)
 
 -- a count before a call and after it
@@ -23,6 +23,6 @@ pub record Count : Type 0 where
 abbrev pub HasRisen : Count → Type 0
 HasRisen count = Rose count.before count.now
 
--- the count didn't rise in the call
+-- the count after the call is the one before it
 abbrev pub IsQuiet : Count → Type 0
 IsQuiet count = count.now ≡ count.before

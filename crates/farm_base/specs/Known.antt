@@ -1,18 +1,19 @@
--- What an object tells of its bytes. Objects in memory tell, real ones don't (None); one may stop telling and never starts again.
+-- What an object is known to hold. Of an object in memory it is known (Some), of a real one it isn't (None). What is no
+-- longer known is never known again.
 use Rattle.std.specs.Prelude.{◌≡◌, ℕ, ◌≤◌, List, [], ◌∷◌, ◌++◌, length, take, Option, Some, None, Result, Err}
 use Rattle.farm_base.specs.Counts.{Rose}
 
--- holds of the value where one is told
+-- holds of the value where it is known
 abbrev pub WhereKnown : {A : Type 0} → Option A → (A → Type 0) → Type 0
 WhereKnown None P = Unit {0}
 WhereKnown (Some x) P = P x
 
--- what is told afterwards is what was told before
+-- what is known afterwards is what was known before
 abbrev pub Stays : {A : Type 0} → Option A → Option A → Type 0
 Stays old None = Unit {0}
 Stays old (Some new) = old ≡ Some new
 
--- where the object still tells, it holds these bytes more
+-- where the content is known afterwards, it is the content before and then these bytes
 abbrev pub Adds : Option (List ℕ) → Option (List ℕ) → List ℕ → Type 0
 Adds old None bytes = Unit {0}
 Adds None (Some new) bytes = ⊥
@@ -28,7 +29,7 @@ pub record Moved (old new : Stream) (bytes : List ℕ) : Type 0 where
   pub taken : new.taken ≡ old.taken ++ bytes
   pub left : old.left ≡ bytes ++ new.left
 
--- where the source still tells, these bytes were taken from it
+-- where the stream is known afterwards, these bytes were taken from it
 abbrev pub Takes : Option Stream → Option Stream → List ℕ → Type 0
 Takes old None bytes = Unit {0}
 Takes None (Some new) bytes = ⊥
@@ -52,7 +53,8 @@ pub record AddsWhole (old new : Option (List ℕ)) (texts : List (List ℕ)) (la
   pub added : Adds old new (bytes ++ last)
   pub fronts : Fronts texts bytes
 
--- What an object is known to hold stayed; its count hasn't fallen, rose where the call failed for the object, and else stands.
+-- What an object is known to hold stayed. Its count hasn't fallen, rose where the call answers that the object failed, and
+-- is as before where it answers anything else.
 pub record KeepsKnown {A T E : Type 0} (old new : Option A) (before now : ℕ) (failed : E) (result : Result T E) : Type 0 where
   pub stays : Stays old new
   pub never_falls : before ≤ now

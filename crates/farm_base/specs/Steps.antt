@@ -17,8 +17,8 @@ abbrev pub or_fault : {A E : Type 0} → E → Option A → Result A E
 or_fault fault None = Err fault
 or_fault fault (Some value) = Ok value
 
--- A call's refusal is the fault of the definition. A refusal that no definition has (None: out of memory, a port that
--- failed) may come at any time.
+-- A call is refused with the fault of the definition. A refusal that no definition has (None: out of memory, or a port
+-- that failed) may come at any time.
 abbrev pub IsRefusedAs : {A E : Type 0} → Option E → Result A E → Type 0
 IsRefusedAs None answer = Unit {0}
 IsRefusedAs (Some fault) answer = answer ≡ Err fault

@@ -1,12 +1,16 @@
-//! The words that every crate of the custody desk shares: counts of faults, what an object tells of its bytes,
-//! and the one answer whose cause no contract states, want of memory.
+//! The words that every crate of the custody desk shares: counts of faults, what an object is known to hold, steps that may
+//! fail, blanks and digits, a list that clauses see as a list, and `NoMemory`, the one answer whose cause no clause states.
 //!
-//! The definitions stand in `specs/`; docs/definitions.md reads them aloud. `laws` has what follows from them.
+//! The definitions stand in `specs/`; docs/definitions.md reads them aloud. `laws` states what follows from them.
 #![tactic(auto)]
 
+mod bytes;
+mod items;
 mod memory;
 mod shared_laws;
 
+pub use bytes::{is_all_digits, is_blank, is_digit};
+pub use items::Items;
 pub use memory::NoMemory;
 pub use shared_laws::laws;
 

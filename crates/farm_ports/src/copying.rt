@@ -35,7 +35,7 @@ pub fn read_up_to<S: Source>(
     ensures read { IfOk result (λ v. ReadsUpTo (S.stream source.old) (S.stream source.new) most v.items) }
     ensures front { OnErr result ((bytes : List ℕ) × Takes (S.stream source.old) (S.stream source.new) bytes) }
     ensures held { S.held source.new ≡ S.held source.old }
-    ensures later { S.faults source.old ≤ S.faults source.new }
+    ensures never_falls { S.faults source.old ≤ S.faults source.new }
     ensures failed { result ≡ Err PortFault.Failed → Rose (S.faults source.old) (S.faults source.new) }
 {
     let mut bytes = Vec::new(alloc);
@@ -53,7 +53,7 @@ fn read_on<S: Source>(source: &mut S, bytes: &mut Vec<u8>, most: usize) -> Resul
     ensures read { IfOk result (ReadsOn (S.stream source.old) (S.stream source.new) bytes.old.items bytes.new.items most) }
     ensures front { OnErr result ((taken : List ℕ) × Takes (S.stream source.old) (S.stream source.new) taken) }
     ensures held { S.held source.new ≡ S.held source.old }
-    ensures later { S.faults source.old ≤ S.faults source.new }
+    ensures never_falls { S.faults source.old ≤ S.faults source.new }
     ensures failed { result ≡ Err PortFault.Failed → Rose (S.faults source.old) (S.faults source.new) }
 {
     let mut chunk = [0; CHUNK];

@@ -50,7 +50,7 @@ impl<R: Files> Folder for DirFolder<R> {
     fn read(&mut self, alloc: Global, name: &str, most: usize) -> Result<Vec<u8>, FolderFault>
         ensures bytes { IfOk result (λ bytes. WhereKnown (⟦<DirFolder<R> as Folder>⟧.files self.new) (ReadsFile name.now most bytes.items)) }
         ensures files { Stays (⟦<DirFolder<R> as Folder>⟧.files self.old) (⟦<DirFolder<R> as Folder>⟧.files self.new) }
-        ensures later { ⟦<DirFolder<R> as Folder>⟧.faults self.old ≤ ⟦<DirFolder<R> as Folder>⟧.faults self.new }
+        ensures never_falls { ⟦<DirFolder<R> as Folder>⟧.faults self.old ≤ ⟦<DirFolder<R> as Folder>⟧.faults self.new }
         ensures failed { result ≡ Err PortFault.Failed → Rose (⟦<DirFolder<R> as Folder>⟧.faults self.old) (⟦<DirFolder<R> as Folder>⟧.faults self.new) }
 
         // Of the bytes no clause says more than how many there may be. A read that doesn't fail counts no fault.

@@ -55,7 +55,7 @@ impl Folder for Files {
     fn read(&mut self, alloc: Global, name: &str, most: usize) -> Result<Vec<u8>, FolderFault>
         ensures bytes { IfOk result (λ bytes. WhereKnown (⟦<Files as Folder>⟧.files self.new) (ReadsFile name.now most bytes.items)) }
         ensures files { Stays (⟦<Files as Folder>⟧.files self.old) (⟦<Files as Folder>⟧.files self.new) }
-        ensures later { ⟦<Files as Folder>⟧.faults self.old ≤ ⟦<Files as Folder>⟧.faults self.new }
+        ensures never_falls { ⟦<Files as Folder>⟧.faults self.old ≤ ⟦<Files as Folder>⟧.faults self.new }
         ensures failed { result ≡ Err PortFault.Failed → Rose (⟦<Files as Folder>⟧.faults self.old) (⟦<Files as Folder>⟧.faults self.new) }
 
         // A listed read fails, and so does that of a name that no file has; no other does but for want of memory.

@@ -25,6 +25,6 @@ pub trait Folder {
     fn read(&mut self, alloc: Global, name: &str, most: usize) -> Result<Vec<u8>, FolderFault>
         ensures bytes { IfOk result (λ bytes. WhereKnown (Self.files self.new) (ReadsFile name.now most bytes.items)) }
         ensures files { Stays (Self.files self.old) (Self.files self.new) }
-        ensures later { Self.faults self.old ≤ Self.faults self.new }
+        ensures never_falls { Self.faults self.old ≤ Self.faults self.new }
         ensures failed { result ≡ Err PortFault.Failed → Rose (Self.faults self.old) (Self.faults self.new) };
 }

@@ -44,7 +44,7 @@ impl Plan {
     /// Counts a fault, and answers what the call that met it returns.
     pub fn fault(&mut self) -> Failed
         ensures rose { Rose self.old.faults self.new.faults }
-        ensures later { self.old.faults ≤ self.new.faults }
+        ensures never_falls { self.old.faults ≤ self.new.faults }
         ensures calls { self.new.calls ≡ self.old.calls }
         ensures fails { self.new.fails ≡ self.old.fails }
     {

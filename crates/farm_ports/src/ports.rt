@@ -14,7 +14,7 @@ impl Failed {
     /// Counts a fault, and is what the call that met it answers. The count stands still at the last `u64`.
     pub fn counted_in(faults: &mut u64) -> Self
         ensures rose { Rose faults.old faults.new }
-        ensures later { faults.old ≤ faults.new }
+        ensures never_falls { faults.old ≤ faults.new }
     {
         *faults = faults.saturating_add(1);
         Failed

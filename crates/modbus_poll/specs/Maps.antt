@@ -1,5 +1,5 @@
 -- What a gauge map may ask for: registers as the Modbus Application Protocol V1.1b3 numbers them, and the ranges of a site file.
-use Rattle.std.specs.Prelude.{ℕ, ◌+◌, ◌==◌, ◌&&◌, ◌||◌, Bool, true, nat_le, nat_lt, Option, Some, None, List, [], ◌∷◌, length, ℤ, pos, negsuc}
+use Rattle.std.specs.Prelude.{ℕ, ◌+◌, ◌&&◌, Bool, true, nat_le, nat_lt, Option, Some, None, List, length, pos, negsuc}
 use Rattle.std.specs.List.{list_all}
 use Rattle.farm_fixed.specs.Range.{is_within}
 use Rattle.modbus_poll.specs.declared.map.Field.{Field}

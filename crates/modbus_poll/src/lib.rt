@@ -5,13 +5,9 @@
 //! numbers. docs/formats.md has the keys of a site file that they come from.
 #![tactic(auto)]
 
-mod gauges;
-mod host;
 mod map;
 
-pub use gauges::Gauges;
-pub use host::Host;
-pub use map::{Field, GaugeMap, LineMap, Valid};
+pub use map::{Field, GaugeMap, Gauges, Host, LineMap, Valid};
 
 #[cfg(test)]
 mod tests;

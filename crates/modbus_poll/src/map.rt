@@ -1,4 +1,6 @@
-use crate::{Gauges, Host};
+//! Gauge lines, gauges, and the fields among their registers.
+
+use farm_base::Items;
 
 /// A number in the registers that a gauge reads: one word, or two as one number.
 ///
@@ -19,7 +21,7 @@ pub struct Field {
     pub div: u32,
 }
 
-/// The bit that tells whether a gauge's reading is valid.
+/// The bit that says whether a gauge's reading is valid.
 #[derive(Clone, Copy, Debug, PartialEq, Eq)]
 pub struct Valid {
     /// Its register, counted from 0 among those that are read.
@@ -49,15 +51,21 @@ pub struct GaugeMap {
     pub water: Option<Field>,
     /// The ambient temperature, in 0.01 C, where the gauge gives it.
     pub ambient: Option<Field>,
-    /// The ambient temperature that stands where the gauge doesn't give it, from -100.00 to 300.00 C.
+    /// The ambient temperature where the gauge doesn't give it, from -100.00 to 300.00 C.
     pub ambient_fixed: i64,
-    /// The bit that tells whether the reading is valid, where the gauge has one.
+    /// The bit that says whether the reading is valid, where the gauge has one.
     pub valid: Option<Valid>,
     /// By how much a level or the water has to differ from the last submitted, from 1 to 1,000 mm.
     pub deadband_mm: u16,
     /// By how much the temperature has to differ from the last submitted, from 0.01 to 10.00 C.
     pub deadband_centi: u16,
 }
+
+/// The host of a line: the bytes of an address or a name. In a clause it is the list of them.
+pub type Host = Items<u8>;
+
+/// The gauges of a line, in the order of the site file. In a clause it is the list of them.
+pub type Gauges = Items<GaugeMap>;
 
 /// A line: a device, and the gauges that it answers for.
 #[derive(Debug, Drop)]

@@ -33,11 +33,11 @@ fn a_line_lends_its_host_and_its_gauges(rt: HostRuntime) -> Result<(), Fail> {
         deadband_centi: 5,
     });
     let line = shared(LineMap {
-        host: Host::new(String::from_str(alloc, "10.0.0.7")?),
+        host: Host::new(b"10.0.0.7".to_vec(alloc)?),
         port: 502,
         gauges: Gauges::new(vec![in alloc; gauge, gauge]?),
     });
-    assert_eq!(rt; line.host.get(), "10.0.0.7");
+    assert_eq!(rt; line.host.get(), b"10.0.0.7".as_slice());
     assert_eq!(rt; line.gauges.get(), [gauge, gauge].as_slice());
     Ok(())
 }
