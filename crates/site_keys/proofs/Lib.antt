@@ -1,4 +1,4 @@
 pub mod Arrays
 pub mod Contents
 pub mod PlacedFacts
-pub mod Reading
+pub mod Steps

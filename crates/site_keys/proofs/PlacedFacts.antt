@@ -12,9 +12,8 @@ use Rattle.std.specs.Prelude.{Result}
 use Rattle.toml.specs.Data.{Data}
 use Rattle.toml.specs.View.{view}
 use Rattle.toml.specs.declared.value.Value.{Value}
-use Rattle.site_keys.specs.declared.fault.SiteReadFault.{SiteReadFault}
 use Rattle.site_keys.specs.Lists.{are_numbered, is_among, numbered_from, place_among, placed, rises, rises_from}
-use Rattle.site_keys.proofs.Reading.{one_more}
+use Rattle.site_keys.proofs.Steps.{one_more}
 
 -- a number that is neither less than another nor the same is greater
 is_greater : (new first : ℕ) → nat_lt new first ≡ false → (first == new) ≡ false → nat_lt first new ≡ true
@@ -82,7 +81,7 @@ module _ {A : Type 0} (number : A → ℕ) where
       both_true (placed_all is_sound new others parts.0 sound) (placed_rises new others parts.1 fresh)
 
 -- the items of the tables that are left, once one more is read
-pub numbered_more : {A : Type 0} (number : A → ℕ) (read : List A → ℕ → Data → Result A SiteReadFault) (done : List A) (tables : List Value) (i : ℕ) (table : Value) (next : A) →
+pub numbered_more : {A E : Type 0} (number : A → ℕ) (read : List A → ℕ → Data → Result A E) (done : List A) (tables : List Value) (i : ℕ) (table : Value) (next : A) →
     i < length tables → table ≡ get_or tables i table → read done (i + 1) (view table) ≡ Ok next →
     numbered_from number read (i + 1 + 1) (placed number next done) (map view (drop (i + 1) tables)) ≡ numbered_from number read (i + 1) done (map view (drop i tables))
 numbered_more number read done tables i table next within is here =

@@ -1,34 +1,12 @@
 //! Why no site was read.
 
 ghost use Rattle.std.specs.Prelude.{◌≡◌};
-ghost use Rattle.farm_ports.specs.declared.fault.PortFault.TheVariants as port;
 ghost use Rattle.site_keys.specs.Faults.{detail, fault_at, of_folder};
-ghost use Rattle.site_keys.specs.declared.fault.SiteReadFault.TheVariants.{NoMemory};
+ghost use Rattle.site_keys.specs.declared.fault.SiteReadFault.TheVariants.{Bad, NoMemory};
 
 use farm_ports::FolderFault;
 use std::alloc::{AllocError, AllocFailed};
 use thiserror::Error;
-
-/// A file that isn't TOML or CSV.
-pub const TEXT: u8 = 1;
-/// A needed key that is missing, a value of another kind, or a record that isn't due.
-pub const FIELD: u8 = 2;
-/// A value outside its range.
-pub const RANGE: u8 = 3;
-/// A number that stands earlier in its list, or a second gauge on a tank.
-pub const REPEATED: u8 = 4;
-/// A product or a tank that isn't there.
-pub const UNKNOWN: u8 = 5;
-/// A strapping that is refused.
-pub const STRAP: u8 = 6;
-/// Rows that are no capacity table.
-pub const TABLE: u8 = 7;
-/// A factor file that is refused.
-pub const FACTORS: u8 = 8;
-/// A list that is too long, or empty where it may not be.
-pub const TOO_MANY: u8 = 9;
-/// A file that is too long.
-pub const TOO_LONG: u8 = 10;
 
 /// The first fault of a site's files.
 #[derive(Clone, Copy, Debug, PartialEq, Eq)]
@@ -44,10 +22,10 @@ pub struct SiteFault {
 /// Why no site was read.
 #[derive(Clone, Copy, Debug, PartialEq, Eq, Error)]
 pub enum SiteReadFault {
-    /// There was no memory.
+    /// Out of memory.
     #[error("no memory")]
     NoMemory,
-    /// The folder failed, and counted the fault.
+    /// The folder failed, and counted the fault. A file that is due and missing is such a fault.
     #[error("the folder failed")]
     Folder,
     /// The files describe no site.
@@ -72,7 +50,7 @@ impl<T: Drop> From<AllocFailed<T>> for SiteReadFault {
 }
 
 impl From<FolderFault> for SiteReadFault {
-    ghost from_gives = { λ fault told. told ≡ of_folder fault };
+    ghost from_gives = { λ fault reported. reported ≡ of_folder fault };
 
     fn from(fault: FolderFault) -> Self {
         match fault {
@@ -82,9 +60,17 @@ impl From<FolderFault> for SiteReadFault {
     }
 }
 
+impl From<SiteFault> for SiteReadFault {
+    ghost from_gives = { λ fault reported. reported ≡ Bad fault };
+
+    fn from(fault: SiteFault) -> Self {
+        SiteReadFault::Bad(fault)
+    }
+}
+
 /// A fault of an item, without a detail.
-pub fn bad(code: u8, item: u32) -> SiteReadFault
-    ensures { result ≡ fault_at code item 0 }
+pub fn bad(code: u8, item: u32) -> SiteFault
+    ensures fault { result ≡ fault_at code item 0 }
 {
     bad_at(code, item, 0)
 }
@@ -92,12 +78,12 @@ pub fn bad(code: u8, item: u32) -> SiteReadFault
 /// A fault of an item, with the record, row or number that it names.
 ///
 /// A detail has at most 32 bits. No file within the limit has so many records.
-pub fn bad_at(code: u8, item: u32, number: usize) -> SiteReadFault
-    ensures { result ≡ fault_at code item (detail number) }
+pub fn bad_at(code: u8, item: u32, number: usize) -> SiteFault
+    ensures fault { result ≡ fault_at code item (detail number) }
 {
-    SiteReadFault::Bad(SiteFault {
+    SiteFault {
         code,
         item,
         detail: u32::try_from(number).unwrap_or(u32::MAX),
-    })
+    }
 }

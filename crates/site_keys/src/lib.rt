@@ -4,17 +4,18 @@
 //! A fault has a code, the item of its list and a detail (`SiteFault`); docs/formats.md has each code.
 #![tactic(auto)]
 
+mod codes;
 mod fault;
 mod files;
 mod keys;
 mod lists;
 mod texts;
 
-pub use fault::{
-    FACTORS, FIELD, RANGE, REPEATED, STRAP, SiteFault, SiteReadFault, TABLE, TEXT, TOO_LONG,
-    TOO_MANY, UNKNOWN, bad, bad_at,
+pub use codes::{
+    FACTORS, FIELD, RANGE, REPEATED, STRAP, TABLE, TEXT, TOO_LONG, TOO_MANY, UNKNOWN,
 };
+pub use fault::{SiteFault, SiteReadFault, bad, bad_at};
 pub use files::{content, toml_of};
 pub use keys::Keys;
-pub use lists::{Numbered, is_among, list_at, own_number, place, reference};
+pub use lists::{Numbered, list_at, own_number, place, reference};
 pub use texts::is_text;

@@ -1,7 +1,7 @@
 use Rattle.std.proofs.Common.{◌≡◌, Ok, Err, codes, rules}
 use Rattle.farm_site.specs.Described.{top_of_files}
 use Rattle.site_keys.specs.Files.{content, toml_of}
-use Rattle.site_keys.proofs.Reading.{refused_first}
+use Rattle.site_keys.proofs.Steps.{refused_first}
 use Rattle.farm_site.proofs.site.top_of.Goals as goal
 
 pub returns-in_err-bytes-clause-top : goal.returns-in_err-bytes-clause-top
