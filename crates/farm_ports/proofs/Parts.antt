@@ -22,7 +22,7 @@ adds_on old middle new text done count before then =
     (additions_add_up old middle new (take done text)
     (take count (take (length text - done) (drop done text))) before then)
 
--- what holds anyhow holds of a failed call
+-- what holds in any case holds of a failed call
 pub on_err : {T E P : Type 0} (result : Result T E) → P → OnErr result P
 on_err (Ok x) p = tt
 on_err (Err e) p = p

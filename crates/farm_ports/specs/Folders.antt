@@ -16,6 +16,6 @@ abbrev pub file_named : List ℕ → List File → Option (List ℕ)
 file_named name [] = None
 file_named name (file ∷ files) = if bytes_eq file.name name then Some file.bytes else file_named name files
 
--- a read gave the first bytes of the file with a name, up to so many, or all of them where there are fewer
+-- a read gave the first `most` bytes of the first file with a name, or all of them where there are fewer
 abbrev pub ReadsFile : List ℕ → ℕ → List ℕ → List File → Type 0
 ReadsFile name most bytes files = option_map (take most) (file_named name files) ≡ Some bytes

@@ -1,4 +1,4 @@
 pub mod Ports
 pub mod Pieces
-pub mod Plans
 pub mod Folders
+pub mod Objects

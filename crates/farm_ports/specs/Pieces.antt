@@ -13,6 +13,6 @@ abbrev pub end_after : ℕ → ℕ → List ℕ → ℕ
 end_after offset all [] = all
 end_after offset all (end ∷ ends) = if nat_lt offset end then min all end else end_after offset all ends
 
--- what a source tells of these bytes, of which those up to an offset were taken
+-- the stream of these bytes, of which those before an offset were taken
 abbrev pub at_offset : ℕ → List ℕ → Stream
 at_offset offset bytes = record { taken = take offset bytes; left = drop offset bytes }

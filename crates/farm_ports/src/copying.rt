@@ -1,6 +1,6 @@
-//! All of a text into a sink, and up to so many bytes out of a source.
+//! All of a text into a sink, and up to a number of bytes out of a source.
 
-ghost use Rattle.std.specs.Prelude.{◌≡◌, ℕ, ◌<◌, ◌≤◌, List, vec_len, IfOk, OnErr};
+ghost use Rattle.std.specs.Prelude.{◌≡◌, ◌≢◌, ℕ, ◌<◌, ◌≤◌, List, vec_len, IfOk, OnErr, OnOk};
 ghost use Rattle.farm_base.specs.Counts.{HasCause, Rose};
 ghost use Rattle.farm_base.specs.Known.{Takes};
 ghost use Rattle.farm_ports.specs.Ports.{PutsAll, ReadsOn, ReadsUpTo};
@@ -16,6 +16,7 @@ pub fn put_all<K: Sink>(sink: &mut K, text: &[u8]) -> Result<(), Failed>
     ensures bytes { PutsAll (K.held sink.old) (K.held sink.new) text.now result }
     ensures stream { K.stream sink.new ≡ K.stream sink.old }
     ensures cause { HasCause (K.faults sink.old) (K.faults sink.new) result }
+    ensures quiet { OnOk result (K.faults sink.new ≡ K.faults sink.old) }
 {
     let mut done = 0;
     while done < text.len() {
@@ -37,6 +38,7 @@ pub fn read_up_to<S: Source>(
     ensures held { S.held source.new ≡ S.held source.old }
     ensures never_falls { S.faults source.old ≤ S.faults source.new }
     ensures failed { result ≡ Err PortFault.Failed → Rose (S.faults source.old) (S.faults source.new) }
+    ensures quiet { result ≢ Err PortFault.Failed → S.faults source.new ≡ S.faults source.old }
 {
     let mut bytes = Vec::new(alloc);
     while bytes.len() < most {
@@ -55,6 +57,7 @@ fn read_on<S: Source>(source: &mut S, bytes: &mut Vec<u8>, most: usize) -> Resul
     ensures held { S.held source.new ≡ S.held source.old }
     ensures never_falls { S.faults source.old ≤ S.faults source.new }
     ensures failed { result ≡ Err PortFault.Failed → Rose (S.faults source.old) (S.faults source.new) }
+    ensures quiet { result ≢ Err PortFault.Failed → S.faults source.new ≡ S.faults source.old }
 {
     let mut chunk = [0; CHUNK];
     let wanted = CHUNK.min(most - bytes.len());

@@ -1,6 +1,6 @@
 //! A folder of the system.
 
-ghost use Rattle.std.specs.Prelude.{◌≡◌, ◌≢◌, ◌≤◌, length, IfOk, None};
+ghost use Rattle.std.specs.Prelude.{◌≡◌, ◌≢◌, ◌≤◌, length, string_bytes, IfOk, None};
 ghost use Rattle.farm_base.specs.Counts.{Rose};
 ghost use Rattle.farm_base.specs.Known.{Stays, WhereKnown};
 ghost use Rattle.farm_ports.specs.Folders.{ReadsFile};
@@ -8,9 +8,10 @@ ghost use Rattle.farm_ports.specs.Folders.{ReadsFile};
 use crate::{Failed, Folder, FolderFault, PortFault, StdSource, read_up_to};
 use std::alloc::Global;
 use std::fs;
+use std::marker::Model;
 use std::rt::Files;
 
-/// A folder over a directory of the system. It tells nothing of its files.
+/// A folder over a directory of the system. Nothing is known of its files.
 ///
 /// A name is that of a file in the directory, or its path from there. A read opens the file anew and closes it,
 /// and whatever the system answers but the bytes is a fault.
@@ -21,10 +22,19 @@ pub struct DirFolder<R> {
     faults: u64,
 }
 
+impl<R> Model for DirFolder<R> {
+    ghost use Rattle.std.specs.Prelude.{ℕ, List, string_bytes};
+    ghost use Rattle.farm_ports.specs.Objects.{Counted};
+
+    ghost Value = { Counted (List ℕ) };
+
+    ghost view = { λ folder. record { over = string_bytes folder.directory; faults = folder.faults } };
+}
+
 impl<R: Files> DirFolder<R> {
     /// A folder over the directory of this path, before its first fault; `.` is where the program runs.
     pub fn new(rt: R, directory: String) -> Self
-        ensures directory { result.directory ≡ directory }
+        ensures directory { result.over ≡ string_bytes directory }
         ensures faults { ⟦<DirFolder<R> as Folder>⟧.faults result ≡ 0 }
     {
         DirFolder {
@@ -56,7 +66,7 @@ impl<R: Files> Folder for DirFolder<R> {
         // Of the bytes no clause says more than how many there may be. A read that doesn't fail counts no fault.
         ensures within { IfOk result (λ bytes. length bytes.items ≤ most) }
         ensures quiet { result ≢ Err PortFault.Failed → self.new.faults ≡ self.old.faults }
-        ensures directory { self.new.directory ≡ self.old.directory }
+        ensures directory { self.new.over ≡ self.old.over }
     {
         let path = format!(in alloc; "{}/{name}", self.directory)?;
         match front_of(&self.rt, alloc, path.as_str(), most) {

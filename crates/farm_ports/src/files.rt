@@ -5,35 +5,45 @@ ghost use Rattle.farm_base.specs.Counts.{Rose};
 ghost use Rattle.farm_base.specs.Known.{Stays, WhereKnown};
 ghost use Rattle.farm_ports.specs.Folders.{ReadsFile, file_named, files_of};
 
-use crate::plan::Plan;
+use crate::failing_calls::FailingCalls;
 use crate::{Folder, FolderFault, PortFault};
 use farm_base::NoMemory;
 use std::alloc::Global;
+use std::marker::Model;
 
-/// A folder that keeps files in memory, and fails the reads that it is told to.
+/// A folder that keeps files in memory, and fails the reads that it has in a list.
 ///
 /// Of two files with one name the first counts.
 #[derive(Drop)]
 pub struct Files {
     files: Vec<(String, Vec<u8>)>,
-    plan: Plan,
+    calls: FailingCalls,
+}
+
+impl Model for Files {
+    ghost use Rattle.farm_ports.specs.Objects.{FilesState};
+    ghost use Rattle.farm_ports.specs.Folders.{files_of};
+
+    ghost Value = { FilesState };
+
+    ghost view = { λ folder. record { files = files_of folder.files.items; calls = folder.calls } };
 }
 
 impl Files {
-    ghost use Rattle.farm_ports.specs.Plans.{IsFresh};
+    ghost use Rattle.farm_ports.specs.Objects.{no_calls};
 
     /// A folder of these files, by their names, whose reads of these numbers, counted from 1, fail.
     ///
     /// It keeps the list as it is, and so takes no memory.
     pub fn new(_: Global, files: Vec<(String, Vec<u8>)>, fails: Vec<u64>) -> Result<Self, NoMemory>
         ensures made { IsOk result }
-        ensures told { IfOk result (λ folder. ⟦<Files as Folder>⟧.files folder ≡ Some (files_of files.items)) }
+        ensures known { IfOk result (λ folder. ⟦<Files as Folder>⟧.files folder ≡ Some (files_of files.items)) }
         ensures faults { IfOk result (λ folder. ⟦<Files as Folder>⟧.faults folder ≡ 0) }
-        ensures plan { IfOk result (λ folder. IsFresh folder.plan fails.items) }
+        ensures calls { IfOk result (λ folder. folder.calls ≡ no_calls fails.items) }
     {
         Ok(Files {
             files,
-            plan: Plan::new(fails),
+            calls: FailingCalls::new(fails),
         })
     }
 
@@ -41,16 +51,16 @@ impl Files {
     pub fn faults(&self) -> u64
         ensures { result ≡ ⟦<Files as Folder>⟧.faults self.now }
     {
-        self.plan.faults()
+        self.calls.faults()
     }
 }
 
 impl Folder for Files {
-    ghost use Rattle.farm_ports.specs.Plans.{CountsCall, FailsNext};
+    ghost use Rattle.farm_ports.specs.Objects.{CountsCall, FailsNext};
 
-    ghost files = { λ folder. Some (files_of folder.files.items) };
+    ghost files = { λ folder. Some folder.files };
 
-    ghost faults = { λ folder. folder.plan.faults };
+    ghost faults = { λ folder. folder.calls.faults };
 
     fn read(&mut self, alloc: Global, name: &str, most: usize) -> Result<Vec<u8>, FolderFault>
         ensures bytes { IfOk result (λ bytes. WhereKnown (⟦<Files as Folder>⟧.files self.new) (ReadsFile name.now most bytes.items)) }
@@ -58,17 +68,17 @@ impl Folder for Files {
         ensures never_falls { ⟦<Files as Folder>⟧.faults self.old ≤ ⟦<Files as Folder>⟧.faults self.new }
         ensures failed { result ≡ Err PortFault.Failed → Rose (⟦<Files as Folder>⟧.faults self.old) (⟦<Files as Folder>⟧.faults self.new) }
 
-        // A listed read fails, and so does that of a name that no file has; no other does but for want of memory.
-        ensures listed { FailsNext self.old.plan → result ≡ Err PortFault.Failed }
+        // A listed read fails, and so does that of a name that no file has; any other gives bytes or finds no memory.
+        ensures listed { FailsNext self.old.calls → result ≡ Err PortFault.Failed }
         ensures missing { (result ≡ Err PortFault.Failed)
-            ↔ (FailsNext self.old.plan ⊎ (file_named name.now (files_of self.old.files.items) ≡ None)) }
-        ensures counted { CountsCall self.old.plan self.new.plan }
+            ↔ (FailsNext self.old.calls ⊎ (file_named name.now self.old.files ≡ None)) }
+        ensures counted { CountsCall self.old.calls self.new.calls }
         ensures quiet { result ≢ Err PortFault.Failed → ⟦<Files as Folder>⟧.faults self.new ≡ ⟦<Files as Folder>⟧.faults self.old }
         ensures kept { ⟦<Files as Folder>⟧.files self.new ≡ ⟦<Files as Folder>⟧.files self.old }
     {
-        self.plan.begin()?;
+        self.calls.begin()?;
         let Some(bytes) = file_named(&self.files, name) else {
-            return Err(self.plan.fault().into());
+            return Err(self.calls.fault().into());
         };
         Ok(bytes[..most.min(bytes.len())].to_vec(alloc)?)
     }

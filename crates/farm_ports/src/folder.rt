@@ -1,6 +1,6 @@
 //! Folders of files.
 
-ghost use Rattle.std.specs.Prelude.{◌≡◌, ◌≤◌, ℕ, List, Option, IfOk};
+ghost use Rattle.std.specs.Prelude.{◌≡◌, ◌≢◌, ◌≤◌, ℕ, List, Option, IfOk};
 ghost use Rattle.farm_base.specs.Counts.{Rose};
 ghost use Rattle.farm_base.specs.Known.{Stays, WhereKnown};
 ghost use Rattle.farm_ports.specs.Folders.{File, ReadsFile};
@@ -13,7 +13,7 @@ pub type FolderFault = PortFault;
 
 /// A folder of files.
 pub trait Folder {
-    /// Its files, where it tells.
+    /// Its files, where they are known.
     ghost files: { Self → Option (List File) };
 
     /// How many faults it has counted. The count stands still at the last `u64`.
@@ -26,5 +26,6 @@ pub trait Folder {
         ensures bytes { IfOk result (λ bytes. WhereKnown (Self.files self.new) (ReadsFile name.now most bytes.items)) }
         ensures files { Stays (Self.files self.old) (Self.files self.new) }
         ensures never_falls { Self.faults self.old ≤ Self.faults self.new }
-        ensures failed { result ≡ Err PortFault.Failed → Rose (Self.faults self.old) (Self.faults self.new) };
+        ensures failed { result ≡ Err PortFault.Failed → Rose (Self.faults self.old) (Self.faults self.new) }
+        ensures quiet { result ≢ Err PortFault.Failed → Self.faults self.new ≡ Self.faults self.old };
 }

@@ -1,16 +1,17 @@
 //! The ports of the custody desk to the outside: sources of bytes, sinks for them and folders of files, in memory and real.
 //!
-//! A port counts its faults in a number that never falls, and a call answers `Failed` only where the count rose in that call.
-//! What a port in memory was asked, took or holds is told to contracts, and so are a folder's files; a real one tells nothing.
+//! A port counts its faults in a number that never falls, a call answers `Failed` only where the count rose in that call, and
+//! a call that answers anything else leaves the count as it was. What a port in memory took, has left or holds is known to
+//! contracts, and so are a folder's files; of a real one nothing is known.
 #![tactic(auto)]
 
 mod copying;
 mod dir_folder;
+mod failing_calls;
 mod fault;
 mod files;
 mod folder;
 mod gather;
-mod plan;
 mod ports;
 mod real;
 mod script;

@@ -1,4 +1,4 @@
-ghost use Rattle.std.specs.Prelude.{◌≡◌, ◌≤◌, ℕ, List, Option};
+ghost use Rattle.std.specs.Prelude.{◌≡◌, ◌≤◌, ℕ, List, OnOk, Option};
 ghost use Rattle.farm_base.specs.Counts.{HasCause, Rose};
 ghost use Rattle.farm_base.specs.Known.{Stream};
 ghost use Rattle.farm_ports.specs.Ports.{PutGives, TakeGives};
@@ -21,12 +21,12 @@ impl Failed {
     }
 }
 
-/// An object of the outside, by what it tells of its bytes and how many faults it has counted.
+/// An object of the outside, by what is known of its bytes and how many faults it has counted.
 pub trait Port {
-    /// What was taken from it and what is left, where it tells; none for an object that is only a sink.
+    /// What was taken from it and what is left, where that is known; none for an object that is only a sink.
     ghost stream: { Self → Option Stream };
 
-    /// The bytes that it holds, where it tells; none for an object that is only a source.
+    /// The bytes that it holds, where they are known; none for an object that is only a source.
     ghost held: { Self → Option (List ℕ) };
 
     /// How many faults it has counted. The count stands still at the last `u64`.
@@ -39,7 +39,8 @@ pub trait Source: Port {
     fn take(&mut self, into: &mut [u8]) -> Result<usize, Failed>
         ensures bytes { TakeGives (Self.stream self.old) (Self.stream self.new) into.new result }
         ensures held { Self.held self.new ≡ Self.held self.old }
-        ensures cause { HasCause (Self.faults self.old) (Self.faults self.new) result };
+        ensures cause { HasCause (Self.faults self.old) (Self.faults self.new) result }
+        ensures quiet { OnOk result (Self.faults self.new ≡ Self.faults self.old) };
 }
 
 /// A sink for bytes.
@@ -48,5 +49,6 @@ pub trait Sink: Port {
     fn put(&mut self, bytes: &[u8]) -> Result<usize, Failed>
         ensures bytes { PutGives (Self.held self.old) (Self.held self.new) bytes.now result }
         ensures stream { Self.stream self.new ≡ Self.stream self.old }
-        ensures cause { HasCause (Self.faults self.old) (Self.faults self.new) result };
+        ensures cause { HasCause (Self.faults self.old) (Self.faults self.new) result }
+        ensures quiet { OnOk result (Self.faults self.new ≡ Self.faults self.old) };
 }

@@ -7,18 +7,27 @@ ghost use Rattle.farm_ports.specs.Ports.{PutGives, TakeGives};
 
 use crate::{Failed, Port, Sink, Source};
 use std::io::{Read, Write};
+use std::marker::Model;
 
-/// A source over a reader, by one read a take. It tells nothing of its bytes.
+/// A source over a reader, by one read a take. Nothing is known of its bytes.
 #[derive(Drop)]
 pub struct StdSource<R> {
     inner: R,
     faults: u64,
 }
 
+impl<R> Model for StdSource<R> {
+    ghost use Rattle.farm_ports.specs.Objects.{Counted};
+
+    ghost Value = { Counted R };
+
+    ghost view = { λ source. record { over = source.inner; faults = source.faults } };
+}
+
 impl<R: Read> StdSource<R> {
     /// A source over this reader, before its first fault.
     pub fn new(inner: R) -> Self
-        ensures inner { result.inner ≡ inner }
+        ensures over { result.over ≡ inner }
         ensures faults { ⟦<StdSource<R> as Port>⟧.faults result ≡ 0 }
     {
         StdSource { inner, faults: 0 }
@@ -47,7 +56,7 @@ impl<R: Read> Source for StdSource<R> {
         ensures cause { HasCause (⟦<StdSource<R> as Port>⟧.faults self.old) (⟦<StdSource<R> as Port>⟧.faults self.new) result }
 
         // What a take gives is what one read gave.
-        ensures reader { ReadConsumes (R.remaining self.old.inner) (R.remaining self.new.inner) result into.new }
+        ensures reader { ReadConsumes (R.remaining self.old.over) (R.remaining self.new.over) result into.new }
         ensures quiet { OnOk result (self.new.faults ≡ self.old.faults) }
     {
         match self.inner.read(into) {
@@ -57,17 +66,25 @@ impl<R: Read> Source for StdSource<R> {
     }
 }
 
-/// A sink over a writer, by one write a put. It tells nothing of its bytes.
+/// A sink over a writer, by one write a put. Nothing is known of its bytes.
 #[derive(Drop)]
 pub struct StdSink<W> {
     inner: W,
     faults: u64,
 }
 
+impl<W> Model for StdSink<W> {
+    ghost use Rattle.farm_ports.specs.Objects.{Counted};
+
+    ghost Value = { Counted W };
+
+    ghost view = { λ sink. record { over = sink.inner; faults = sink.faults } };
+}
+
 impl<W: Write> StdSink<W> {
     /// A sink over this writer, before its first fault.
     pub fn new(inner: W) -> Self
-        ensures inner { result.inner ≡ inner }
+        ensures over { result.over ≡ inner }
         ensures faults { ⟦<StdSink<W> as Port>⟧.faults result ≡ 0 }
     {
         StdSink { inner, faults: 0 }
@@ -96,7 +113,7 @@ impl<W: Write> Sink for StdSink<W> {
         ensures cause { HasCause (⟦<StdSink<W> as Port>⟧.faults self.old) (⟦<StdSink<W> as Port>⟧.faults self.new) result }
 
         // What a put takes is what one write took.
-        ensures writer { WriteAppends (W.contents self.old.inner) (W.contents self.new.inner) result bytes.now }
+        ensures writer { WriteAppends (W.contents self.old.over) (W.contents self.new.over) result bytes.now }
         ensures quiet { OnOk result (self.new.faults ≡ self.old.faults) }
     {
         match self.inner.write(bytes) {

@@ -1,16 +1,17 @@
 //! A source in memory.
 
-ghost use Rattle.std.specs.Prelude.{◌≡◌, ◌↔◌, ◌+◌, ◌-◌, ◌<◌, ◌≤◌, [], length, min, vec_len, IfOk, OnOk, IsErr, IsSomeAnd, flat_map, Some, None};
+ghost use Rattle.std.specs.Prelude.{◌≡◌, ◌↔◌, ◌+◌, ◌-◌, ◌<◌, ◌≤◌, [], length, min, IfOk, OnOk, IsErr, IsSomeAnd, flat_map, Some, None};
 ghost use Rattle.farm_base.specs.Counts.{HasCause};
 ghost use Rattle.farm_ports.specs.Ports.{TakeGives, TakesFront};
 ghost use Rattle.farm_ports.specs.Pieces.{at_offset, end_after, ends_from};
 
-use crate::plan::Plan;
+use crate::failing_calls::FailingCalls;
 use crate::{Failed, Port, Source};
 use farm_base::NoMemory;
 use std::alloc::Global;
+use std::marker::Model;
 
-/// A source that gives bytes in memory piece by piece, and fails the calls that it is told to.
+/// A source that gives bytes in memory piece by piece, and fails the takes that it has in a list.
 ///
 /// A take gives at most the rest of one piece. An empty piece is passed over, so 0 for a buffer with room is the end.
 #[derive(Drop)]
@@ -18,40 +19,50 @@ pub struct Script {
     bytes: Vec<u8>,
     ends: Vec<usize>,
     offset: usize,
-    plan: Plan,
-    ghost within: { offset ≤ vec_len bytes },
+    calls: FailingCalls,
+}
+
+impl Model for Script {
+    ghost use Rattle.std.specs.Prelude.{◌≤◌, vec_len};
+    ghost use Rattle.farm_ports.specs.Objects.{ScriptState};
+
+    ghost Value = { ScriptState };
+
+    ghost view = { λ script. record { bytes = script.bytes.items; ends = script.ends.items; taken = script.offset; calls = script.calls } };
+
+    ghost invariant = { λ script. script.offset ≤ vec_len script.bytes };
 }
 
 impl Script {
-    ghost use Rattle.farm_ports.specs.Plans.{IsFresh};
+    ghost use Rattle.farm_ports.specs.Objects.{no_calls};
 
     /// A source of these pieces, one after another, whose takes of these numbers, counted from 1, fail.
     pub fn new(alloc: Global, pieces: Vec<Vec<u8>>, fails: Vec<u64>) -> Result<Self, NoMemory>
-        ensures told { IfOk result (λ script. ⟦<Script as Port>⟧.stream script
+        ensures known { IfOk result (λ script. ⟦<Script as Port>⟧.stream script
             ≡ Some (record { taken = []; left = flat_map (λ piece. piece.items) pieces.items })) }
-        ensures ends { IfOk result (λ script. script.ends.items ≡ ends_from 0 pieces.items) }
+        ensures ends { IfOk result (λ script. script.ends ≡ ends_from 0 pieces.items) }
         ensures faults { IfOk result (λ script. ⟦<Script as Port>⟧.faults script ≡ 0) }
-        ensures plan { IfOk result (λ script. IsFresh script.plan fails.items) }
+        ensures calls { IfOk result (λ script. script.calls ≡ no_calls fails.items) }
     {
         let (bytes, ends) = joined(alloc, &pieces)?;
         Ok(Script {
             bytes,
             ends,
             offset: 0,
-            plan: Plan::new(fails),
+            calls: FailingCalls::new(fails),
         })
     }
 
     /// The bytes that were taken from it.
     pub fn taken(&self) -> &[u8]
-        ensures told { IsSomeAnd (⟦<Script as Port>⟧.stream self.now) (λ stream. stream.taken ≡ result.now) }
+        ensures known { IsSomeAnd (⟦<Script as Port>⟧.stream self.now) (λ stream. stream.taken ≡ result.now) }
     {
         &self.bytes[..self.offset]
     }
 
     /// The bytes that are left in it.
     pub fn left(&self) -> &[u8]
-        ensures told { IsSomeAnd (⟦<Script as Port>⟧.stream self.now) (λ stream. stream.left ≡ result.now) }
+        ensures known { IsSomeAnd (⟦<Script as Port>⟧.stream self.now) (λ stream. stream.left ≡ result.now) }
     {
         &self.bytes[self.offset..]
     }
@@ -60,35 +71,35 @@ impl Script {
     pub fn faults(&self) -> u64
         ensures { result ≡ ⟦<Script as Port>⟧.faults self.now }
     {
-        self.plan.faults()
+        self.calls.faults()
     }
 }
 
 impl Port for Script {
-    ghost stream = { λ script. Some (at_offset script.offset script.bytes.items) };
+    ghost stream = { λ script. Some (at_offset script.taken script.bytes) };
 
     ghost held = { λ _. None };
 
-    ghost faults = { λ script. script.plan.faults };
+    ghost faults = { λ script. script.calls.faults };
 }
 
 impl Source for Script {
-    ghost use Rattle.farm_ports.specs.Plans.{CountsCall, FailsNext};
+    ghost use Rattle.farm_ports.specs.Objects.{CountsCall, FailsNext};
 
     fn take(&mut self, into: &mut [u8]) -> Result<usize, Failed>
         ensures bytes { TakeGives (⟦<Script as Port>⟧.stream self.old) (⟦<Script as Port>⟧.stream self.new) into.new result }
         ensures held { ⟦<Script as Port>⟧.held self.new ≡ ⟦<Script as Port>⟧.held self.old }
         ensures cause { HasCause (⟦<Script as Port>⟧.faults self.old) (⟦<Script as Port>⟧.faults self.new) result }
 
-        // Only a listed call fails, and any other gives the rest of a piece, or as much as there is room for.
-        ensures listed { IsErr result ↔ FailsNext self.old.plan }
-        ensures counted { CountsCall self.old.plan self.new.plan }
+        // Only a listed take fails, and any other gives the rest of a piece, or as much as there is room for.
+        ensures listed { IsErr result ↔ FailsNext self.old.calls }
+        ensures counted { CountsCall self.old.calls self.new.calls }
         ensures quiet { OnOk result (⟦<Script as Port>⟧.faults self.new ≡ ⟦<Script as Port>⟧.faults self.old) }
         ensures piece { IfOk result (λ count. count
-            ≡ min (length into.new) (end_after self.old.offset (vec_len self.old.bytes) self.old.ends.items - self.old.offset)) }
+            ≡ min (length into.new) (end_after self.old.taken (length self.old.bytes) self.old.ends - self.old.taken)) }
         ensures ends { self.new.ends ≡ self.old.ends }
     {
-        self.plan.begin()?;
+        self.calls.begin()?;
         let end = end_after(&self.ends, self.offset, self.bytes.len());
         let count = copy_piece(&self.bytes, self.offset, end, into);
         self.offset += count;

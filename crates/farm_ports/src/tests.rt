@@ -137,7 +137,7 @@ fn a_writer_is_a_sink_until_it_is_full(rt: HostRuntime) {
 
 // The first four bytes of a file.
 fn first_four<F: Folder>(folder: &mut F, alloc: Global, name: &str) -> Result<Vec<u8>, FolderFault>
-    ensures told { IfOk result (λ bytes. WhereKnown (F.files folder.new) (ReadsFile name.now 4 bytes.items)) }
+    ensures known { IfOk result (λ bytes. WhereKnown (F.files folder.new) (ReadsFile name.now 4 bytes.items)) }
 {
     folder.read(alloc, name, 4)
 }
@@ -173,13 +173,14 @@ fn a_folder_in_memory_is_read_by_name(rt: HostRuntime) -> Result<(), Fail> {
     Ok(())
 }
 
+// Tests write below out/, which is never committed.
 #[test]
 fn a_folder_of_the_system_is_read_by_name(rt: HostRuntime) -> Result<(), Fail> {
     let alloc = rt.alloc();
-    fs::create_dir_all(&rt, "site/tables")?;
-    fs::write(&rt, "site/tables/long", "abcdef")?;
-    fs::write(&rt, "site/short", "abc")?;
-    let mut folder = shared(DirFolder::new(&rt, String::from_str(alloc, "site")?));
+    fs::create_dir_all(&rt, "out/site/tables")?;
+    fs::write(&rt, "out/site/tables/long", "abcdef")?;
+    fs::write(&rt, "out/site/short", "abc")?;
+    let mut folder = shared(DirFolder::new(&rt, String::from_str(alloc, "out/site")?));
     for (name, want) in [("tables/long", "abcd"), ("short", "abc")] {
         let read = first_four(&mut folder, alloc, name)?;
         assert_eq!(rt; read.as_slice(), want.as_bytes(), "{name}");
@@ -199,11 +200,12 @@ fn a_folder_of_the_system_is_read_by_name(rt: HostRuntime) -> Result<(), Fail> {
 fn a_large_file_is_read_whole(rt: HostRuntime) -> Result<(), Fail> {
     let alloc = rt.alloc();
     let mut written = Vec::new(alloc);
-    for place in 0..4_200_001u32 {
-        written.push((place % 251) as u8)?;
+    for index in 0..4_200_001u32 {
+        written.push((index % 251) as u8)?;
     }
-    fs::write(&rt, "large", written.as_slice())?;
-    let mut folder = DirFolder::new(&rt, String::from_str(alloc, ".")?);
+    fs::create_dir_all(&rt, "out")?;
+    fs::write(&rt, "out/large", written.as_slice())?;
+    let mut folder = DirFolder::new(&rt, String::from_str(alloc, "out")?);
     let read = folder.read(alloc, "large", usize::MAX)?;
     assert!(rt; read.as_slice() == written.as_slice());
     Ok(())

@@ -7,7 +7,7 @@ invariant-loop-done g l = record {
   within : l.done ≤ length l.text;
   added : Adds (g.K.Port.held l.fn.sink) (g.K.Port.held l.sink) (take l.done l.text);
   stream : g.K.Port.stream l.sink ≡ g.K.Port.stream l.fn.sink;
-  never_falls : g.K.Port.faults l.fn.sink ≤ g.K.Port.faults l.sink;
+  quiet : g.K.Port.faults l.sink ≡ g.K.Port.faults l.fn.sink;
 }
 
 abbrev pub decreases-loop-done : goal.decreases-loop-done

@@ -7,7 +7,7 @@ invariant-loop-source g l = record {
   within : length l.bytes.items ≤ l.most;
   moved : Takes (g.S.Port.stream l.fn.source) (g.S.Port.stream l.source) l.bytes.items;
   held : g.S.Port.held l.source ≡ g.S.Port.held l.fn.source;
-  never_falls : g.S.Port.faults l.fn.source ≤ g.S.Port.faults l.source;
+  quiet : g.S.Port.faults l.source ≡ g.S.Port.faults l.fn.source;
 }
 
 abbrev pub decreases-loop-source : goal.decreases-loop-source

@@ -2,41 +2,49 @@
 
 ghost use Rattle.std.specs.Prelude.{◌≡◌, ◌↔◌, ◌≤◌, IsErr, OnOk};
 ghost use Rattle.farm_base.specs.Counts.{HasCause, Rose};
+ghost use Rattle.farm_ports.specs.Objects.{CountsCall, FailsNext, no_calls};
 
 use crate::Failed;
+use std::marker::Model;
 
-/// The calls that an object in memory has seen and those that it is to fail, by their numbers from 1.
+/// The calls that an object in memory has counted and those that are to fail, by their numbers from 1.
 #[derive(Drop)]
-pub struct Plan {
-    calls: u64,
-    fails: Vec<u64>,
+pub struct FailingCalls {
+    made: u64,
+    failing: Vec<u64>,
     faults: u64,
 }
 
-impl Plan {
-    ghost use Rattle.farm_ports.specs.Plans.{CountsCall, FailsNext, IsFresh};
+impl Model for FailingCalls {
+    ghost use Rattle.farm_ports.specs.Objects.{Calls};
 
-    /// A plan before its first call.
-    pub fn new(fails: Vec<u64>) -> Self
-        ensures { IsFresh result fails.items }
+    ghost Value = { Calls };
+
+    ghost view = { λ calls. record { made = calls.made; failing = calls.failing.items; faults = calls.faults } };
+}
+
+impl FailingCalls {
+    /// No call yet. Takes no memory.
+    pub fn new(failing: Vec<u64>) -> Self
+        ensures { result ≡ no_calls failing.items }
     {
-        Plan {
-            calls: 0,
-            fails,
+        FailingCalls {
+            made: 0,
+            failing,
             faults: 0,
         }
     }
 
-    /// Counts a call, and fails it where the plan says so.
+    /// Counts a call, and fails it where its number is listed.
     pub fn begin(&mut self) -> Result<(), Failed>
         ensures listed { IsErr result ↔ FailsNext self.old }
         ensures cause { HasCause self.old.faults self.new.faults result }
         ensures quiet { OnOk result (self.new.faults ≡ self.old.faults) }
         ensures counted { CountsCall self.old self.new }
     {
-        self.calls = self.calls.saturating_add(1);
-        if self.fails.contains(&self.calls) {
-            return Err(self.fault());
+        self.made = self.made.saturating_add(1);
+        if self.failing.contains(&self.made) {
+            return Err(Failed::counted_in(&mut self.faults));
         }
         Ok(())
     }
@@ -45,8 +53,8 @@ impl Plan {
     pub fn fault(&mut self) -> Failed
         ensures rose { Rose self.old.faults self.new.faults }
         ensures never_falls { self.old.faults ≤ self.new.faults }
-        ensures calls { self.new.calls ≡ self.old.calls }
-        ensures fails { self.new.fails ≡ self.old.fails }
+        ensures made { self.new.made ≡ self.old.made }
+        ensures failing { self.new.failing ≡ self.old.failing }
     {
         Failed::counted_in(&mut self.faults)
     }
