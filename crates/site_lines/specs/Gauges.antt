@@ -1,36 +1,38 @@
 -- The gauges of a line: what is asked of the device, and which registers are a tank's level and temperatures.
 use Rattle.std.specs.Prelude.{ℕ, ◌+◌, ◌&&◌, Bool, true, not, nat_le, if◌then◌else◌, List, [], ◌∷◌, ◌++◌, map, codes, Result, Ok, ℤ, pos, negsuc}
 use Rattle.std.specs.List.{list_all}
+use Rattle.farm_base.specs.Steps.{◌>>=◌}
 use Rattle.toml.specs.Data.{Data, get}
 use Rattle.modbus_poll.specs.Maps.{is_between}
 use Rattle.modbus_poll.specs.declared.map.GaugeMap.{GaugeMap}
-use Rattle.site_keys.specs.declared.fault.SiteReadFault.{SiteReadFault}
-use Rattle.site_keys.specs.Faults.{◌>>=◌, bad, ranged}
+use Rattle.site_keys.specs.declared.codes.TheConstants.{REPEATED}
+use Rattle.site_keys.specs.declared.fault.SiteFault.{SiteFault}
+use Rattle.site_keys.specs.Faults.{bad, ranged}
 use Rattle.site_keys.specs.Keys.{has, natural_at, natural_or, whole_at}
 use Rattle.site_keys.specs.Lists.{is_among, reference_at}
 use Rattle.site_lines.specs.declared.gauges.Request.{Request}
 use Rattle.site_lines.specs.Fields.{field_at, field_or_none, valid_or_none}
 
 -- the ambient temperature where a gauge gives none: 15.00 C where it isn't said
-unfoldable pub ambient_fixed_at : ℕ → Data → Result ℤ SiteReadFault
+unfoldable pub ambient_fixed_at : ℕ → Data → Result ℤ SiteFault
 ambient_fixed_at item keys =
     if has keys (codes "ambient_fixed") then whole_at item keys (codes "ambient_fixed") (negsuc 9999) (pos 30000)
     else Ok (pos 1500)
 
 -- the tank of a gauge: one of the site that no earlier gauge is on
-unfoldable pub gauged_tank_at : ℕ → List ℕ → List ℕ → Data → Result ℕ SiteReadFault
+unfoldable pub gauged_tank_at : ℕ → List ℕ → List ℕ → Data → Result ℕ SiteFault
 gauged_tank_at item tanks gauged keys = do
   tank ← reference_at item keys (codes "tank") tanks
-  if is_among tank gauged then bad 4 item 0 else Ok tank
+  if is_among tank gauged then bad REPEATED item 0 else Ok tank
 
 -- how many registers are read from the first
-unfoldable pub quantity_from : ℕ → ℕ → Data → Result ℕ SiteReadFault
+unfoldable pub quantity_from : ℕ → ℕ → Data → Result ℕ SiteFault
 quantity_from start item keys = do
   quantity ← natural_at item keys (codes "quantity") 1 125
   ranged item (nat_le (start + quantity) 65536) quantity
 
 -- what is asked of a device: the unit and the function, and then the first register and how many are read
-unfoldable pub request_at : ℕ → Data → Result Request SiteReadFault
+unfoldable pub request_at : ℕ → Data → Result Request SiteFault
 request_at item keys = do
   unit ← natural_at item keys (codes "unit") 0 255
   function ← natural_at item keys (codes "function") 3 4
@@ -44,14 +46,14 @@ is_request request =
     is_between 3 4 request.function && is_between 1 125 request.quantity && nat_le (request.start + request.quantity) 65536
 
 -- the deadbands of the levels and of the temperature, in mm and 0.01 C: 1 mm and 0.05 C where they aren't said
-unfoldable pub deadbands_at : ℕ → Data → Result (ℕ × ℕ) SiteReadFault
+unfoldable pub deadbands_at : ℕ → Data → Result (ℕ × ℕ) SiteFault
 deadbands_at item keys = do
   levels ← natural_or 1 item keys (codes "deadband_mm") 1 1000
   temperature ← natural_or 5 item keys (codes "deadband_centi") 1 1000
   Ok (levels, temperature)
 
 -- a gauge of a table, after gauges on these tanks
-unfoldable pub gauge_of : ℕ → List ℕ → List ℕ → Data → Result GaugeMap SiteReadFault
+unfoldable pub gauge_of : ℕ → List ℕ → List ℕ → Data → Result GaugeMap SiteFault
 gauge_of item tanks gauged keys = do
   tank ← gauged_tank_at item tanks gauged keys
   request ← request_at item keys
@@ -83,7 +85,7 @@ abbrev pub tanks_gauged : List GaugeMap → List ℕ
 tanks_gauged gauges = map (λ (gauge : GaugeMap). gauge.tank) gauges
 
 -- the gauges of a line, after gauges of earlier lines on these tanks
-abbrev pub gauges_from : ℕ → List ℕ → List ℕ → List GaugeMap → List Data → Result (List GaugeMap) SiteReadFault
+abbrev pub gauges_from : ℕ → List ℕ → List ℕ → List GaugeMap → List Data → Result (List GaugeMap) SiteFault
 gauges_from item tanks gauged done [] = Ok done
 gauges_from item tanks gauged done (keys ∷ others) = do
   gauge ← gauge_of item tanks (gauged ++ tanks_gauged done) keys

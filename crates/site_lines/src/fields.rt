@@ -1,21 +1,19 @@
 //! The fields of a gauge: which registers of its answer make a number, and which bit says that they are valid.
 
-ghost use Rattle.std.specs.Prelude.{◌≡◌, codes, IfOk, Some, IsTrue, IfErr};
+ghost use Rattle.std.specs.Prelude.{◌≡◌, codes, IfOk, Some, IsTrue};
 ghost use Rattle.toml.specs.Data.{get};
 ghost use Rattle.toml.specs.View.{view};
 ghost use Rattle.modbus_poll.specs.Maps.{is_field, is_field_or_none, is_valid_or_none};
-ghost use Rattle.site_keys.specs.Faults.{IsOwn};
 ghost use Rattle.site_lines.specs.Fields.{field_at, field_of, field_or_none, order_at, signed_at, valid_of, valid_or_none, word_order};
 
 use modbus_poll::{Field, Valid};
-use site_keys::{FIELD, Keys, RANGE, SiteReadFault, bad};
+use site_keys::{FIELD, Keys, RANGE, SiteFault, bad};
 
 /// A field at a key.
 #[tactic(auto, unfolding(crate::specs::Fields::field_at))]
-pub fn field_at(quantity: u8, keys: &Keys<'_>, key: &str) -> Result<Field, SiteReadFault>
+pub fn field_at(quantity: u8, keys: &Keys<'_>, key: &str) -> Result<Field, SiteFault>
     ensures field { result ≡ field_at quantity keys.now.item (view keys.now.table.now) key.now }
     ensures sound { IfOk result (λ field. IsTrue (is_field quantity field)) }
-    ensures own { IfErr result IsOwn }
 {
     match keys.table.get(key) {
         Some(table) => field_of(
@@ -35,10 +33,9 @@ pub fn field_or_none(
     quantity: u8,
     keys: &Keys<'_>,
     key: &str,
-) -> Result<Option<Field>, SiteReadFault>
+) -> Result<Option<Field>, SiteFault>
     ensures field { result ≡ field_or_none quantity keys.now.item (view keys.now.table.now) key.now }
     ensures sound { IfOk result (λ field. IsTrue (is_field_or_none quantity field)) }
-    ensures own { IfErr result IsOwn }
 {
     if !keys.has(key) {
         return Ok(None);
@@ -48,10 +45,9 @@ pub fn field_or_none(
 
 // A field among so many registers.
 #[tactic(auto, unfolding(crate::specs::Fields::field_of))]
-fn field_of(quantity: u8, keys: &Keys<'_>) -> Result<Field, SiteReadFault>
+fn field_of(quantity: u8, keys: &Keys<'_>) -> Result<Field, SiteFault>
     ensures field { result ≡ field_of quantity keys.now.item (view keys.now.table.now) }
     ensures sound { IfOk result (λ field. IsTrue (is_field quantity field)) }
-    ensures own { IfErr result IsOwn }
 {
     let offset = keys.natural("offset", 0, 124)? as u8;
     let words = keys.natural_or(1, "words", 1, 2)? as u8;
@@ -70,9 +66,8 @@ fn field_of(quantity: u8, keys: &Keys<'_>) -> Result<Field, SiteReadFault>
 
 // The order of words: whether the low one of two stands first.
 #[tactic(auto, unfolding(crate::specs::Fields::order_at))]
-fn order_at(keys: &Keys<'_>) -> Result<bool, SiteReadFault>
-    ensures value { result ≡ order_at keys.now.item (view keys.now.table.now) }
-    ensures own { IfErr result IsOwn }
+fn order_at(keys: &Keys<'_>) -> Result<bool, SiteFault>
+    ensures swapped { result ≡ order_at keys.now.item (view keys.now.table.now) }
 {
     if !keys.has("order") {
         return Ok(false);
@@ -81,9 +76,8 @@ fn order_at(keys: &Keys<'_>) -> Result<bool, SiteReadFault>
 }
 
 // The same, as it is written.
-fn word_order(item: u32, text: &[u8]) -> Result<bool, SiteReadFault>
-    ensures value { result ≡ word_order item text.now }
-    ensures own { IfErr result IsOwn }
+fn word_order(item: u32, text: &[u8]) -> Result<bool, SiteFault>
+    ensures swapped { result ≡ word_order item text.now }
 {
     match text {
         b"high" => Ok(false),
@@ -94,9 +88,8 @@ fn word_order(item: u32, text: &[u8]) -> Result<bool, SiteReadFault>
 
 // Whether a number is signed.
 #[tactic(auto, unfolding(crate::specs::Fields::signed_at))]
-fn signed_at(keys: &Keys<'_>) -> Result<bool, SiteReadFault>
-    ensures value { result ≡ signed_at keys.now.item (view keys.now.table.now) }
-    ensures own { IfErr result IsOwn }
+fn signed_at(keys: &Keys<'_>) -> Result<bool, SiteFault>
+    ensures signed { result ≡ signed_at keys.now.item (view keys.now.table.now) }
 {
     match keys.table.get("signed") {
         Some(value) => match value.as_bool() {
@@ -108,10 +101,9 @@ fn signed_at(keys: &Keys<'_>) -> Result<bool, SiteReadFault>
 }
 
 /// The validity bit, if there is one.
-pub fn valid_or_none(quantity: u8, keys: &Keys<'_>) -> Result<Option<Valid>, SiteReadFault>
+pub fn valid_or_none(quantity: u8, keys: &Keys<'_>) -> Result<Option<Valid>, SiteFault>
     ensures valid { result ≡ valid_or_none quantity keys.now.item (get (codes "valid") (view keys.now.table.now)) }
     ensures sound { IfOk result (λ valid. IsTrue (is_valid_or_none quantity valid)) }
-    ensures own { IfErr result IsOwn }
 {
     match keys.table.get("valid") {
         Some(table) => {
@@ -124,10 +116,9 @@ pub fn valid_or_none(quantity: u8, keys: &Keys<'_>) -> Result<Option<Valid>, Sit
 
 // A bit among so many registers.
 #[tactic(auto, unfolding(crate::specs::Fields::valid_of))]
-fn valid_of(quantity: u8, keys: &Keys<'_>) -> Result<Valid, SiteReadFault>
+fn valid_of(quantity: u8, keys: &Keys<'_>) -> Result<Valid, SiteFault>
     ensures valid { result ≡ valid_of quantity keys.now.item (view keys.now.table.now) }
     ensures sound { IfOk result (λ valid. IsTrue (is_valid_or_none quantity (Some valid))) }
-    ensures own { IfErr result IsOwn }
 {
     let offset = keys.natural("offset", 0, 124)? as u8;
     if offset >= quantity {

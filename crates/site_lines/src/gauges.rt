@@ -5,13 +5,14 @@ ghost use Rattle.std.specs.List.{list_all};
 ghost use Rattle.toml.specs.View.{view};
 ghost use Rattle.farm_fixed.specs.Range.{is_within};
 ghost use Rattle.modbus_poll.specs.Maps.{is_between, is_gauge_map};
-ghost use Rattle.site_keys.specs.Faults.{IsOwn, IsRefused};
+ghost use Rattle.farm_base.specs.Steps.{IsRefusedAs};
+ghost use Rattle.site_keys.specs.Faults.{IsNotTheFolders, reported};
 ghost use Rattle.site_keys.specs.Lists.{is_among};
 ghost use Rattle.site_lines.specs.Gauges.{ambient_fixed_at, are_gauged, deadbands_at, gauge_of, gauged_tank_at, gauges_from, is_request, quantity_from, request_at, tanks_gauged};
 
 use crate::fields::{field_at, field_or_none, valid_or_none};
 use modbus_poll::GaugeMap;
-use site_keys::{Keys, Numbered, RANGE, REPEATED, SiteReadFault, bad, reference};
+use site_keys::{Keys, Numbered, RANGE, REPEATED, SiteFault, SiteReadFault, bad, reference};
 use std::alloc::Global;
 use toml::Value;
 
@@ -34,12 +35,12 @@ pub fn gauges_from<T: Numbered>(
 ) -> Result<Vec<GaugeMap>, SiteReadFault>
     requires { IsTrue (are_gauged (map T.numbered tanks.now) gauged.old.items) }
     ensures gauges { MatchResult result (λ gauges. gauges_from item (map T.numbered tanks.now) gauged.old.items [] (map view tables.now) ≡ Ok gauges.items)
-        (λ fault. IsRefused fault (gauges_from item (map T.numbered tanks.now) gauged.old.items [] (map view tables.now))) }
+        (λ fault. IsRefusedAs (reported fault) (gauges_from item (map T.numbered tanks.now) gauged.old.items [] (map view tables.now))) }
     ensures gauged { IfOk result (λ gauges. gauged.new.items ≡ gauged.old.items ++ tanks_gauged gauges.items) }
     ensures count { IfOk result (λ gauges. length gauges.items ≡ length tables.now) }
     ensures sound { IfOk result (λ gauges. IsTrue (list_all is_gauge_map gauges.items)) }
     ensures tanks { IfOk result (λ _. IsTrue (are_gauged (map T.numbered tanks.now) gauged.new.items)) }
-    ensures own { IfErr result IsOwn }
+    ensures not_the_folders { IfErr result IsNotTheFolders }
 {
     let mut gauges = Vec::new(alloc);
     for table in tables {
@@ -56,12 +57,11 @@ fn gauge_of<T: Numbered>(
     tanks: &[T],
     gauged: &[u16],
     keys: &Keys<'_>,
-) -> Result<GaugeMap, SiteReadFault>
+) -> Result<GaugeMap, SiteFault>
     ensures gauge { result ≡ gauge_of keys.now.item (map T.numbered tanks.now) gauged.now (view keys.now.table.now) }
     ensures sound { IfOk result (λ gauge. IsTrue (is_gauge_map gauge)) }
     ensures known { IfOk result (λ gauge. IsTrue (is_among gauge.tank (map T.numbered tanks.now))) }
     ensures new { IfOk result (λ gauge. IsFalse (is_among gauge.tank gauged.now)) }
-    ensures own { IfErr result IsOwn }
 {
     let tank = gauged_tank_at(tanks, gauged, keys)?;
     let request = request_at(keys)?;
@@ -96,11 +96,10 @@ fn gauged_tank_at<T: Numbered>(
     tanks: &[T],
     gauged: &[u16],
     keys: &Keys<'_>,
-) -> Result<u16, SiteReadFault>
+) -> Result<u16, SiteFault>
     ensures tank { result ≡ gauged_tank_at keys.now.item (map T.numbered tanks.now) gauged.now (view keys.now.table.now) }
     ensures known { IfOk result (λ tank. IsTrue (is_among tank (map T.numbered tanks.now))) }
     ensures new { IfOk result (λ tank. IsFalse (is_among tank gauged.now)) }
-    ensures own { IfErr result IsOwn }
 {
     let tank = reference(keys, "tank", tanks)?;
     if gauged.contains(&tank) {
@@ -111,10 +110,9 @@ fn gauged_tank_at<T: Numbered>(
 
 // What is asked of a device.
 #[tactic(auto, unfolding(crate::specs::Gauges::request_at))]
-fn request_at(keys: &Keys<'_>) -> Result<Request, SiteReadFault>
+fn request_at(keys: &Keys<'_>) -> Result<Request, SiteFault>
     ensures request { result ≡ request_at keys.now.item (view keys.now.table.now) }
     ensures sound { IfOk result (λ request. IsTrue (is_request request)) }
-    ensures own { IfErr result IsOwn }
 {
     let unit = keys.natural("unit", 0, 255)? as u8;
     let function = keys.natural("function", 3, 4)? as u8;
@@ -130,11 +128,10 @@ fn request_at(keys: &Keys<'_>) -> Result<Request, SiteReadFault>
 
 // How many registers are read from the first.
 #[tactic(auto, unfolding(crate::specs::Gauges::quantity_from))]
-fn quantity_from(start: u16, keys: &Keys<'_>) -> Result<u8, SiteReadFault>
+fn quantity_from(start: u16, keys: &Keys<'_>) -> Result<u8, SiteFault>
     ensures quantity { result ≡ quantity_from start keys.now.item (view keys.now.table.now) }
     ensures count { IfOk result (λ quantity. IsTrue (is_between 1 125 quantity)) }
     ensures within { IfOk result (λ quantity. IsTrue (nat_le (start + quantity) 65536)) }
-    ensures own { IfErr result IsOwn }
 {
     let quantity = keys.natural("quantity", 1, 125)?;
     if u32::from(start) + quantity > 65_536 {
@@ -145,10 +142,9 @@ fn quantity_from(start: u16, keys: &Keys<'_>) -> Result<u8, SiteReadFault>
 
 // The ambient temperature where the gauge gives none.
 #[tactic(auto, unfolding(crate::specs::Gauges::ambient_fixed_at))]
-fn ambient_fixed_at(keys: &Keys<'_>) -> Result<i64, SiteReadFault>
+fn ambient_fixed_at(keys: &Keys<'_>) -> Result<i64, SiteFault>
     ensures ambient { result ≡ ambient_fixed_at keys.now.item (view keys.now.table.now) }
     ensures range { IfOk result (λ ambient. IsTrue (is_within (negsuc 9999) (pos 30000) ambient)) }
-    ensures own { IfErr result IsOwn }
 {
     if !keys.has("ambient_fixed") {
         return Ok(1_500);
@@ -158,11 +154,10 @@ fn ambient_fixed_at(keys: &Keys<'_>) -> Result<i64, SiteReadFault>
 
 // The deadbands: of the levels, in mm, and of the temperature, in 0.01 C.
 #[tactic(auto, unfolding(crate::specs::Gauges::deadbands_at))]
-fn deadbands_at(keys: &Keys<'_>) -> Result<(u16, u16), SiteReadFault>
+fn deadbands_at(keys: &Keys<'_>) -> Result<(u16, u16), SiteFault>
     ensures deadbands { result ≡ deadbands_at keys.now.item (view keys.now.table.now) }
     ensures levels { IfOk result (λ deadbands. IsTrue (is_between 1 1000 deadbands.0)) }
     ensures temperature { IfOk result (λ deadbands. IsTrue (is_between 1 1000 deadbands.1)) }
-    ensures own { IfErr result IsOwn }
 {
     let levels = keys.natural_or(1, "deadband_mm", 1, 1_000)? as u16;
     let temperature = keys.natural_or(5, "deadband_centi", 1, 1_000)? as u16;

@@ -1,8 +1,10 @@
 //! Strappings of a site.
 
-ghost use Rattle.std.specs.Prelude.{◌≡◌, [], map, MatchResult, Ok, IfErr};
+ghost use Rattle.std.specs.Prelude.{◌≡◌, [], map, option_map, MatchResult, Ok, IfErr};
 ghost use Rattle.toml.specs.View.{view};
-ghost use Rattle.site_keys.specs.Faults.{IsOwn, IsRefused};
+ghost use Rattle.farm_base.specs.Steps.{IsRefusedAs};
+ghost use Rattle.strap_courses.specs.Faults as strap;
+ghost use Rattle.site_keys.specs.Faults.{IsNotTheFolders, reported};
 ghost use Rattle.strap_courses.specs.Rows.{strapped_rows};
 ghost use Rattle.site_keys.specs.Lists.{read_from};
 ghost use Rattle.site_tables.specs.Strappings.{bottom_at, course_of, courses_at, deadwood_of, deadwoods_at, height_at, length_at, length_or_none, level_of, parts_of, point_of, point_of_pair, rows_read, strap_fault, strapped_file, table_of_strapping};
@@ -10,11 +12,14 @@ ghost use Rattle.site_tables.specs.Strappings.{bottom_at, course_of, courses_at,
 use crate::tables::table_of_rows;
 use farm_fixed::{Deci, Mm, TenthMillimetre};
 use farm_rounding::RoundTable;
-use site_keys::{FIELD, Keys, RANGE, STRAP, SiteReadFault, bad, bad_at, toml_of};
+use site_keys::{FIELD, Keys, RANGE, STRAP, SiteFault, SiteReadFault, bad, bad_at, toml_of};
 use std::alloc::Global;
 use strap_courses::{Course, Deadwood, StrapFault, Strapping};
 use strap_table::CapTable;
 use toml::Value;
+
+/// A height in a strapping file is at most this many mm.
+const HIGHEST: i64 = 50_000;
 
 /// The capacity table of a strapping file: courses, deadwoods and a bottom.
 #[tactic(auto, unfolding(crate::specs::Strappings::strapped_file))]
@@ -24,9 +29,9 @@ pub fn strapped_file(
     rounds: &RoundTable,
     bytes: &[u8],
 ) -> Result<CapTable, SiteReadFault>
-    ensures value { MatchResult result (λ table. strapped_file item rounds.now bytes.now ≡ Ok table)
-        (λ fault. IsRefused fault (strapped_file item rounds.now bytes.now)) }
-    ensures own { IfErr result IsOwn }
+    ensures table { MatchResult result (λ table. strapped_file item rounds.now bytes.now ≡ Ok table)
+        (λ fault. IsRefusedAs (reported fault) (strapped_file item rounds.now bytes.now)) }
+    ensures not_the_folders { IfErr result IsNotTheFolders }
 {
     let table = toml_of(alloc, item, bytes)?;
     table_of_strapping(
@@ -46,9 +51,9 @@ fn table_of_strapping(
     rounds: &RoundTable,
     keys: &Keys<'_>,
 ) -> Result<CapTable, SiteReadFault>
-    ensures value { MatchResult result (λ table. table_of_strapping keys.now.item rounds.now (view keys.now.table.now) ≡ Ok table)
-        (λ fault. IsRefused fault (table_of_strapping keys.now.item rounds.now (view keys.now.table.now))) }
-    ensures own { IfErr result IsOwn }
+    ensures table { MatchResult result (λ table. table_of_strapping keys.now.item rounds.now (view keys.now.table.now) ≡ Ok table)
+        (λ fault. IsRefusedAs (reported fault) (table_of_strapping keys.now.item rounds.now (view keys.now.table.now))) }
+    ensures not_the_folders { IfErr result IsNotTheFolders }
 {
     let courses = courses_at(alloc, keys)?;
     let deadwoods = deadwoods_at(alloc, keys)?;
@@ -67,27 +72,28 @@ fn table_of_tank(
     rounds: &RoundTable,
     tank: &Strapping,
 ) -> Result<CapTable, SiteReadFault>
-    ensures value { MatchResult result (λ table. rows_read item (strapped_rows rounds.now tank.now) ≡ Ok table)
-        (λ fault. IsRefused fault (rows_read item (strapped_rows rounds.now tank.now))) }
-    ensures own { IfErr result IsOwn }
+    ensures table { MatchResult result (λ table. rows_read item (strapped_rows rounds.now tank.now) ≡ Ok table)
+        (λ fault. IsRefusedAs (reported fault) (rows_read item (strapped_rows rounds.now tank.now))) }
+    ensures not_the_folders { IfErr result IsNotTheFolders }
 {
     match tank.rows(alloc, rounds) {
-        Ok(rows) => table_of_rows(item, rows),
+        Ok(rows) => Ok(table_of_rows(item, rows)?),
         Err(fault) => Err(strap_refused(item, fault)),
     }
 }
 
-// What a strapping's refusal is told as.
+// How the refusal of a strapping is reported.
 fn strap_refused(item: u32, fault: StrapFault) -> SiteReadFault
-    ensures { result ≡ strap_fault item fault }
+    ensures fault { reported result ≡ option_map (strap_fault item) (strap.reported fault) }
+    ensures not_the_folders { IsNotTheFolders result }
 {
     match fault {
-        StrapFault::NoCourse | StrapFault::TooTall => bad(STRAP, item),
+        StrapFault::NoCourse | StrapFault::TooTall => bad(STRAP, item).into(),
         StrapFault::BadCourse(n)
         | StrapFault::BadDeadwood(n)
         | StrapFault::BadBottom(n)
         | StrapFault::NotRising(n)
-        | StrapFault::TooLarge(n) => bad_at(STRAP, item, n),
+        | StrapFault::TooLarge(n) => bad_at(STRAP, item, n).into(),
         StrapFault::NoMemory => SiteReadFault::NoMemory,
     }
 }
@@ -95,9 +101,9 @@ fn strap_refused(item: u32, fault: StrapFault) -> SiteReadFault
 // The courses.
 #[tactic(auto, unfolding(crate::specs::Strappings::courses_at))]
 fn courses_at(alloc: Global, keys: &Keys<'_>) -> Result<Vec<Course>, SiteReadFault>
-    ensures value { MatchResult result (λ list. courses_at keys.now.item (view keys.now.table.now) ≡ Ok list.items)
-        (λ fault. IsRefused fault (courses_at keys.now.item (view keys.now.table.now))) }
-    ensures own { IfErr result IsOwn }
+    ensures courses { MatchResult result (λ list. courses_at keys.now.item (view keys.now.table.now) ≡ Ok list.items)
+        (λ fault. IsRefusedAs (reported fault) (courses_at keys.now.item (view keys.now.table.now))) }
+    ensures not_the_folders { IfErr result IsNotTheFolders }
 {
     let values = keys.array_or_none("course")?;
     let mut courses = Vec::new(alloc);
@@ -113,9 +119,9 @@ fn courses_at(alloc: Global, keys: &Keys<'_>) -> Result<Vec<Course>, SiteReadFau
 // The deadwoods.
 #[tactic(auto, unfolding(crate::specs::Strappings::deadwoods_at))]
 fn deadwoods_at(alloc: Global, keys: &Keys<'_>) -> Result<Vec<Deadwood>, SiteReadFault>
-    ensures value { MatchResult result (λ list. deadwoods_at keys.now.item (view keys.now.table.now) ≡ Ok list.items)
-        (λ fault. IsRefused fault (deadwoods_at keys.now.item (view keys.now.table.now))) }
-    ensures own { IfErr result IsOwn }
+    ensures deadwoods { MatchResult result (λ list. deadwoods_at keys.now.item (view keys.now.table.now) ≡ Ok list.items)
+        (λ fault. IsRefusedAs (reported fault) (deadwoods_at keys.now.item (view keys.now.table.now))) }
+    ensures not_the_folders { IfErr result IsNotTheFolders }
 {
     let values = keys.array_or_none("deadwood")?;
     let mut deadwoods = Vec::new(alloc);
@@ -131,9 +137,9 @@ fn deadwoods_at(alloc: Global, keys: &Keys<'_>) -> Result<Vec<Deadwood>, SiteRea
 // The bottom: a flat one where there is none.
 #[tactic(auto, unfolding(crate::specs::Strappings::bottom_at))]
 fn bottom_at(alloc: Global, keys: &Keys<'_>) -> Result<Vec<(Mm, i64)>, SiteReadFault>
-    ensures value { MatchResult result (λ list. bottom_at keys.now.item (view keys.now.table.now) ≡ Ok list.items)
-        (λ fault. IsRefused fault (bottom_at keys.now.item (view keys.now.table.now))) }
-    ensures own { IfErr result IsOwn }
+    ensures points { MatchResult result (λ list. bottom_at keys.now.item (view keys.now.table.now) ≡ Ok list.items)
+        (λ fault. IsRefusedAs (reported fault) (bottom_at keys.now.item (view keys.now.table.now))) }
+    ensures not_the_folders { IfErr result IsNotTheFolders }
 {
     if !keys.has("bottom") {
         return Ok(vec![in alloc; (Mm::new(0).unwrap(), 0)]?);
@@ -144,9 +150,9 @@ fn bottom_at(alloc: Global, keys: &Keys<'_>) -> Result<Vec<(Mm, i64)>, SiteReadF
 
 // The points of a bottom.
 fn points_of(alloc: Global, item: u32, values: &[Value]) -> Result<Vec<(Mm, i64)>, SiteReadFault>
-    ensures value { MatchResult result (λ list. read_from (point_of item) [] (map view values.now) ≡ Ok list.items)
-        (λ fault. IsRefused fault (read_from (point_of item) [] (map view values.now))) }
-    ensures own { IfErr result IsOwn }
+    ensures points { MatchResult result (λ list. read_from (point_of item) [] (map view values.now) ≡ Ok list.items)
+        (λ fault. IsRefusedAs (reported fault) (read_from (point_of item) [] (map view values.now))) }
+    ensures not_the_folders { IfErr result IsNotTheFolders }
 {
     let mut points = Vec::new(alloc);
     for value in values {
@@ -157,9 +163,8 @@ fn points_of(alloc: Global, item: u32, values: &[Value]) -> Result<Vec<(Mm, i64)
 
 // A course.
 #[tactic(auto, unfolding(crate::specs::Strappings::course_of))]
-fn course_of(keys: &Keys<'_>) -> Result<Course, SiteReadFault>
-    ensures value { result ≡ course_of keys.now.item (view keys.now.table.now) }
-    ensures own { IfErr result IsOwn }
+fn course_of(keys: &Keys<'_>) -> Result<Course, SiteFault>
+    ensures course { result ≡ course_of keys.now.item (view keys.now.table.now) }
 {
     let height = height_at(keys, "height")?;
     let lower = length_at(keys, "lower")?;
@@ -181,9 +186,8 @@ fn course_of(keys: &Keys<'_>) -> Result<Course, SiteReadFault>
 
 // A deadwood.
 #[tactic(auto, unfolding(crate::specs::Strappings::deadwood_of))]
-fn deadwood_of(keys: &Keys<'_>) -> Result<Deadwood, SiteReadFault>
-    ensures value { result ≡ deadwood_of keys.now.item (view keys.now.table.now) }
-    ensures own { IfErr result IsOwn }
+fn deadwood_of(keys: &Keys<'_>) -> Result<Deadwood, SiteFault>
+    ensures deadwood { result ≡ deadwood_of keys.now.item (view keys.now.table.now) }
 {
     let low = height_at(keys, "low")?;
     let high = height_at(keys, "high")?;
@@ -191,11 +195,10 @@ fn deadwood_of(keys: &Keys<'_>) -> Result<Deadwood, SiteReadFault>
     Ok(Deadwood { low, high, litres })
 }
 
-// A circumference, a deduction or a thickness, none where it is missing.
+// A deduction or a thickness; where it is missing, none.
 #[tactic(auto, unfolding(crate::specs::Strappings::length_or_none))]
-fn length_or_none(keys: &Keys<'_>, key: &str) -> Result<Deci, SiteReadFault>
-    ensures value { result ≡ length_or_none keys.now.item (view keys.now.table.now) key.now }
-    ensures own { IfErr result IsOwn }
+fn length_or_none(keys: &Keys<'_>, key: &str) -> Result<Deci, SiteFault>
+    ensures length { result ≡ length_or_none keys.now.item (view keys.now.table.now) key.now }
 {
     if !keys.has(key) {
         return Ok(Deci::new(0).unwrap());
@@ -205,28 +208,25 @@ fn length_or_none(keys: &Keys<'_>, key: &str) -> Result<Deci, SiteReadFault>
 
 // A circumference, a deduction or a thickness.
 #[tactic(auto, unfolding(crate::specs::Strappings::length_at))]
-fn length_at(keys: &Keys<'_>, key: &str) -> Result<Deci, SiteReadFault>
-    ensures value { result ≡ length_at keys.now.item (view keys.now.table.now) key.now }
-    ensures own { IfErr result IsOwn }
+fn length_at(keys: &Keys<'_>, key: &str) -> Result<Deci, SiteFault>
+    ensures length { result ≡ length_at keys.now.item (view keys.now.table.now) key.now }
 {
     keys.quantity::<TenthMillimetre>(key)
 }
 
 // A height.
 #[tactic(auto, unfolding(crate::specs::Strappings::height_at))]
-fn height_at(keys: &Keys<'_>, key: &str) -> Result<Mm, SiteReadFault>
-    ensures value { result ≡ height_at keys.now.item (view keys.now.table.now) key.now }
-    ensures own { IfErr result IsOwn }
+fn height_at(keys: &Keys<'_>, key: &str) -> Result<Mm, SiteFault>
+    ensures height { result ≡ height_at keys.now.item (view keys.now.table.now) key.now }
 {
-    let height = keys.whole(key, 0, 50_000)?;
+    let height = keys.whole(key, 0, HIGHEST)?;
     Ok(Mm::new(height).unwrap())
 }
 
 // A point of a bottom.
 #[tactic(auto, unfolding(crate::specs::Strappings::point_of))]
-fn point_of(item: u32, value: &Value) -> Result<(Mm, i64), SiteReadFault>
-    ensures value { result ≡ point_of item (view value.now) }
-    ensures own { IfErr result IsOwn }
+fn point_of(item: u32, value: &Value) -> Result<(Mm, i64), SiteFault>
+    ensures point { result ≡ point_of item (view value.now) }
 {
     match value.as_array() {
         Some(pair) => point_of_pair(item, pair.as_slice()),
@@ -235,9 +235,8 @@ fn point_of(item: u32, value: &Value) -> Result<(Mm, i64), SiteReadFault>
 }
 
 // A point of a bottom, as a pair of a height and litres.
-fn point_of_pair(item: u32, pair: &[Value]) -> Result<(Mm, i64), SiteReadFault>
-    ensures value { result ≡ point_of_pair item (map view pair.now) }
-    ensures own { IfErr result IsOwn }
+fn point_of_pair(item: u32, pair: &[Value]) -> Result<(Mm, i64), SiteFault>
+    ensures point { result ≡ point_of_pair item (map view pair.now) }
 {
     let [height, litres] = pair else {
         return Err(bad(FIELD, item));
@@ -251,9 +250,8 @@ fn point_of_pair(item: u32, pair: &[Value]) -> Result<(Mm, i64), SiteReadFault>
 
 // The height of a point.
 #[tactic(auto, unfolding(crate::specs::Strappings::level_of))]
-fn level_of(item: u32, value: &Value) -> Result<Mm, SiteReadFault>
-    ensures value { result ≡ level_of item (view value.now) }
-    ensures own { IfErr result IsOwn }
+fn level_of(item: u32, value: &Value) -> Result<Mm, SiteFault>
+    ensures height { result ≡ level_of item (view value.now) }
 {
     let Some(height) = value.as_integer() else {
         return Err(bad(FIELD, item));

@@ -3,25 +3,26 @@
 ghost use Rattle.std.specs.Prelude.{◌≡◌, ◌≤◌, ◌+◌, ◌*◌, ◌-◌, ◌^◌, length, map, pos, MatchResult, Ok, IfErr};
 ghost use Rattle.std.specs.Ordering.{int_eq};
 ghost use Rattle.csv.specs.Records.{fields_of};
-ghost use Rattle.site_keys.specs.Faults.{IsOwn, IsRefused};
+ghost use Rattle.farm_base.specs.Steps.{IsRefusedAs};
+ghost use Rattle.site_keys.specs.Faults.{IsNotTheFolders, reported};
 ghost use Rattle.site_tables.specs.Tables.{litres_at, litres_from, litres_of, litres_under_header, number_in, table_of_file, table_of_records, table_of_rows};
 
 use csv::ByteRecord;
 use farm_csv::{CsvFault, records_of, without_blanks};
 use farm_fixed::whole_number;
-use site_keys::{FIELD, SiteReadFault, TABLE, TEXT, bad, bad_at};
+use site_keys::{FIELD, SiteFault, SiteReadFault, TABLE, TEXT, bad, bad_at};
 use std::alloc::Global;
 use strap_table::{CapTable, TableFault};
 
 /// The capacity table of a file: a header that isn't looked at, and a level and its litres each 10 mm.
 #[tactic(auto, unfolding(crate::specs::Tables::table_of_file))]
 pub fn table_of_file(alloc: Global, item: u32, bytes: &[u8]) -> Result<CapTable, SiteReadFault>
-    ensures value { MatchResult result (λ table. table_of_file item bytes.now ≡ Ok table) (λ fault. IsRefused fault (table_of_file item bytes.now)) }
-    ensures own { IfErr result IsOwn }
+    ensures table { MatchResult result (λ table. table_of_file item bytes.now ≡ Ok table) (λ fault. IsRefusedAs (reported fault) (table_of_file item bytes.now)) }
+    ensures not_the_folders { IfErr result IsNotTheFolders }
 {
     match records_of(alloc, bytes) {
         Ok(records) => table_of_records(alloc, item, &records),
-        Err(CsvFault::Uneven) => Err(bad(TEXT, item)),
+        Err(CsvFault::Uneven) => Err(bad(TEXT, item).into()),
         Err(CsvFault::NoMemory) => Err(SiteReadFault::NoMemory),
     }
 }
@@ -33,18 +34,17 @@ fn table_of_records(
     item: u32,
     records: &[ByteRecord],
 ) -> Result<CapTable, SiteReadFault>
-    ensures value { MatchResult result (λ table. table_of_records item (map fields_of records.now) ≡ Ok table)
-        (λ fault. IsRefused fault (table_of_records item (map fields_of records.now))) }
-    ensures own { IfErr result IsOwn }
+    ensures table { MatchResult result (λ table. table_of_records item (map fields_of records.now) ≡ Ok table)
+        (λ fault. IsRefusedAs (reported fault) (table_of_records item (map fields_of records.now))) }
+    ensures not_the_folders { IfErr result IsNotTheFolders }
 {
     let rows = litres_under_header(alloc, item, records)?;
-    table_of_rows(item, rows)
+    Ok(table_of_rows(item, rows)?)
 }
 
 /// The capacity table of rows.
-pub fn table_of_rows(item: u32, rows: Vec<i64>) -> Result<CapTable, SiteReadFault>
-    ensures value { result ≡ table_of_rows item rows.items }
-    ensures own { IfErr result IsOwn }
+pub fn table_of_rows(item: u32, rows: Vec<i64>) -> Result<CapTable, SiteFault>
+    ensures table { result ≡ table_of_rows item rows.items }
 {
     match CapTable::from_rows(rows) {
         Ok(table) => Ok(table),
@@ -55,15 +55,15 @@ pub fn table_of_rows(item: u32, rows: Vec<i64>) -> Result<CapTable, SiteReadFaul
     }
 }
 
-// The litres of the records behind the header.
+// The litres of the records after the header.
 fn litres_under_header(
     alloc: Global,
     item: u32,
     records: &[ByteRecord],
 ) -> Result<Vec<i64>, SiteReadFault>
-    ensures value { MatchResult result (λ litres. litres_under_header item (map fields_of records.now) ≡ Ok litres.items)
-        (λ fault. IsRefused fault (litres_under_header item (map fields_of records.now))) }
-    ensures own { IfErr result IsOwn }
+    ensures litres { MatchResult result (λ litres. litres_under_header item (map fields_of records.now) ≡ Ok litres.items)
+        (λ fault. IsRefusedAs (reported fault) (litres_under_header item (map fields_of records.now))) }
+    ensures not_the_folders { IfErr result IsNotTheFolders }
 {
     match records {
         [] => Ok(Vec::new(alloc)),
@@ -73,15 +73,15 @@ fn litres_under_header(
 
 // The litres of records, of which the first is due at 0 mm.
 fn litres_from(alloc: Global, item: u32, records: &[ByteRecord]) -> Result<Vec<i64>, SiteReadFault>
-    ensures value { MatchResult result (λ litres. litres_from item (map fields_of records.now) ≡ Ok litres.items)
-        (λ fault. IsRefused fault (litres_from item (map fields_of records.now))) }
-    ensures own { IfErr result IsOwn }
+    ensures litres { MatchResult result (λ litres. litres_from item (map fields_of records.now) ≡ Ok litres.items)
+        (λ fault. IsRefusedAs (reported fault) (litres_from item (map fields_of records.now))) }
+    ensures not_the_folders { IfErr result IsNotTheFolders }
 {
     let mut rows = Vec::new(alloc);
     for (index, fields) in records.iter().enumerate() {
         match litres_of(index, fields) {
             Some(litres) => rows.push(litres)?,
-            None => return Err(bad_at(FIELD, item, index + 1)),
+            None => return Err(bad_at(FIELD, item, index + 1).into()),
         }
     }
     Ok(rows)
