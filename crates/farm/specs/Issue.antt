@@ -4,15 +4,13 @@ use Rattle.farm_ports.specs.Folders.{File}
 use Rattle.farm_report.specs.Issued.{issued_text}
 use Rattle.farm_site.specs.Described.{Described, site_of_files}
 use Rattle.site_keys.specs.declared.fault.SiteFault.{SiteFault}
-use Rattle.site_keys.specs.declared.fault.SiteReadFault.{SiteReadFault}
-use Rattle.site_keys.specs.declared.fault.SiteReadFault.TheVariants.{NoMemory, Folder, Bad}
+use Rattle.site_keys.specs.Faults.{Refusal, Faulty, Missing}
 
 -- the tables of a site that was described, or the fault; neither where a file isn't there
-abbrev pub issued_of : Result Described SiteReadFault → Option (Result (List ℕ) SiteFault)
+abbrev pub issued_of : Result Described Refusal → Option (Result (List ℕ) SiteFault)
 issued_of (Ok site) = Some (Ok (issued_text site.tanks))
-issued_of (Err (Bad fault)) = Some (Err fault)
-issued_of (Err Folder) = None
-issued_of (Err NoMemory) = None
+issued_of (Err (Faulty fault)) = Some (Err fault)
+issued_of (Err (Missing name)) = None
 
 -- what the files of a folder have
 abbrev pub table_of : List File → Option (Result (List ℕ) SiteFault)

@@ -1,6 +1,2 @@
-pub mod Top
-pub mod Parties
-pub mod Products
-pub mod Tanks
-pub mod Facts
+pub mod Rounds
 pub mod Described

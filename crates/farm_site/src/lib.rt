@@ -6,18 +6,12 @@
 #![tactic(auto)]
 
 mod lists;
-mod name;
-mod parties;
-mod products;
-mod records;
+mod rounds;
 mod site;
-mod tanks;
-mod top;
 
 pub use lists::{Lines, Parties, Products, Tanks};
-pub use name::Name;
-pub use records::{Party, Product, Tank};
 pub use site::Site;
+pub use site_items::{Format, Name, Party, Product, Tank};
 pub use site_keys::{SiteFault, SiteReadFault};
 
 #[cfg(test)]

@@ -2,3 +2,4 @@ pub mod Arrays
 pub mod Contents
 pub mod PlacedFacts
 pub mod Steps
+pub mod Kept

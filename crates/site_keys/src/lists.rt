@@ -11,7 +11,7 @@ use crate::{SiteFault, SiteReadFault, bad};
 use toml::Value;
 
 /// An item's number is from 1 up to this.
-const GREATEST_NUMBER: u32 = 65_535;
+pub const GREATEST_NUMBER: u32 = 65_535;
 
 /// An item that has a number.
 pub trait Numbered {
