@@ -5,7 +5,7 @@ use thiserror::Error;
 #[error("the value is outside the range of its type")]
 pub struct OutOfRange;
 
-/// Why a text is no quantity of its type. The first of the causes below, in their order, is told.
+/// Why a text is no quantity of its type. The first of the causes below, in their order, is reported.
 #[derive(Clone, Copy, Debug, PartialEq, Eq, Error)]
 pub enum ReadFault {
     /// There are no bytes.

@@ -5,6 +5,7 @@
 #![tactic(auto)]
 
 mod fault;
+mod limits;
 mod parsing;
 mod printing;
 mod quantity;
@@ -14,6 +15,7 @@ mod whole;
 
 pub use farm_base::NoMemory;
 pub use fault::{OutOfRange, ReadFault};
+pub use limits::{MOST_COEFFICIENT, MOST_HEIGHT, MOST_LITRES, MOST_ROOF_MASS};
 pub use quantity::{Quantity, Unit};
 pub use records::{Amount, ChainRule, Quantities, Reading, Sample, Shell};
 pub use units::{

@@ -1,3 +1,5 @@
+//! The records of a custody calculation, and why one is refused.
+
 use crate::{Centi, Dens, Fac5, Kg, Litres, Mm, Permil5};
 use thiserror::Error;
 
@@ -68,7 +70,7 @@ pub struct Amount {
     pub kg: i64,
 }
 
-/// Why a custody calculation is refused. The first of the causes below, in their order, is told.
+/// Why a custody calculation is refused. The first of the causes below, in their order, is reported.
 #[derive(Clone, Copy, Debug, PartialEq, Eq, Error)]
 pub enum ChainRule {
     /// The level is above the last row of the capacity table.

@@ -1,8 +1,11 @@
-ghost use Rattle.std.specs.Prelude.{◌≡◌, ◌≤◌, None, Some, IfErr, IfOk, OnOk, pos};
-ghost use Rattle.farm_rounding.specs.Multiple.{IsAllowedStep};
-ghost use Rattle.farm_rounding.specs.Table.{first_bad_row, is_row, row_at, usual_rows};
+//! The rounding table: how each figure of the custody calculation is rounded.
 
-use crate::Mode;
+ghost use Rattle.std.specs.Prelude.{◌≡◌, ◌≤◌, ◌+◌, ◌/◌, ◌^◌, None, Some, IfErr, IfOk, OnOk, pos, ◌≤ℤ◌};
+ghost use Rattle.std.specs.Int.RustNames.{unsigned_abs};
+ghost use Rattle.farm_rounding.specs.Multiple.{IsAllowedStep};
+ghost use Rattle.farm_rounding.specs.Table.{IsFirstBadRow, IsTable, first_bad_row, is_row, row_at, rounded, usual_rows};
+
+use crate::{Mode, nearest};
 use std::marker::Model;
 use thiserror::Error;
 
@@ -64,6 +67,8 @@ impl RoundTable {
         ensures rows { IfOk result (λ table. table ≡ rows) }
         ensures ok { OnOk result (first_bad_row 1 rows ≡ None) }
         ensures bad { IfErr result (λ bad. first_bad_row 1 rows ≡ Some bad.0) }
+        ensures allowed { OnOk result (IsTable rows) }
+        ensures first_bad { IfErr result (λ bad. IsFirstBadRow rows bad.0) }
     {
         for (index, row) in rows.iter().enumerate() {
             let number = index as u8 + 1;
@@ -90,10 +95,27 @@ impl RoundTable {
         ensures step { result.0 ≡ pos (row_at self.now n).0 }
         ensures mode { result.1 ≡ (row_at self.now n).1 }
         ensures allowed { IsAllowedStep result.0 }
-        ensures ties { n ≡ 7 → result.0 ≡ pos 1 }
+        ensures ties { n ≡ FACTOR_TIES → result.0 ≡ pos 1 }
     {
         let (step, mode) = self.rows[n as usize - 1];
         (i64::from(step), mode)
+    }
+
+    /// `num / den` rounded by row `n`, counted from 1.
+    pub fn round(&self, n: u8, num: i128, den: i128) -> i128
+        requires row_low { 1 ≤ n }
+        requires row_high { n ≤ 12 }
+        requires numerator { unsigned_abs num ≤ 10 ^ 36 }
+        requires denominator_low { pos 1 ≤ℤ den }
+        requires denominator_high { den ≤ℤ pos (10 ^ 20) }
+        ensures value { result ≡ rounded self.now n num (unsigned_abs den) }
+        ensures above { unsigned_abs result ≤ unsigned_abs num / unsigned_abs den + 100 }
+        ensures below { unsigned_abs num / unsigned_abs den ≤ unsigned_abs result + 100 }
+        ensures size { unsigned_abs result ≤ unsigned_abs num + 100 }
+        ensures sign { pos 0 ≤ℤ num → pos 0 ≤ℤ result }
+    {
+        let (step, mode) = self.row(n);
+        nearest(num, den, step, mode)
     }
 }
 

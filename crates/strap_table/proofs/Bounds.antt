@@ -9,6 +9,7 @@ use Rattle.farm_rounding.specs.declared.mode.Mode.{Mode}
 use Rattle.farm_rounding.specs.declared.mode.Mode.TheVariants.{HalfAway, TowardZero}
 use Rattle.farm_rounding.specs.Multiple.{is_step, rounds_up, steps_to, nearest_multiple}
 use Rattle.farm_rounding.proofs.Steps.{step_bounds}
+use Rattle.strap_table.specs.Capacity.{IsVolume, tenths_between}
 
 -- j is at most q or above it
 either_side : (j q : ℕ) → (j ≤ q) ⊎ (q + 1 ≤ j)
@@ -82,10 +83,16 @@ part_of_a_rise (pos r) (pos t) low some few =
 part_of_a_rise (pos r) (negsuc t) low some few = absurd (omega (arith, ints, some))
 part_of_a_rise (negsuc r) t low some few = absurd (omega (arith, ints, low))
 
--- ten times a row and at most ten times the rise above it are at most ten times the next row
-pub tenths_in_range : (row next rise part tenths : ℤ) → IsWithin (pos 0) (pos (10 ^ 9)) row → IsWithin (pos 0) (pos (10 ^ 9)) next →
-    rise ≡ next -ℤ row → pos 0 ≤ℤ part → part ≤ℤ (pos 10 *ℤ rise) → tenths ≡ pos 10 *ℤ row +ℤ part → IsWithin (pos 0) (pos (10 ^ 10)) tenths
-tenths_in_range row next rise part tenths row_within next_within rise_is low high tenths_are = record {
-  low = omega (arith, ints, row_within, low, tenths_are);
-  high = omega (arith, ints, next_within, high, rise_is, tenths_are);
-}
+-- the same, of any part of the rise
+within_ten_rows : (row next part : ℤ) → pos 0 ≤ℤ row → next ≤ℤ pos (10 ^ 9) → pos 0 ≤ℤ part → part ≤ℤ (pos 10 *ℤ (next -ℤ row)) →
+    IsWithin (pos 0) (pos (10 ^ 10)) (pos 10 *ℤ row +ℤ part)
+within_ten_rows row next part low high some few = record { low = omega (arith, ints); high = omega (arith, ints) }
+
+-- ten times a row and less than ten times the rise above it are from zero to ten times the next row
+pub tenths_in_range : (row next tenths : ℤ) → IsVolume row → IsVolume next → row ≤ℤ next → pos 0 ≤ℤ tenths → tenths ≤ℤ pos 9 →
+    IsWithin (pos 0) (pos (10 ^ 10)) (tenths_between row next tenths)
+tenths_in_range row next tenths row_within next_within rising some few =
+    let part = part_of_a_rise (next -ℤ row) tenths (omega (arith, ints)) some few in
+    let low : pos 0 ≤ℤ row = row_within.low in
+    let high : next ≤ℤ pos (10 ^ 9) = next_within.high in
+    within_ten_rows row next ((next -ℤ row) *ℤ tenths) low high part.0 part.1

@@ -6,7 +6,9 @@ use Rattle.std.specs.Int.RustNames.{int_lt, unsigned_abs}
 use Rattle.farm_fixed.specs.Range.{IsWithin, is_within}
 use Rattle.farm_rounding.specs.declared.mode.Mode.{Mode}
 use Rattle.farm_rounding.specs.Multiple.{nearest_multiple}
-use Rattle.strap_table.specs.Capacity.{row_at, IsCapTable, first_outside, first_falling, falling_row, or_else, wrong_length, outside, falling, first_fault, tenths_between, volume_at, table_volume}
+use Rattle.farm_base.specs.Steps.{or_else}
+use Rattle.strap_table.specs.Capacity.{IsCapTable, row_at, tenths_between, table_volume, volume_at}
+use Rattle.strap_table.specs.Faults.{falling, falling_row, first_falling, first_fault, first_outside, outside, wrong_length}
 use Rattle.strap_table.specs.declared.fault.TableFault.{TableFault}
 
 -- a fault is found first by whatever finds one
@@ -14,23 +16,27 @@ no_first : (a b : Option TableFault) → or_else a b ≡ None → a ≡ None
 no_first None b none = refl
 no_first (Some fault) b none = cc
 
+-- and what comes second is none either
 no_second : (a b : Option TableFault) → or_else a b ≡ None → b ≡ None
 no_second None b none = none
 no_second (Some fault) b none = cc
 
+-- no row is outside the range where none is reported
 not_outside : (row : Option ℕ) → outside row ≡ None → row ≡ None
 not_outside None none = refl
 not_outside (Some row) none = cc
 
+-- and none falls
 not_falling : (row : Option ℕ) → falling row ≡ None → row ≡ None
 not_falling None none = refl
 not_falling (Some row) none = cc
 
 -- the tests of a row that is accepted
-within : (row : ℤ) → is_within (pos 0) (pos (10 ^ 9)) row ≡ true → IsWithin (pos 0) (pos (10 ^ 9)) row
+pub within : (row : ℤ) → is_within (pos 0) (pos (10 ^ 9)) row ≡ true → IsWithin (pos 0) (pos (10 ^ 9)) row
 within row accepted = record { low = grind (arith, ints); high = grind (arith, ints) }
 
-not_below : (row before : ℤ) → int_lt row before ≡ false → before ≤ℤ row
+-- and of one that isn't below the row before it
+pub not_below : (row before : ℤ) → int_lt row before ≡ false → before ≤ℤ row
 not_below row before accepted = grind (arith, ints)
 
 -- the first of rows that are all in range, and the others
@@ -38,12 +44,13 @@ inside_first : (b : Bool) (n : ℕ) (row : ℤ) (rows : List ℤ) → is_within 
 inside_first true n row rows test none = test
 inside_first false n row rows test none = let some : Some n ≡ None = (rw test at none) in cc
 
+-- and of the others none is outside
 inside_rest : (b : Bool) (n : ℕ) (row : ℤ) (rows : List ℤ) → is_within (pos 0) (pos (10 ^ 9)) row ≡ b → first_outside n (row ∷ rows) ≡ None → first_outside (n + 1) rows ≡ None
 inside_rest true n row rows test none = rw test at none
 inside_rest false n row rows test none = let some : Some n ≡ None = (rw test at none) in cc
 
 -- where no row is outside the range, each is within it, and so is the 0 behind them
-each_within : (n : ℕ) (rows : List ℤ) (i : ℕ) → first_outside n rows ≡ None → IsWithin (pos 0) (pos (10 ^ 9)) (row_at rows i)
+pub each_within : (n : ℕ) (rows : List ℤ) (i : ℕ) → first_outside n rows ≡ None → IsWithin (pos 0) (pos (10 ^ 9)) (row_at rows i)
 each_within n [] i none = record { low = omega (arith, ints); high = omega (arith, ints) }
 each_within n (row ∷ rows) zero none = within row (inside_first (is_within (pos 0) (pos (10 ^ 9)) row) n row rows refl none)
 each_within n (row ∷ rows) (suc i) none = each_within (n + 1) rows i (inside_rest (is_within (pos 0) (pos (10 ^ 9)) row) n row rows refl none)
@@ -53,6 +60,7 @@ rising_first : (b : Bool) (n : ℕ) (before row : ℤ) (rows : List ℤ) → int
 rising_first false n before row rows test none = test
 rising_first true n before row rows test none = let some : Some n ≡ None = (rw test at none) in cc
 
+-- and of the others none falls
 rising_rest : (b : Bool) (n : ℕ) (before row : ℤ) (rows : List ℤ) → int_lt row before ≡ b → first_falling n before (row ∷ rows) ≡ None → first_falling (n + 1) row rows ≡ None
 rising_rest false n before row rows test none = rw test at none
 rising_rest true n before row rows test none = let some : Some n ≡ None = (rw test at none) in cc
@@ -63,13 +71,15 @@ each_rising n before [] i none short = absurd (omega arith)
 each_rising n before (row ∷ rows) zero none short = not_below row before (rising_first (int_lt row before) n before row rows refl none)
 each_rising n before (row ∷ rows) (suc i) none short = each_rising (n + 1) row rows i (rising_rest (int_lt row before) n before row rows refl none) (omega arith)
 
+-- so it is in a whole table
 rising_rows : (rows : List ℤ) (i : ℕ) → falling_row rows ≡ None → i + 1 < length rows → row_at rows i ≤ℤ row_at rows (i + 1)
 rising_rows [] i none short = absurd (omega arith)
 rising_rows (row ∷ rows) i none short =
     let P : ℕ → Type 0 = λ k. row_at (row ∷ rows) i ≤ℤ row_at (row ∷ rows) k in
     subst P (sym (add-one i)) (each_rising 1 row rows i none (omega arith))
 
-right_length : (n : ℕ) → wrong_length n ≡ None → (2 ≤ n) × (n ≤ 5001)
+-- a length that isn't wrong
+pub right_length : (n : ℕ) → wrong_length n ≡ None → (2 ≤ n) × (n ≤ 5001)
 right_length n none = (grind (arith, nat_tests), grind (arith, nat_tests))
 
 -- rows without a fault are a table

@@ -5,8 +5,8 @@
 #![tactic(auto)]
 
 mod fault;
+mod faults;
 mod interpolation;
-mod search;
 mod table;
 mod tank;
 

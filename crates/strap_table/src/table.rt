@@ -1,11 +1,13 @@
-ghost use Rattle.std.specs.Prelude.{◌≡◌, ◌<◌, ◌-◌, ◌*◌, ◌^◌, length, IfOk, MatchResult, None, Some, pos};
-ghost use Rattle.std.specs.Int.RustNames.{unsigned_abs};
-ghost use Rattle.farm_fixed.specs.Range.{IsWithin};
-ghost use Rattle.farm_rounding.specs.Multiple.{IsAllowedStep};
-ghost use Rattle.strap_table.specs.Capacity.{IsCapTable, first_fault, row_at, table_volume};
+//! A capacity table, and the volume that it gives for a level.
 
+ghost use Rattle.std.specs.Prelude.{◌≡◌, ◌<◌, ◌-◌, ◌*◌, length, Err, IfOk, MatchResult, None, Some};
+ghost use Rattle.std.specs.Int.RustNames.{unsigned_abs};
+ghost use Rattle.farm_rounding.specs.Multiple.{IsAllowedStep};
+ghost use Rattle.strap_table.specs.Capacity.{IsCapTable, IsVolume, row_at, table_volume};
+ghost use Rattle.strap_table.specs.Faults.{HaveFault, first_fault};
+
+use crate::faults::first_fault;
 use crate::interpolation::{between, volume};
-use crate::search::first_fault;
 use crate::{AboveTable, TableFault};
 use farm_fixed::{Litres, Mm};
 use farm_rounding::Mode;
@@ -34,6 +36,8 @@ impl CapTable {
     /// The faults are looked for in the order of `TableFault`, each over all rows. Takes no memory.
     pub fn from_rows(rows: Vec<i64>) -> Result<CapTable, TableFault>
         ensures first { MatchResult result (λ _. first_fault rows.items ≡ None) (λ fault. first_fault rows.items ≡ Some fault) }
+        ensures meaning { MatchResult result (λ _. IsCapTable rows.items) (λ fault. HaveFault rows.items fault) }
+        ensures one_answer { (fault : TableFault) → HaveFault rows.items fault → result ≡ Err fault }
         ensures rows { IfOk result (λ table. table ≡ rows.items) }
     {
         match first_fault(&rows) {
@@ -56,7 +60,7 @@ impl CapTable {
     pub fn at(&self, level: Mm, step: i64, mode: Mode) -> Result<Litres, AboveTable>
         requires { IsAllowedStep step }
         ensures value { MatchResult result (λ volume. table_volume mode (unsigned_abs step) self.now level ≡ Some volume) (λ _. table_volume mode (unsigned_abs step) self.now level ≡ None) }
-        ensures range { IfOk result (IsWithin (pos 0) (pos (10 ^ 9))) }
+        ensures range { IfOk result IsVolume }
     {
         let height = level.get().unsigned_abs() as usize;
         let below = height / 10;
@@ -84,7 +88,7 @@ impl CapTable {
     fn row(&self, i: usize) -> i64
         requires { i < length self.now }
         ensures value { result ≡ row_at self.now i }
-        ensures range { IsWithin (pos 0) (pos (10 ^ 9)) result }
+        ensures range { IsVolume result }
     {
         self.rows[i]
     }

@@ -1,7 +1,7 @@
 use Rattle.std.proofs.Common.{ℤ, pos, ◌*◌, ◌≤ℤ◌, subst, sym, arith}
 use Rattle.std.proofs.lemmas.Grind.{common_steps}
-use Rattle.farm_chain.proofs.Products.{square_low, square_high}
-use Rattle.farm_chain.proofs.arithmetic.hundred_thousand_squares.Goals as goal
+use Rattle.farm_chain.proofs.Squares.{square_low, square_high}
+use Rattle.farm_chain.proofs.steps.hundred_thousand_squares.Goals as goal
 
 pub returns-clause-value : goal.returns-clause-value
 returns-clause-value c = grind (arith, common_steps)

@@ -1,18 +1,19 @@
 //! What is wrong with rows: the first fault, each cause looked for over the whole list.
 
 ghost use Rattle.std.specs.Prelude.{◌≡◌, ◌≤◌, length};
-ghost use Rattle.strap_table.specs.Capacity.{falling_row, first_fault, first_outside};
+ghost use Rattle.strap_table.specs.Faults.{falling_row, first_fault, first_outside};
 
 use crate::TableFault;
+use farm_fixed::MOST_LITRES;
 
-const FEWEST_ROWS: usize = 2;
+/// The fewest rows of a table.
+pub const FEWEST_ROWS: usize = 2;
 
-const MOST_ROWS: usize = 5_001;
-
-const GREATEST_VOLUME: i64 = 1_000_000_000;
+/// The most rows of a table: one each 10 mm of the greatest height, and one at 0.
+pub const MOST_ROWS: usize = 5_001;
 
 /// Why the rows are no capacity table, if they are none.
-#[tactic(auto, unfolding(crate::specs::Capacity::first_fault))]
+#[tactic(auto, unfolding(crate::specs::Faults::first_fault))]
 pub fn first_fault(rows: &[i64]) -> Option<TableFault>
     ensures { result ≡ first_fault rows.now }
 {
@@ -36,7 +37,7 @@ fn first_outside(rows: &[i64]) -> Option<usize>
     ensures { result ≡ first_outside 0 rows.now }
 {
     for (index, row) in rows.iter().enumerate() {
-        if *row < 0 || *row > GREATEST_VOLUME {
+        if *row < 0 || *row > MOST_LITRES {
             return Some(index);
         }
     }

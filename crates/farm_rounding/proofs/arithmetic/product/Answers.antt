@@ -1,6 +1,6 @@
 use Rattle.std.proofs.Common.{ℤ, pos, ◌≤ℤ◌, subst, sym, rules}
-use Rattle.farm_chain.proofs.Products.{positive_product, product_size}
-use Rattle.farm_chain.proofs.arithmetic.product.Goals as goal
+use Rattle.farm_rounding.proofs.Products.{positive_product, product_size}
+use Rattle.farm_rounding.proofs.arithmetic.product.Goals as goal
 
 pub returns-clause-value : goal.returns-clause-value
 returns-clause-value g c = search rules
