@@ -1,2 +1,3 @@
-pub mod Figures
-pub mod Quantities
+pub mod Steps
+pub mod Volumes
+pub mod Reading

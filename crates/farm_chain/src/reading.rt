@@ -1,11 +1,12 @@
 //! The figures of a reading: the volumes, the factor and the floating mass that the calculation begins with.
 
-ghost use Rattle.std.specs.Prelude.{◌≡◌, ◌^◌, IfOk, IfSome, pos};
+ghost use Rattle.std.specs.Prelude.{◌≡◌, IfOk, IfSome, pos};
 ghost use Rattle.farm_fixed.specs.Range.{IsWithin};
-ghost use Rattle.farm_chain.specs.Quantities.{IsFloatingRoof, calculated_quantities, carried, correction_factor, floating_mass, free_water, total_observed, volume_at};
+ghost use Rattle.farm_fixed.specs.declared.limits.TheConstants.{MOST_COEFFICIENT, MOST_LITRES, MOST_ROOF_MASS};
+ghost use Rattle.farm_chain.specs.Reading.{IsFloatingRoof, calculated_quantities, carried, correction_factor, floating_mass, free_water, total_observed, volume_at};
 
-use crate::arithmetic::kilograms;
 use crate::figures;
+use crate::in_range::kilograms;
 use farm_fixed::{ChainRule, Fac5, Kg, Litres, Mm, Quantities, Reading, Sample};
 use farm_rounding::{FACTOR_TIES, RoundTable, TABLE_VOLUME};
 use farm_vcf::Vcf;
@@ -23,7 +24,7 @@ pub fn quantities(
     reading: &Reading,
     sample: &Sample,
 ) -> Result<Quantities, ChainRule>
-    requires coefficient { IsWithin (pos 0) (pos 1000) tank.now.shell.coefficient }
+    requires coefficient { IsWithin (pos 0) MOST_COEFFICIENT tank.now.shell.coefficient }
     requires roof { IfSome tank.now.roof IsFloatingRoof }
     ensures { result ≡ calculated_quantities rounds.now tank.now table.now vcf.now reading.now sample.now }
 {
@@ -44,12 +45,12 @@ pub fn quantities(
     )
 }
 
-// The volume at a height, if the table goes so far.
-fn volume_at(table: &CapTable, rounds: &RoundTable, height: Mm) -> Option<Litres>
-    ensures value { result ≡ volume_at rounds.now table.now height }
-    ensures range { IfSome result (IsWithin (pos 0) (pos (10 ^ 9))) }
+// The volume at a height, if the table goes that high.
+fn volume_at(table: &CapTable, rounding: &RoundTable, height: Mm) -> Option<Litres>
+    ensures value { result ≡ volume_at rounding.now table.now height }
+    ensures range { IfSome result (IsWithin (pos 0) MOST_LITRES) }
 {
-    let (step, mode) = rounds.row(TABLE_VOLUME);
+    let (step, mode) = rounding.row(TABLE_VOLUME);
     match table.at(height, step, mode) {
         Ok(volume) => Some(volume),
         Err(_) => None,
@@ -57,47 +58,51 @@ fn volume_at(table: &CapTable, rounds: &RoundTable, height: Mm) -> Option<Litres
 }
 
 // TOV, the volume at the level.
-#[tactic(auto, unfolding(crate::specs::Quantities::total_observed))]
+#[tactic(auto, unfolding(crate::specs::Reading::total_observed))]
 fn total_observed(
     table: &CapTable,
-    rounds: &RoundTable,
+    rounding: &RoundTable,
     reading: &Reading,
 ) -> Result<Litres, ChainRule>
-    ensures value { result ≡ total_observed rounds.now table.now reading.now }
-    ensures range { IfOk result (IsWithin (pos 0) (pos (10 ^ 9))) }
+    ensures value { result ≡ total_observed rounding.now table.now reading.now }
+    ensures range { IfOk result (IsWithin (pos 0) MOST_LITRES) }
 {
-    match volume_at(table, rounds, reading.level) {
+    match volume_at(table, rounding, reading.level) {
         Some(volume) => Ok(volume),
         None => Err(ChainRule::AboveTable),
     }
 }
 
 // FW, the volume at the height of the water.
-#[tactic(auto, unfolding(crate::specs::Quantities::free_water))]
-fn free_water(table: &CapTable, rounds: &RoundTable, reading: &Reading) -> Result<Litres, ChainRule>
-    ensures value { result ≡ free_water rounds.now table.now reading.now }
-    ensures range { IfOk result (IsWithin (pos 0) (pos (10 ^ 9))) }
+#[tactic(auto, unfolding(crate::specs::Reading::free_water))]
+fn free_water(
+    table: &CapTable,
+    rounding: &RoundTable,
+    reading: &Reading,
+) -> Result<Litres, ChainRule>
+    ensures value { result ≡ free_water rounding.now table.now reading.now }
+    ensures range { IfOk result (IsWithin (pos 0) MOST_LITRES) }
 {
     if reading.water.get() > reading.level.get() {
         return Err(ChainRule::WaterAboveLevel);
     }
-    match volume_at(table, rounds, reading.water) {
+    match volume_at(table, rounding, reading.water) {
         Some(volume) => Ok(volume),
         None => Err(ChainRule::WaterAboveLevel),
     }
 }
 
 // VCF, the entry of the factor file.
-#[tactic(auto, unfolding(crate::specs::Quantities::correction_factor))]
+#[tactic(auto, unfolding(crate::specs::Reading::correction_factor))]
 fn correction_factor(
     vcf: &Vcf,
-    rounds: &RoundTable,
+    rounding: &RoundTable,
     reading: &Reading,
     sample: &Sample,
 ) -> Result<Fac5, ChainRule>
-    ensures { result ≡ correction_factor rounds.now vcf.now reading.now sample.now }
+    ensures { result ≡ correction_factor rounding.now vcf.now reading.now sample.now }
 {
-    let (_, mode) = rounds.row(FACTOR_TIES);
+    let (_, mode) = rounding.row(FACTOR_TIES);
     match vcf.entry(sample.density, reading.liquid, mode) {
         Ok(factor) => Ok(factor),
         Err(_) => Err(ChainRule::NoEntry),
@@ -108,7 +113,7 @@ fn correction_factor(
 fn floating_mass(tank: &TankSpec, level: Mm) -> Result<Kg, ChainRule>
     requires { IfSome tank.now.roof IsFloatingRoof }
     ensures value { result ≡ floating_mass tank.now.roof level }
-    ensures range { IfOk result (IsWithin (pos 0) (pos (10 ^ 7))) }
+    ensures range { IfOk result (IsWithin (pos 0) MOST_ROOF_MASS) }
 {
     match &tank.roof {
         None => Ok(kilograms(0)),
@@ -120,7 +125,7 @@ fn floating_mass(tank: &TankSpec, level: Mm) -> Result<Kg, ChainRule>
 fn carried(roof: &Roof, level: Mm) -> Result<Kg, ChainRule>
     requires { IsFloatingRoof roof.now }
     ensures value { result ≡ carried roof.now level }
-    ensures range { IfOk result (IsWithin (pos 0) (pos (10 ^ 7))) }
+    ensures range { IfOk result (IsWithin (pos 0) MOST_ROOF_MASS) }
 {
     if level.get() < roof.low.get() {
         return Ok(kilograms(0));

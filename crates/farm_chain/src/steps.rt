@@ -3,15 +3,14 @@
 ghost use Rattle.std.specs.Prelude.{◌≡◌, ◌≤◌, ◌+◌, ◌*◌, ◌^◌, pos, ◌≤ℤ◌, ◌*ℤ◌, ◌-ℤ◌, ◌+ℤ◌};
 ghost use Rattle.std.specs.Int.RustNames.{unsigned_abs};
 ghost use Rattle.farm_fixed.specs.Range.{IsWithin};
-ghost use Rattle.farm_chain.specs.Figures.{gross_observed, gross_standard, mass_of, net_standard, roof_adjustment, shell_correction, shell_difference, shell_growth};
+ghost use Rattle.farm_fixed.specs.declared.limits.TheConstants.{MOST_COEFFICIENT, MOST_LITRES, MOST_ROOF_MASS};
+ghost use Rattle.farm_chain.specs.Steps.{gross_observed, gross_standard, mass_of, net_standard, roof_adjustment, shell_correction, shell_difference, shell_growth};
 
-use crate::arithmetic::{
-    difference, factor, hundred_thousand_squares, kilograms, litres, negated, product, rounded, sum,
-};
+use crate::in_range::{factor, kilograms, litres};
 use farm_fixed::{Centi, Dens, Fac5, Kg, Litres, Permil5, Shell};
 use farm_rounding::{
     GROSS_OBSERVED, GROSS_STANDARD, MASS, NET_STANDARD, ROOF_ADJUSTMENT, RoundTable,
-    SHELL_CORRECTION,
+    SHELL_CORRECTION, difference, negated, product, sum,
 };
 
 // The difference of an insulated shell, which is at the liquid's temperature.
@@ -36,7 +35,7 @@ fn bare_difference(liquid: i64, ambient: i64, reference: i64) -> i64
 }
 
 // Eight times the shell's temperature less the reference, in 0.01 C.
-#[tactic(auto, unfolding(crate::specs::Figures::shell_difference))]
+#[tactic(auto, unfolding(crate::specs::Steps::shell_difference))]
 fn shell_difference(shell: &Shell, liquid: Centi, ambient: Centi) -> i64
     ensures value { result ≡ shell_difference shell.now liquid ambient }
     ensures size { unsigned_abs result ≤ 480000 }
@@ -52,9 +51,9 @@ fn shell_difference(shell: &Shell, liquid: Centi, ambient: Centi) -> i64
 }
 
 // The growth of the shell's girth, in parts of 8,000,000,000 with the whole.
-#[tactic(auto, unfolding(crate::specs::Figures::shell_growth))]
+#[tactic(auto, unfolding(crate::specs::Steps::shell_growth))]
 fn shell_growth(shell: &Shell, liquid: Centi, ambient: Centi) -> i128
-    requires { IsWithin (pos 0) (pos 1000) shell.now.coefficient }
+    requires { IsWithin (pos 0) MOST_COEFFICIENT shell.now.coefficient }
     ensures value { result ≡ shell_growth shell.now liquid ambient }
     ensures low { pos 7520000000 ≤ℤ result }
     ensures high { result ≤ℤ pos 8480000000 }
@@ -66,15 +65,25 @@ fn shell_growth(shell: &Shell, liquid: Centi, ambient: Centi) -> i128
     )
 }
 
+// A hundred thousand times the square of the shell's growth, in its parts.
+fn hundred_thousand_squares(growth: i128) -> i128
+    requires low { pos 7520000000 ≤ℤ growth }
+    requires high { growth ≤ℤ pos 8480000000 }
+    ensures value { result ≡ growth *ℤ growth *ℤ pos 100000 }
+    ensures low { pos (7520000000 * 7520000000 * 100000) ≤ℤ result }
+    ensures high { result ≤ℤ pos (8480000000 * 8480000000 * 100000) }
+{
+    growth * growth * 100_000
+}
+
 /// CTSh, the correction for the temperature of the shell: the square of its growth.
-#[tactic(auto, unfolding(crate::specs::Figures::shell_correction))]
-pub fn shell_correction(rounds: &RoundTable, shell: &Shell, liquid: Centi, ambient: Centi) -> Fac5
-    requires { IsWithin (pos 0) (pos 1000) shell.now.coefficient }
-    ensures { result ≡ shell_correction rounds.now shell.now liquid ambient }
+#[tactic(auto, unfolding(crate::specs::Steps::shell_correction))]
+pub fn shell_correction(rounding: &RoundTable, shell: &Shell, liquid: Centi, ambient: Centi) -> Fac5
+    requires { IsWithin (pos 0) MOST_COEFFICIENT shell.now.coefficient }
+    ensures { result ≡ shell_correction rounding.now shell.now liquid ambient }
 {
     let growth = shell_growth(shell, liquid, ambient);
-    factor(rounded(
-        rounds,
+    factor(rounding.round(
         SHELL_CORRECTION,
         hundred_thousand_squares(growth),
         64_000_000_000_000_000_000,
@@ -82,10 +91,10 @@ pub fn shell_correction(rounds: &RoundTable, shell: &Shell, liquid: Centi, ambie
 }
 
 /// FRA, the adjustment for a floating roof: its mass over the observed density, taken off.
-#[tactic(auto, unfolding(crate::specs::Figures::roof_adjustment))]
-pub fn roof_adjustment(rounds: &RoundTable, floating: Kg, density: Dens, vcf: Fac5) -> Litres
-    requires { IsWithin (pos 0) (pos (10 ^ 7)) floating }
-    ensures value { result ≡ roof_adjustment rounds.now floating density vcf }
+#[tactic(auto, unfolding(crate::specs::Steps::roof_adjustment))]
+pub fn roof_adjustment(rounding: &RoundTable, floating: Kg, density: Dens, vcf: Fac5) -> Litres
+    requires { IsWithin (pos 0) MOST_ROOF_MASS floating }
+    ensures value { result ≡ roof_adjustment rounding.now floating density vcf }
     ensures size { unsigned_abs result ≤ 10 ^ 16 + 100 }
 {
     if floating.get() == 0 {
@@ -93,51 +102,51 @@ pub fn roof_adjustment(rounds: &RoundTable, floating: Kg, density: Dens, vcf: Fa
     }
     let mass = product::<10_000_000, 1_000_000_000>(floating.get(), 1_000_000_000);
     let observed = product::<12_000, 150_000>(density.get(), vcf.get());
-    litres(negated(rounded(rounds, ROOF_ADJUSTMENT, mass, observed)))
+    litres(negated(rounding.round(ROOF_ADJUSTMENT, mass, observed)))
 }
 
 /// GOV, the gross observed volume: the volume above the water at the shell's temperature, and the roof's adjustment.
-#[tactic(auto, unfolding(crate::specs::Figures::gross_observed))]
+#[tactic(auto, unfolding(crate::specs::Steps::gross_observed))]
 pub fn gross_observed(
-    rounds: &RoundTable,
+    rounding: &RoundTable,
     tov: Litres,
     fw: Litres,
     ctsh: Fac5,
     fra: Litres,
 ) -> Litres
-    requires tov { IsWithin (pos 0) (pos (10 ^ 9)) tov }
-    requires fw { IsWithin (pos 0) (pos (10 ^ 9)) fw }
+    requires tov { IsWithin (pos 0) MOST_LITRES tov }
+    requires fw { IsWithin (pos 0) MOST_LITRES fw }
     requires fra { unsigned_abs fra ≤ 10 ^ 16 + 100 }
-    ensures value { result ≡ gross_observed rounds.now tov fw ctsh fra }
+    ensures value { result ≡ gross_observed rounding.now tov fw ctsh fra }
     ensures size { unsigned_abs result ≤ 11 * 10 ^ 15 }
 {
     let above_water = difference(tov.get(), fw.get());
     let observed = product::<1_000_000_000, 150_000>(above_water, ctsh.get());
     let roof = product::<10_000_000_000_000_100, 100_000>(fra.get(), 100_000);
-    litres(rounded(rounds, GROSS_OBSERVED, sum(observed, roof), 100_000))
+    litres(rounding.round(GROSS_OBSERVED, sum(observed, roof), 100_000))
 }
 
 /// GSV, the gross standard volume.
-#[tactic(auto, unfolding(crate::specs::Figures::gross_standard))]
-pub fn gross_standard(rounds: &RoundTable, gov: Litres, vcf: Fac5) -> Litres
+#[tactic(auto, unfolding(crate::specs::Steps::gross_standard))]
+pub fn gross_standard(rounding: &RoundTable, gov: Litres, vcf: Fac5) -> Litres
     requires { unsigned_abs gov ≤ 11 * 10 ^ 15 }
-    ensures value { result ≡ gross_standard rounds.now gov vcf }
+    ensures value { result ≡ gross_standard rounding.now gov vcf }
     ensures size { unsigned_abs result ≤ 17 * 10 ^ 15 }
 {
     let observed = product::<11_000_000_000_000_000, 150_000>(gov.get(), vcf.get());
-    litres(rounded(rounds, GROSS_STANDARD, observed, 100_000))
+    litres(rounding.round(GROSS_STANDARD, observed, 100_000))
 }
 
 /// NSV, the net standard volume: the gross one less sediment and water.
-#[tactic(auto, unfolding(crate::specs::Figures::net_standard))]
-pub fn net_standard(rounds: &RoundTable, gsv: Litres, sw: Permil5) -> Litres
+#[tactic(auto, unfolding(crate::specs::Steps::net_standard))]
+pub fn net_standard(rounding: &RoundTable, gsv: Litres, sw: Permil5) -> Litres
     requires { unsigned_abs gsv ≤ 17 * 10 ^ 15 }
-    ensures value { result ≡ net_standard rounds.now gsv sw }
+    ensures value { result ≡ net_standard rounding.now gsv sw }
     ensures size { unsigned_abs result ≤ 18 * 10 ^ 15 }
 {
     let clean = difference(100_000, sw.get());
     let net = product::<17_000_000_000_000_000, 100_000>(gsv.get(), clean);
-    litres(rounded(rounds, NET_STANDARD, net, 100_000))
+    litres(rounding.round(NET_STANDARD, net, 100_000))
 }
 
 /// SWV, the volume of sediment and water.
@@ -150,11 +159,11 @@ pub fn sediment_and_water(gsv: Litres, nsv: Litres) -> Litres
 }
 
 /// The mass of a net standard volume in vacuum.
-#[tactic(auto, unfolding(crate::specs::Figures::mass_of))]
-pub fn mass_of(rounds: &RoundTable, nsv: Litres, density: Dens) -> Kg
+#[tactic(auto, unfolding(crate::specs::Steps::mass_of))]
+pub fn mass_of(rounding: &RoundTable, nsv: Litres, density: Dens) -> Kg
     requires { unsigned_abs nsv ≤ 18 * 10 ^ 15 }
-    ensures { result ≡ mass_of rounds.now nsv density }
+    ensures { result ≡ mass_of rounding.now nsv density }
 {
     let tenths = product::<18_000_000_000_000_000, 12_000>(nsv.get(), density.get());
-    kilograms(rounded(rounds, MASS, tenths, 10_000))
+    kilograms(rounding.round(MASS, tenths, 10_000))
 }

@@ -1,7 +1,10 @@
-ghost use Rattle.std.specs.Prelude.{◌≡◌, ◌≤◌, ◌*◌, ◌^◌, pos};
+//! The figures of observed volumes.
+
+ghost use Rattle.std.specs.Prelude.{◌≡◌, ◌≤◌, ◌+◌, ◌*◌, ◌^◌, pos};
 ghost use Rattle.std.specs.Int.RustNames.{unsigned_abs};
 ghost use Rattle.farm_fixed.specs.Range.{IsWithin};
-ghost use Rattle.farm_chain.specs.Figures.{calculated_figures, standard_figures};
+ghost use Rattle.farm_fixed.specs.declared.limits.TheConstants.{MOST_COEFFICIENT, MOST_LITRES, MOST_ROOF_MASS};
+ghost use Rattle.farm_chain.specs.Volumes.{adjusted_figures, calculated_figures, standard_figures};
 
 use crate::steps::{
     gross_observed, gross_standard, mass_of, net_standard, roof_adjustment, sediment_and_water,
@@ -15,7 +18,7 @@ use farm_rounding::RoundTable;
 /// `floating` is the mass of a floating roof, 0 for none. Volumes are at most 10^9 litres, the mass at most 10^7 kg.
 /// Refused in this order: `WaterAboveLevel` where the water is more than the total, `Negative` where the gross observed
 /// volume is below zero. Takes no memory.
-#[tactic(auto, unfolding(crate::specs::Figures::calculated_figures))]
+#[tactic(auto, unfolding(crate::specs::Volumes::calculated_figures))]
 pub fn figures(
     tov: Litres,
     fw: Litres,
@@ -27,28 +30,50 @@ pub fn figures(
     vcf: Fac5,
     rounds: &RoundTable,
 ) -> Result<Quantities, ChainRule>
-    requires tov { IsWithin (pos 0) (pos (10 ^ 9)) tov }
-    requires fw { IsWithin (pos 0) (pos (10 ^ 9)) fw }
-    requires coefficient { IsWithin (pos 0) (pos 1000) shell.now.coefficient }
-    requires floating { IsWithin (pos 0) (pos (10 ^ 7)) floating }
+    requires tov { IsWithin (pos 0) MOST_LITRES tov }
+    requires fw { IsWithin (pos 0) MOST_LITRES fw }
+    requires coefficient { IsWithin (pos 0) MOST_COEFFICIENT shell.now.coefficient }
+    requires floating { IsWithin (pos 0) MOST_ROOF_MASS floating }
     ensures { result ≡ calculated_figures rounds.now tov fw shell.now liquid ambient floating sample.now vcf }
+{
+    let fra = roof_adjustment(rounds, floating, sample.density, vcf);
+    adjusted_figures(tov, fw, shell, liquid, ambient, fra, sample, vcf, rounds)
+}
+
+// The ten figures under the adjustment for a roof. This is the one body of them, whatever the roof's share is computed from.
+#[tactic(auto, unfolding(crate::specs::Volumes::adjusted_figures))]
+fn adjusted_figures(
+    tov: Litres,
+    fw: Litres,
+    shell: &Shell,
+    liquid: Centi,
+    ambient: Centi,
+    fra: Litres,
+    sample: &Sample,
+    vcf: Fac5,
+    rounding: &RoundTable,
+) -> Result<Quantities, ChainRule>
+    requires tov { IsWithin (pos 0) MOST_LITRES tov }
+    requires fw { IsWithin (pos 0) MOST_LITRES fw }
+    requires coefficient { IsWithin (pos 0) MOST_COEFFICIENT shell.now.coefficient }
+    requires fra { unsigned_abs fra ≤ 10 ^ 16 + 100 }
+    ensures { result ≡ adjusted_figures rounding.now tov fw shell.now liquid ambient fra sample.now vcf }
 {
     if fw.get() > tov.get() {
         return Err(ChainRule::WaterAboveLevel);
     }
-    let ctsh = shell_correction(rounds, shell, liquid, ambient);
-    let fra = roof_adjustment(rounds, floating, sample.density, vcf);
-    let gov = gross_observed(rounds, tov, fw, ctsh, fra);
+    let ctsh = shell_correction(rounding, shell, liquid, ambient);
+    let gov = gross_observed(rounding, tov, fw, ctsh, fra);
     if gov.get() < 0 {
         return Err(ChainRule::Negative);
     }
-    Ok(standard_figures(rounds, tov, fw, ctsh, vcf, fra, gov, sample))
+    Ok(standard_figures(rounding, tov, fw, ctsh, vcf, fra, gov, sample))
 }
 
-// The figures behind the gross observed volume, with those before them.
-#[tactic(auto, unfolding(crate::specs::Figures::standard_figures))]
+// The figures from the gross observed volume on, with those before them.
+#[tactic(auto, unfolding(crate::specs::Volumes::standard_figures))]
 fn standard_figures(
-    rounds: &RoundTable,
+    rounding: &RoundTable,
     tov: Litres,
     fw: Litres,
     ctsh: Fac5,
@@ -58,10 +83,10 @@ fn standard_figures(
     sample: &Sample,
 ) -> Quantities
     requires { unsigned_abs gov ≤ 11 * 10 ^ 15 }
-    ensures { result ≡ standard_figures rounds.now tov fw ctsh vcf fra gov sample.now }
+    ensures { result ≡ standard_figures rounding.now tov fw ctsh vcf fra gov sample.now }
 {
-    let gsv = gross_standard(rounds, gov, vcf);
-    let nsv = net_standard(rounds, gsv, sample.sw);
+    let gsv = gross_standard(rounding, gov, vcf);
+    let nsv = net_standard(rounding, gsv, sample.sw);
     Quantities {
         tov,
         fw,
@@ -72,6 +97,6 @@ fn standard_figures(
         gsv,
         nsv,
         swv: sediment_and_water(gsv, nsv),
-        mass: mass_of(rounds, nsv, sample.density),
+        mass: mass_of(rounding, nsv, sample.density),
     }
 }

@@ -1,7 +1,9 @@
 //! The issued capacity tables.
 
-ghost use Rattle.std.specs.Prelude.{◌*◌, ◌≤◌, length};
+ghost use Rattle.std.specs.Prelude.{◌*◌, ◌≤◌, length, map, IsTrue};
 ghost use Rattle.farm_base.specs.Appended.{Appends};
+ghost use Rattle.site_items.specs.Tanks.{tank_number};
+ghost use Rattle.site_keys.specs.Lists.{rises};
 ghost use Rattle.farm_report.specs.Issued.{Lengthens, issued_text, row_line, rows_from, tank_line, tank_text};
 
 use farm_fixed::NoMemory;
@@ -13,6 +15,7 @@ use itoa::Buffer;
 /// Levels are from 0 up, 10 mm apart. On `NoMemory` the buffer is as before.
 pub fn issued(site: &Site, out: &mut Vec<u8>) -> Result<(), NoMemory>
     ensures appended { Appends out.old.items out.new.items (issued_text site.now.tanks) result }
+    ensures rising { IsTrue (rises (map tank_number site.now.tanks)) }
 {
     let before = out.len();
     let written = write_tanks(site.tanks.get(), out);

@@ -1,6 +1,1 @@
-mod Arrays
-mod Contents
-mod LineFacts
-mod PlacedFacts
-mod Reading
 mod RoundingRows

@@ -4,7 +4,8 @@ use Rattle.std.proofs.lemmas.List.{drop_more, length-take-le, take_more_set}
 use Rattle.toml.specs.View.{view}
 use Rattle.toml.specs.declared.value.Value.{Value}
 use Rattle.farm_rounding.specs.Table.{Row, is_row, first_bad_row}
-use Rattle.farm_site.specs.Top.{row_of_value, rows_after}
+use Rattle.site_items.specs.declared.formats.Format.{Format}
+use Rattle.farm_site.specs.Rounds.{row_of_value, rows_after}
 
 -- a row that may stand first, before rows that may stand behind it
 good_first : (n : ℕ) (row : Row) (rows : List Row) (b : Bool) → is_row n row ≡ b → first_bad_row n (row ∷ rows) ≡ None →
@@ -33,8 +34,8 @@ good_filled rows i row within good allowed =
     rw (take_more_set rows i row within) (good_more 1 (take i rows) row good (subst P (omega (arith, count)) allowed))
 
 -- and the rows that come of the values that are left
-pub rows_filled : (rows : List Row) (values : List Value) (i : ℕ) (value : Value) (row : Row) → i < length rows → i < length values →
-    value ≡ get_or values i value → row_of_value (i + 1) (view value) ≡ Ok row →
-    rows_after (take (i + 1) (set rows i row)) (map view (drop (i + 1) values)) ≡ rows_after (take i rows) (map view (drop i values))
-rows_filled rows values i value row room within is read =
+pub rows_filled : (format : Format) (rows : List Row) (values : List Value) (i : ℕ) (value : Value) (row : Row) → i < length rows → i < length values →
+    value ≡ get_or values i value → row_of_value format (i + 1) (view value) ≡ Ok row →
+    rows_after format (take (i + 1) (set rows i row)) (map view (drop (i + 1) values)) ≡ rows_after format (take i rows) (map view (drop i values))
+rows_filled format rows values i value row room within is read =
     rw (take_more_set rows i row room, drop_more values i value within, ← is, length-take-le i rows (omega arith), read) refl

@@ -1,21 +1,22 @@
--- The site that files describe, or the first fault. The files are looked at in the order of this definition.
+-- The site that files describe, or why they describe none. The files are looked at in the order of this definition.
 use Rattle.std.specs.Prelude.{ℕ, ◌==◌, if◌then◌else◌, List, [], ◌∷◌, map, codes, Option, Some, None, Result, Ok}
 use Rattle.toml.specs.Data.{Data}
+use Rattle.farm_base.specs.Steps.{◌>>=◌}
 use Rattle.farm_ports.specs.Folders.{File}
 use Rattle.farm_rounding.specs.Table.{Row}
 use Rattle.modbus_poll.specs.declared.map.LineMap.{LineMap}
-use Rattle.farm_site.specs.declared.fault.SiteReadFault.{SiteReadFault}
-use Rattle.farm_site.specs.declared.records.Party.{Party}
-use Rattle.farm_site.specs.declared.records.Product.{Product}
-use Rattle.farm_site.specs.declared.records.Tank.{Tank}
-use Rattle.farm_site.specs.Faults.{◌>>=◌}
-use Rattle.farm_site.specs.Files.{content, toml_of}
-use Rattle.farm_site.specs.Keys.{natural_at}
-use Rattle.farm_site.specs.Lines.{lines_of}
-use Rattle.farm_site.specs.Parties.{parties_of}
-use Rattle.farm_site.specs.Products.{product_number, products_of}
-use Rattle.farm_site.specs.Tanks.{tank_number, tanks_of}
-use Rattle.farm_site.specs.Top.{name_at, rounds_at}
+use Rattle.site_keys.specs.Faults.{Refusal, found}
+use Rattle.site_keys.specs.Files.{content, toml_of}
+use Rattle.site_items.specs.declared.records.Party.{Party}
+use Rattle.site_items.specs.declared.records.Product.{Product}
+use Rattle.site_items.specs.declared.records.Tank.{Tank}
+use Rattle.site_items.specs.Formats.{format_at}
+use Rattle.site_items.specs.Names.{name_at}
+use Rattle.site_items.specs.Parties.{parties_of}
+use Rattle.site_items.specs.Products.{product_number, products_of}
+use Rattle.site_items.specs.Tanks.{tank_number, tanks_of}
+use Rattle.site_lines.specs.Lines.{lines_of}
+use Rattle.farm_site.specs.Rounds.{rounds_at}
 
 -- a site, as it is described
 pub record Described : Type 0 where
@@ -27,25 +28,25 @@ pub record Described : Type 0 where
   pub lines : List LineMap
 
 -- the site of the keys of a site file
-unfoldable pub site_of_keys : List File → Data → Result Described SiteReadFault
+unfoldable pub site_of_keys : List File → Data → Result Described Refusal
 site_of_keys files top = do
-  format ← natural_at 0 top (codes "format") 1 1
-  name ← name_at 0 top
-  rounds ← rounds_at top
+  format ← found (format_at top)
+  name ← found (name_at 0 top)
+  rounds ← found (rounds_at format top)
   products ← products_of files top
-  parties ← parties_of top
-  tanks ← tanks_of files rounds (map product_number products) top
-  lines ← lines_of (map tank_number tanks) top
+  parties ← found (parties_of top)
+  tanks ← tanks_of files format rounds (map product_number products) top
+  lines ← found (lines_of (map tank_number tanks) top)
   Ok (record { name = name; rounds = rounds; products = products; parties = parties; tanks = tanks; lines = lines })
 
 -- the keys of the site file
-unfoldable pub top_of_files : List File → Result Data SiteReadFault
+unfoldable pub top_of_files : List File → Result Data Refusal
 top_of_files files = do
   bytes ← content files 0 (codes "site.toml")
-  toml_of 0 bytes
+  found (toml_of 0 bytes)
 
--- the site of the files of a folder
-unfoldable pub site_of_files : List File → Result Described SiteReadFault
+-- the site of the files of a folder: the site, or the first fault in them, or the name of the file that is due and missing
+unfoldable pub site_of_files : List File → Result Described Refusal
 site_of_files files = do
   top ← top_of_files files
   site_of_keys files top
@@ -54,3 +55,8 @@ site_of_files files = do
 abbrev pub tank_numbered : ℕ → List Tank → Option Tank
 tank_numbered number [] = None
 tank_numbered number (tank ∷ tanks) = if tank.number == number then Some tank else tank_numbered number tanks
+
+-- the first product with a number
+abbrev pub product_numbered : ℕ → List Product → Option Product
+product_numbered number [] = None
+product_numbered number (product ∷ products) = if product.number == number then Some product else product_numbered number products

@@ -1,13 +1,2 @@
-pub mod Faults
-pub mod Keys
-pub mod Lists
-pub mod Files
-pub mod Top
-pub mod Parties
-pub mod Products
-pub mod Tables
-pub mod Strappings
-pub mod Tanks
-pub mod Lines
-pub mod Facts
+pub mod Rounds
 pub mod Described

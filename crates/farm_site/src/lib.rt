@@ -5,27 +5,14 @@
 //! looked at, under "Site".
 #![tactic(auto)]
 
-mod fault;
-mod files;
-mod keys;
-mod lines;
 mod lists;
-mod name;
-mod numbered;
-mod parties;
-mod products;
-mod records;
+mod rounds;
 mod site;
-mod strappings;
-mod tables;
-mod tanks;
-mod top;
 
-pub use fault::{SiteFault, SiteReadFault};
 pub use lists::{Lines, Parties, Products, Tanks};
-pub use name::Name;
-pub use records::{Party, Product, Tank};
 pub use site::Site;
+pub use site_items::{Format, Name, Party, Product, Tank};
+pub use site_keys::{SiteFault, SiteReadFault};
 
 #[cfg(test)]
 mod tests;

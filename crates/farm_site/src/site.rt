@@ -1,29 +1,26 @@
 //! A site, and the reading of its folder.
 
-ghost use Rattle.std.specs.Prelude.{◌≡◌, ◌≤◌, ◌↔◌, List, map, option_map, MatchResult, IfSome, IsNone, IsFalse, IsTrue, Ok, Err, Some};
+ghost use Rattle.std.specs.Prelude.{◌≡◌, ◌↔◌, List, map, option_map, MatchResult, IfSome, IsNone, IsFalse, IsTrue, Ok, Some};
 ghost use Rattle.toml.specs.View.{view};
-ghost use Rattle.farm_base.specs.Counts.{Rose};
-ghost use Rattle.farm_base.specs.Known.{Stays, WhereKnown};
+ghost use Rattle.farm_base.specs.Known.{KeepsKnown, WhereKnown};
+ghost use Rattle.farm_base.specs.Steps.{IsRefusedAs};
 ghost use Rattle.farm_ports.specs.Folders.{File};
+ghost use Rattle.site_keys.specs.Faults.{refusal_of};
+ghost use Rattle.site_keys.specs.Lists.{is_among};
+ghost use Rattle.site_items.specs.Facts.{are_parties, are_products, are_tanks};
+ghost use Rattle.site_items.specs.Names.{is_name};
+ghost use Rattle.site_items.specs.Products.{product_number};
+ghost use Rattle.site_items.specs.Tanks.{tank_number};
+ghost use Rattle.site_lines.specs.Lines.{are_lines};
 ghost use Rattle.farm_site.specs.Described.{site_of_files, site_of_keys, tank_numbered, top_of_files};
-ghost use Rattle.farm_site.specs.Facts.{are_parties, are_products, are_tanks};
-ghost use Rattle.farm_site.specs.Faults.{IsRefused};
-ghost use Rattle.farm_site.specs.Lines.{are_lines};
-ghost use Rattle.farm_site.specs.Lists.{is_among};
-ghost use Rattle.farm_site.specs.Products.{product_number};
-ghost use Rattle.farm_site.specs.Tanks.{tank_number};
-ghost use Rattle.farm_site.specs.Top.{is_name};
 
-use crate::files::{content, toml_of};
-use crate::keys::Keys;
-use crate::lines::lines_of;
-use crate::parties::parties_of;
-use crate::products::products_of;
-use crate::tanks::tanks_of;
-use crate::top::{name_at, rounds_at};
-use crate::{Lines, Name, Parties, Products, SiteReadFault, Tank, Tanks};
+use crate::rounds::rounds_at;
+use crate::{Lines, Name, Parties, Products, Tank, Tanks};
 use farm_ports::Folder;
 use farm_rounding::RoundTable;
+use site_items::{format_at, name_at, parties_of, products_of, tanks_of};
+use site_keys::{Keys, SiteReadFault, content, toml_of};
+use site_lines::lines_of;
 use std::alloc::Global;
 use toml::Value;
 
@@ -42,11 +39,11 @@ pub struct Site {
     pub tanks: Tanks,
     /// The gauge lines, at most 16, in the order of the site file. Each gauge is on a tank of the site, and no two are on one.
     pub lines: Lines,
-    ghost is_named: { IsTrue (is_name name) },
-    ghost has_products: { IsTrue (are_products products) },
-    ghost has_parties: { IsTrue (are_parties parties) },
-    ghost has_tanks: { IsTrue (are_tanks (map product_number products) tanks) },
-    ghost has_lines: { IsTrue (are_lines (map tank_number tanks) lines) },
+    pub ghost is_named: { IsTrue (is_name name) },
+    pub ghost has_products: { IsTrue (are_products products) },
+    pub ghost has_parties: { IsTrue (are_parties parties) },
+    pub ghost has_tanks: { IsTrue (are_tanks (map product_number products) tanks) },
+    pub ghost has_lines: { IsTrue (are_lines (map tank_number tanks) lines) },
 }
 
 impl Site {
@@ -54,7 +51,7 @@ impl Site {
     ///
     /// `Bad` is the first fault, in the order in which the files are looked at: the text of `site.toml`, its top keys,
     /// products, parties, tanks and lines; each item whole in turn, its keys and then its file. `Folder` comes only where the
-    /// folder failed, and `NoMemory` at any time. What is said stands on the files that the folder still tells at the end.
+    /// folder failed, as where a file that is due is missing, and `NoMemory` at any time.
     pub fn read<F: Folder>(alloc: Global, folder: &mut F) -> Result<Site, SiteReadFault>
         ensures site { WhereKnown (F.files folder.new) (λ files. MatchResult result
             (λ site. site_of_files files ≡ Ok (record {
@@ -65,15 +62,14 @@ impl Site {
               tanks = site.tanks;
               lines = site.lines;
             }))
-            (λ fault. IsRefused fault (site_of_files files))) }
-        ensures files { Stays (F.files folder.old) (F.files folder.new) }
-        ensures later { F.faults folder.old ≤ F.faults folder.new }
-        ensures failed { result ≡ Err SiteReadFault.Folder → Rose (F.faults folder.old) (F.faults folder.new) }
+            (λ fault. IsRefusedAs (refusal_of fault) (site_of_files files))) }
+        ensures keeps { KeepsKnown (F.files folder.old) (F.files folder.new) (F.faults folder.old) (F.faults folder.new)
+            SiteReadFault.Folder result }
     {
         Site::of_folder(alloc, folder)
     }
 
-    // The same, over the files that the folder tells at the end.
+    // The same, for whatever files the folder is known to have at the end.
     #[tactic(auto, unfolding(crate::specs::Described::site_of_files))]
     fn of_folder<F: Folder>(alloc: Global, folder: &mut F) -> Result<Site, SiteReadFault>
         ensures site { (files : List File) → F.files folder.new ≡ Some files → MatchResult result
@@ -85,10 +81,9 @@ impl Site {
               tanks = site.tanks;
               lines = site.lines;
             }))
-            (λ fault. IsRefused fault (site_of_files files)) }
-        ensures files { (files : List File) → F.files folder.new ≡ Some files → F.files folder.old ≡ Some files }
-        ensures later { F.faults folder.old ≤ F.faults folder.new }
-        ensures failed { result ≡ Err SiteReadFault.Folder → Rose (F.faults folder.old) (F.faults folder.new) }
+            (λ fault. IsRefusedAs (refusal_of fault) (site_of_files files)) }
+        ensures keeps { KeepsKnown (F.files folder.old) (F.files folder.new) (F.faults folder.old) (F.faults folder.new)
+            SiteReadFault.Folder result }
     {
         let top = top_of(alloc, folder)?;
         let keys = Keys {
@@ -115,17 +110,16 @@ impl Site {
               tanks = site.tanks;
               lines = site.lines;
             }))
-            (λ fault. IsRefused fault (site_of_keys files (view top.now.table.now))) }
-        ensures files { (files : List File) → F.files folder.new ≡ Some files → F.files folder.old ≡ Some files }
-        ensures later { F.faults folder.old ≤ F.faults folder.new }
-        ensures failed { result ≡ Err SiteReadFault.Folder → Rose (F.faults folder.old) (F.faults folder.new) }
+            (λ fault. IsRefusedAs (refusal_of fault) (site_of_keys files (view top.now.table.now))) }
+        ensures keeps { KeepsKnown (F.files folder.old) (F.files folder.new) (F.faults folder.old) (F.faults folder.new)
+            SiteReadFault.Folder result }
     {
-        let _format = top.natural("format", 1, 1)?;
+        let format = format_at(top)?;
         let name = name_at(alloc, top)?;
-        let rounds = rounds_at(top)?;
+        let rounds = rounds_at(format, top)?;
         let products = products_of(alloc, folder, top)?;
         let parties = parties_of(alloc, top)?;
-        let tanks = tanks_of(alloc, folder, &rounds, &products, top)?;
+        let tanks = tanks_of(alloc, folder, format, &rounds, &products, top)?;
         let lines = lines_of(alloc, &tanks, top)?;
         Ok(Site {
             name,
@@ -151,10 +145,9 @@ impl Site {
 #[tactic(auto, unfolding(crate::specs::Described::top_of_files))]
 fn top_of<F: Folder>(alloc: Global, folder: &mut F) -> Result<Value, SiteReadFault>
     ensures top { (files : List File) → F.files folder.new ≡ Some files →
-        MatchResult result (λ top. top_of_files files ≡ Ok (view top)) (λ fault. IsRefused fault (top_of_files files)) }
-    ensures files { (files : List File) → F.files folder.new ≡ Some files → F.files folder.old ≡ Some files }
-    ensures later { F.faults folder.old ≤ F.faults folder.new }
-    ensures failed { result ≡ Err SiteReadFault.Folder → Rose (F.faults folder.old) (F.faults folder.new) }
+        MatchResult result (λ top. top_of_files files ≡ Ok (view top)) (λ fault. IsRefusedAs (refusal_of fault) (top_of_files files)) }
+    ensures keeps { KeepsKnown (F.files folder.old) (F.files folder.new) (F.faults folder.old) (F.faults folder.new)
+        SiteReadFault.Folder result }
 {
     let bytes = content(alloc, folder, 0, "site.toml")?;
     toml_of(alloc, 0, &bytes)

@@ -5,10 +5,11 @@ use Rattle.std.proofs.lemmas.List.Elements.{All-cons, All-nil}
 use Rattle.std.proofs.lemmas.Bool.Decides.{nat_tests}
 use Rattle.std.specs.Int.RustNames.{unsigned_abs}
 use Rattle.farm_rounding.specs.Table.{Row}
+use Rattle.farm_rounding.specs.declared.table.TheConstants.{DEADWOOD_PART}
 use Rattle.strap_courses.specs.declared.parts.Deadwood.{Deadwood}
 use Rattle.strap_courses.specs.Courses.{Fraction, deadwood_part, over}
 use Rattle.strap_courses.specs.Faults.{bad_deadwood, is_bad_deadwood}
-use Rattle.strap_courses.specs.Rows.{deadwood_parts, rounded}
+use Rattle.strap_courses.specs.Rows.{deadwood_parts, rounded_litres}
 use Rattle.strap_courses.proofs.Spans.{from_element}
 
 -- up to the low end there is none
@@ -36,29 +37,29 @@ part_between deadwood height over_low under_high =
     rw (low, high) refl
 
 -- what the body computes between both ends
-pub of_a_part : (row : Row) (deadwood : Deadwood) (height : ℕ) (above whole num den answer : ℤ) →
+pub of_a_part : (rounding : List Row) (figure : ℕ) (deadwood : Deadwood) (height : ℕ) (above whole num den answer : ℤ) →
     unsigned_abs deadwood.low < height → height < unsigned_abs deadwood.high →
     above ≡ pos height -ℤ deadwood.low → whole ≡ deadwood.high -ℤ deadwood.low → num ≡ deadwood.litres *ℤ above → den ≡ whole →
-    answer ≡ rounded row (over num (unsigned_abs den)) → answer ≡ rounded row (deadwood_part deadwood height)
-of_a_part row deadwood height above whole num den answer over_low under_high above_is whole_is num_is den_is answer_is =
+    answer ≡ rounded_litres rounding figure (over num (unsigned_abs den)) → answer ≡ rounded_litres rounding figure (deadwood_part deadwood height)
+of_a_part rounding figure deadwood height above whole num den answer over_low under_high above_is whole_is num_is den_is answer_is =
     let num_low : num ≡ deadwood.litres *ℤ (pos height -ℤ deadwood.low) = cc in
-    answer_is ∙ ap (λ n. rounded row (over n (unsigned_abs den))) num_low
-    ∙ ap (λ d. rounded row (over (deadwood.litres *ℤ (pos height -ℤ deadwood.low)) (unsigned_abs d))) (den_is ∙ whole_is)
-    ∙ ap (λ (part : Fraction). rounded row part) (sym (part_between deadwood height over_low under_high))
+    answer_is ∙ ap (λ n. rounded_litres rounding figure (over n (unsigned_abs den))) num_low
+    ∙ ap (λ d. rounded_litres rounding figure (over (deadwood.litres *ℤ (pos height -ℤ deadwood.low)) (unsigned_abs d))) (den_is ∙ whole_is)
+    ∙ ap (λ (part : Fraction). rounded_litres rounding figure part) (sym (part_between deadwood height over_low under_high))
 
 -- one deadwood more
-pub parts_more : (row : Row) (height : ℕ) (deadwoods : List Deadwood) (deadwood : Deadwood) (i : ℕ) → i < length deadwoods → deadwood ≡ get_or deadwoods i deadwood →
-    deadwood_parts row height (drop i deadwoods) ≡ rounded row (deadwood_part deadwood height) +ℤ deadwood_parts row height (drop (i + 1) deadwoods)
+pub parts_more : (rounding : List Row) (height : ℕ) (deadwoods : List Deadwood) (deadwood : Deadwood) (i : ℕ) → i < length deadwoods → deadwood ≡ get_or deadwoods i deadwood →
+    deadwood_parts rounding height (drop i deadwoods) ≡ rounded_litres rounding DEADWOOD_PART (deadwood_part deadwood height) +ℤ deadwood_parts rounding height (drop (i + 1) deadwoods)
 unfolding deadwood_parts
-parts_more row height deadwoods deadwood i short deadwood_is =
-    ap (λ ds. deadwood_parts row height ds) (from_element deadwoods deadwood i short deadwood_is)
+parts_more rounding height deadwoods deadwood i short deadwood_is =
+    ap (λ ds. deadwood_parts rounding height ds) (from_element deadwoods deadwood i short deadwood_is)
 
 -- no deadwood more
-pub parts_no_more : (row : Row) (height : ℕ) (deadwoods : List Deadwood) (i : ℕ) → length deadwoods ≤ i → deadwood_parts row height (drop i deadwoods) ≡ pos 0
+pub parts_no_more : (rounding : List Row) (height : ℕ) (deadwoods : List Deadwood) (i : ℕ) → length deadwoods ≤ i → deadwood_parts rounding height (drop i deadwoods) ≡ pos 0
 unfolding deadwood_parts
-parts_no_more row height deadwoods i all = at_drop_all (λ ds. deadwood_parts row height ds) deadwoods i all
+parts_no_more rounding height deadwoods i all = at_drop_all (λ ds. deadwood_parts rounding height ds) deadwoods i all
 
--- a deadwood that isn't bad has at most 10^9 litres either way, and those behind it aren't bad where no first bad one is found
+-- a deadwood that isn't bad has at most 10^9 litres either way, and those after it aren't bad where no first bad one is found
 litres_by : (b : Bool) (top n : ℕ) (deadwood : Deadwood) (deadwoods : List Deadwood) → is_bad_deadwood top deadwood ≡ b → bad_deadwood top n (deadwood ∷ deadwoods) ≡ None →
     (unsigned_abs deadwood.litres ≤ 10 ^ 9) × (bad_deadwood top (n + 1) deadwoods ≡ None)
 litres_by true top n deadwood deadwoods test none = let some : Some n ≡ None = (rw test at none) in cc

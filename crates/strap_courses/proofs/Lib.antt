@@ -2,6 +2,7 @@ pub mod Deadwoods
 pub mod Faultless
 pub mod Points
 pub mod Segments
-pub mod Sizes
 pub mod Spans
 pub mod Table
+pub mod FirstFault
+pub mod FirstRow

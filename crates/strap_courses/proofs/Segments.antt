@@ -6,7 +6,7 @@ use Rattle.std.proofs.lemmas.Bool.Decides.{nat_tests}
 use Rattle.std.specs.Int.RustNames.{unsigned_abs}
 use Rattle.farm_rounding.specs.Table.{Row}
 use Rattle.strap_courses.specs.Courses.{Point, StrappedTank, between_points, bottom_height, bottom_volume, exact_volume, held_between, last_point, over, per_litre}
-use Rattle.strap_courses.specs.Rows.{rounded}
+use Rattle.strap_courses.specs.Rows.{rounded_litres}
 use Rattle.strap_courses.proofs.Points.{last_at}
 
 -- the rest of a list from the element before i on
@@ -54,27 +54,27 @@ at_the_last points height some =
     ap (λ ps. bottom_volume ps height) left
 
 -- what the body computes between two points
-pub of_two_points : (row : Row) (low high : Point) (height : ℕ) (rise above_low gain below above num den answer : ℤ) →
+pub of_two_points : (rounding : List Row) (figure : ℕ) (low high : Point) (height : ℕ) (rise above_low gain below above num den answer : ℤ) →
     rise ≡ high.0 -ℤ low.0 → above_low ≡ pos height -ℤ low.0 → gain ≡ high.1 -ℤ low.1 → below ≡ low.1 *ℤ rise → above ≡ gain *ℤ above_low →
-    num ≡ below +ℤ above → den ≡ rise → answer ≡ rounded row (over num (unsigned_abs den)) →
-    answer ≡ rounded row (between_points low high height)
-of_two_points row low high height rise above_low gain below above num den answer rise_is above_low_is gain_is below_is above_is num_is den_is answer_is =
+    num ≡ below +ℤ above → den ≡ rise → answer ≡ rounded_litres rounding figure (over num (unsigned_abs den)) →
+    answer ≡ rounded_litres rounding figure (between_points low high height)
+of_two_points rounding figure low high height rise above_low gain below above num den answer rise_is above_low_is gain_is below_is above_is num_is den_is answer_is =
     let den_low : den ≡ high.0 -ℤ low.0 = den_is ∙ rise_is in
     let num_low : num ≡ low.1 *ℤ (high.0 -ℤ low.0) +ℤ (high.1 -ℤ low.1) *ℤ (pos height -ℤ low.0) = cc in
-    answer_is ∙ ap (λ n. rounded row (over n (unsigned_abs den))) num_low
-    ∙ ap (λ d. rounded row (over (low.1 *ℤ (high.0 -ℤ low.0) +ℤ (high.1 -ℤ low.1) *ℤ (pos height -ℤ low.0)) (unsigned_abs d))) den_low
+    answer_is ∙ ap (λ n. rounded_litres rounding figure (over n (unsigned_abs den))) num_low
+    ∙ ap (λ d. rounded_litres rounding figure (over (low.1 *ℤ (high.0 -ℤ low.0) +ℤ (high.1 -ℤ low.1) *ℤ (pos height -ℤ low.0)) (unsigned_abs d))) den_low
 
 -- what the body computes above the bottom
-pub of_the_shell : (row : Row) (tank : StrappedTank) (height top held : ℕ) (whole below num den answer : ℤ) →
+pub of_the_shell : (rounding : List Row) (figure : ℕ) (tank : StrappedTank) (height top held : ℕ) (whole below num den answer : ℤ) →
     top < height → top ≡ bottom_height tank.bottom → whole ≡ (last_point tank.bottom).1 → held ≡ held_between top height 0 tank.courses →
-    below ≡ pos per_litre *ℤ whole → num ≡ below +ℤ pos held → den ≡ pos per_litre → answer ≡ rounded row (over num (unsigned_abs den)) →
-    answer ≡ rounded row (exact_volume tank height)
+    below ≡ pos per_litre *ℤ whole → num ≡ below +ℤ pos held → den ≡ pos per_litre → answer ≡ rounded_litres rounding figure (over num (unsigned_abs den)) →
+    answer ≡ rounded_litres rounding figure (exact_volume tank height)
 unfolding exact_volume
-of_the_shell row tank height top held whole below num den answer above top_is whole_is held_is below_is num_is den_is answer_is =
+of_the_shell rounding figure tank height top held whole below num den answer above top_is whole_is held_is below_is num_is den_is answer_is =
     let test : nat_le height (bottom_height tank.bottom) ≡ false = grind (arith, nat_tests) in
     let held_above : held ≡ held_between (bottom_height tank.bottom) height 0 tank.courses = held_is ∙ ap (λ low. held_between low height 0 tank.courses) top_is in
     let all : num ≡ pos per_litre *ℤ (last_point tank.bottom).1 +ℤ pos (held_between (bottom_height tank.bottom) height 0 tank.courses) =
     num_is ∙ ap (λ b. b +ℤ pos held) (below_is ∙ ap (λ w. pos per_litre *ℤ w) whole_is)
     ∙ ap (λ h. pos per_litre *ℤ (last_point tank.bottom).1 +ℤ pos h) held_above in
-    rw test (answer_is ∙ ap (λ n. rounded row (over n (unsigned_abs den))) all
-    ∙ ap (λ d. rounded row (over (pos per_litre *ℤ (last_point tank.bottom).1 +ℤ pos (held_between (bottom_height tank.bottom) height 0 tank.courses)) (unsigned_abs d))) den_is)
+    rw test (answer_is ∙ ap (λ n. rounded_litres rounding figure (over n (unsigned_abs den))) all
+    ∙ ap (λ d. rounded_litres rounding figure (over (pos per_litre *ℤ (last_point tank.bottom).1 +ℤ pos (held_between (bottom_height tank.bottom) height 0 tank.courses)) (unsigned_abs d))) den_is)

@@ -10,23 +10,23 @@ use Rattle.strap_courses.specs.Rows.{IsStrappedTable, first_wrong, row_count, ro
 use Rattle.strap_courses.specs.Faults.{TankFault, NotRising, TooLarge}
 use Rattle.strap_courses.proofs.Faultless.{no_first, no_second}
 
--- so many rows are as many
-length-rows_from : (rounds : List Row) (tank : StrappedTank) (i count : ℕ) → length (rows_from rounds tank i count) ≡ count
-length-rows_from rounds tank i zero = refl
-length-rows_from rounds tank i (suc count) = ap suc (length-rows_from rounds tank (i + 1) count)
+-- the list of rows has the length that was asked for
+length-rows_from : (rounding : List Row) (tank : StrappedTank) (i count : ℕ) → length (rows_from rounding tank i count) ≡ count
+length-rows_from rounding tank i zero = refl
+length-rows_from rounding tank i (suc count) = ap suc (length-rows_from rounding tank (i + 1) count)
 
 -- each of them is the strapped row at its height
-each_row : (rounds : List Row) (tank : StrappedTank) (i count k : ℕ) (d : ℤ) → k < count → get_or (rows_from rounds tank i count) k d ≡ strapped_row rounds tank (i + k)
-each_row rounds tank i zero k d short = absurd (omega arith)
-each_row rounds tank i (suc count) zero d short = ap (λ n. strapped_row rounds tank n) (omega arith)
-each_row rounds tank i (suc count) (suc k) d short =
+each_row : (rounding : List Row) (tank : StrappedTank) (i count k : ℕ) (d : ℤ) → k < count → get_or (rows_from rounding tank i count) k d ≡ strapped_row rounding tank (i + k)
+each_row rounding tank i zero k d short = absurd (omega arith)
+each_row rounding tank i (suc count) zero d short = ap (λ n. strapped_row rounding tank n) (omega arith)
+each_row rounding tank i (suc count) (suc k) d short =
     let e : i + 1 + k ≡ i + suc k = omega arith in
-    each_row rounds tank (i + 1) count k d (omega arith) ∙ ap (λ n. strapped_row rounds tank n) e
+    each_row rounding tank (i + 1) count k d (omega arith) ∙ ap (λ n. strapped_row rounding tank n) e
 
 -- the rows from one on are that row and those from the next on
-pub rows_more : (rounds : List Row) (tank : StrappedTank) (i count : ℕ) → i < count →
-    rows_from rounds tank i (count - i) ≡ strapped_row rounds tank i ∷ rows_from rounds tank (i + 1) (count - (i + 1))
-rows_more rounds tank i count short =
+pub rows_more : (rounding : List Row) (tank : StrappedTank) (i count : ℕ) → i < count →
+    rows_from rounding tank i (count - i) ≡ strapped_row rounding tank i ∷ rows_from rounding tank (i + 1) (count - (i + 1))
+rows_more rounding tank i count short =
     let e : count - i ≡ suc (count - (i + 1)) = omega arith in rw e refl
 
 -- a row in range is from 0 to 10^9 litres
@@ -82,67 +82,67 @@ accepted None rows answer ok = (refl, cc)
 accepted (Some fault) rows answer ok = cc
 
 -- and they are the tank's table
-pub strapped_table : (rounds : List Row) (tank : StrappedTank) (rows : List ℤ) → strapped_rows rounds tank ≡ Ok rows → IsStrappedTable rounds tank rows
+pub strapped_table : (rounding : List Row) (tank : StrappedTank) (rows : List ℤ) → strapped_rows rounding tank ≡ Ok rows → IsStrappedTable rounding tank rows
 unfolding strapped_rows
-strapped_table rounds tank rows ok =
+strapped_table rounding tank rows ok =
     let count = row_count tank in
-    let all = rows_from rounds tank 0 count in
+    let all = rows_from rounding tank 0 count in
     let parts = accepted (first_wrong 0 (pos 0) all) all rows ok in
-    let P : List ℤ → Type 0 = λ rows. IsStrappedTable rounds tank rows in
-    let size = length-rows_from rounds tank 0 count in
+    let P : List ℤ → Type 0 = λ rows. IsStrappedTable rounding tank rows in
+    let size = length-rows_from rounding tank 0 count in
     subst P parts.1 (record {
       count = size;
-      each = λ i short. each_row rounds tank 0 count i (pos 0) (omega (arith, size, short)) ∙ ap (λ n. strapped_row rounds tank n) (omega arith);
+      each = λ i short. each_row rounding tank 0 count i (pos 0) (omega (arith, size, short)) ∙ ap (λ n. strapped_row rounding tank n) (omega arith);
       volumes = λ i short. each_within 0 (pos 0) all i (pos 0) parts.0 short;
       rising = λ i short. rising_rows all i (pos 0) parts.0 short;
     })
 
 -- a fault at a row that is reached is the answer
-pub wrong_at : (rounds : List Row) (tank : StrappedTank) (i count : ℕ) (before : ℤ) (fault : TankFault) → i < count → count ≡ row_count tank →
-    first_wrong i before (rows_from rounds tank i (count - i)) ≡ first_wrong 0 (pos 0) (rows_from rounds tank 0 count) →
-    wrong_row i before (strapped_row rounds tank i) ≡ Some fault → strapped_rows rounds tank ≡ Err fault
+pub wrong_at : (rounding : List Row) (tank : StrappedTank) (i count : ℕ) (before : ℤ) (fault : TankFault) → i < count → count ≡ row_count tank →
+    first_wrong i before (rows_from rounding tank i (count - i)) ≡ first_wrong 0 (pos 0) (rows_from rounding tank 0 count) →
+    wrong_row i before (strapped_row rounding tank i) ≡ Some fault → strapped_rows rounding tank ≡ Err fault
 unfolding strapped_rows
-wrong_at rounds tank i count before fault short count_is reached wrong =
-    let row = strapped_row rounds tank i in
-    let later = rows_from rounds tank (i + 1) (count - (i + 1)) in
+wrong_at rounding tank i count before fault short count_is reached wrong =
+    let row = strapped_row rounding tank i in
+    let later = rows_from rounding tank (i + 1) (count - (i + 1)) in
     let here : first_wrong i before (row ∷ later) ≡ Some fault = ap (λ first. or_else first (first_wrong (i + 1) row later)) wrong in
-    let first : first_wrong 0 (pos 0) (rows_from rounds tank 0 count) ≡ Some fault =
-    sym reached ∙ ap (λ rows. first_wrong i before rows) (rows_more rounds tank i count short) ∙ here in
-    let P : ℕ → Type 0 = λ n. unless_wrong (rows_from rounds tank 0 n) (first_wrong 0 (pos 0) (rows_from rounds tank 0 n)) ≡ Err fault in
-    subst P count_is (ap (λ wrong. unless_wrong (rows_from rounds tank 0 count) wrong) first)
+    let first : first_wrong 0 (pos 0) (rows_from rounding tank 0 count) ≡ Some fault =
+    sym reached ∙ ap (λ rows. first_wrong i before rows) (rows_more rounding tank i count short) ∙ here in
+    let P : ℕ → Type 0 = λ n. unless_wrong (rows_from rounding tank 0 n) (first_wrong 0 (pos 0) (rows_from rounding tank 0 n)) ≡ Err fault in
+    subst P count_is (ap (λ wrong. unless_wrong (rows_from rounding tank 0 count) wrong) first)
 
 -- so what a call reports there is the answer
-pub reported_at : (rounds : List Row) (tank : StrappedTank) (i count : ℕ) (before : ℤ) (fault : Option TankFault) → i < count → count ≡ row_count tank →
-    first_wrong i before (rows_from rounds tank i (count - i)) ≡ first_wrong 0 (pos 0) (rows_from rounds tank 0 count) →
-    wrong_row i before (strapped_row rounds tank i) ≡ fault → IsRefusedAs fault (strapped_rows rounds tank)
-reported_at rounds tank i count before None short count_is reached wrong = tt
-reported_at rounds tank i count before (Some fault) short count_is reached wrong = wrong_at rounds tank i count before fault short count_is reached wrong
+pub reported_at : (rounding : List Row) (tank : StrappedTank) (i count : ℕ) (before : ℤ) (fault : Option TankFault) → i < count → count ≡ row_count tank →
+    first_wrong i before (rows_from rounding tank i (count - i)) ≡ first_wrong 0 (pos 0) (rows_from rounding tank 0 count) →
+    wrong_row i before (strapped_row rounding tank i) ≡ fault → IsRefusedAs fault (strapped_rows rounding tank)
+reported_at rounding tank i count before None short count_is reached wrong = tt
+reported_at rounding tank i count before (Some fault) short count_is reached wrong = wrong_at rounding tank i count before fault short count_is reached wrong
 
 -- past a row that isn't wrong, the others are looked at
-pub right_at : (rounds : List Row) (tank : StrappedTank) (i count : ℕ) (before : ℤ) → i < count → wrong_row i before (strapped_row rounds tank i) ≡ None →
-    first_wrong i before (rows_from rounds tank i (count - i)) ≡ first_wrong (i + 1) (strapped_row rounds tank i) (rows_from rounds tank (i + 1) (count - (i + 1)))
-right_at rounds tank i count before short none =
-    let row = strapped_row rounds tank i in
-    let later = rows_from rounds tank (i + 1) (count - (i + 1)) in
-    ap (λ rows. first_wrong i before rows) (rows_more rounds tank i count short) ∙ ap (λ first. or_else first (first_wrong (i + 1) row later)) none
+pub right_at : (rounding : List Row) (tank : StrappedTank) (i count : ℕ) (before : ℤ) → i < count → wrong_row i before (strapped_row rounding tank i) ≡ None →
+    first_wrong i before (rows_from rounding tank i (count - i)) ≡ first_wrong (i + 1) (strapped_row rounding tank i) (rows_from rounding tank (i + 1) (count - (i + 1)))
+right_at rounding tank i count before short none =
+    let row = strapped_row rounding tank i in
+    let later = rows_from rounding tank (i + 1) (count - (i + 1)) in
+    ap (λ rows. first_wrong i before rows) (rows_more rounding tank i count short) ∙ ap (λ first. or_else first (first_wrong (i + 1) row later)) none
 
 -- one row more at the end of those so far
-pub row_pushed : (rounds : List Row) (tank : StrappedTank) (i count : ℕ) (rows : List ℤ) → i < count →
-    (rows ++ strapped_row rounds tank i ∷ []) ++ rows_from rounds tank (i + 1) (count - (i + 1)) ≡ rows ++ rows_from rounds tank i (count - i)
-row_pushed rounds tank i count rows short =
-    append_assoc rows (strapped_row rounds tank i ∷ []) (rows_from rounds tank (i + 1) (count - (i + 1)))
-    ∙ ap (λ later. rows ++ later) (sym (rows_more rounds tank i count short))
+pub row_pushed : (rounding : List Row) (tank : StrappedTank) (i count : ℕ) (rows : List ℤ) → i < count →
+    (rows ++ strapped_row rounding tank i ∷ []) ++ rows_from rounding tank (i + 1) (count - (i + 1)) ≡ rows ++ rows_from rounding tank i (count - i)
+row_pushed rounding tank i count rows short =
+    append_assoc rows (strapped_row rounding tank i ∷ []) (rows_from rounding tank (i + 1) (count - (i + 1)))
+    ∙ ap (λ later. rows ++ later) (sym (rows_more rounding tank i count short))
 
 -- past the last row, those so far are the answer
-pub right_to_the_end : (rounds : List Row) (tank : StrappedTank) (i count : ℕ) (before : ℤ) (rows : List ℤ) → count ≤ i → count ≡ row_count tank →
-    rows ++ rows_from rounds tank i (count - i) ≡ rows_from rounds tank 0 count →
-    first_wrong i before (rows_from rounds tank i (count - i)) ≡ first_wrong 0 (pos 0) (rows_from rounds tank 0 count) →
-    strapped_rows rounds tank ≡ Ok rows
+pub right_to_the_end : (rounding : List Row) (tank : StrappedTank) (i count : ℕ) (before : ℤ) (rows : List ℤ) → count ≤ i → count ≡ row_count tank →
+    rows ++ rows_from rounding tank i (count - i) ≡ rows_from rounding tank 0 count →
+    first_wrong i before (rows_from rounding tank i (count - i)) ≡ first_wrong 0 (pos 0) (rows_from rounding tank 0 count) →
+    strapped_rows rounding tank ≡ Ok rows
 unfolding strapped_rows
-right_to_the_end rounds tank i count before rows all count_is so_far reached =
+right_to_the_end rounding tank i count before rows all count_is so_far reached =
     let e : count - i ≡ 0 = omega arith in
-    let none : rows_from rounds tank i (count - i) ≡ [] = ap (λ n. rows_from rounds tank i n) e in
-    let first : first_wrong 0 (pos 0) (rows_from rounds tank 0 count) ≡ None = sym reached ∙ ap (λ rows. first_wrong i before rows) none in
-    let whole : rows_from rounds tank 0 count ≡ rows = sym so_far ∙ ap (λ later. rows ++ later) none ∙ append-nil rows in
-    let P : ℕ → Type 0 = λ n. unless_wrong (rows_from rounds tank 0 n) (first_wrong 0 (pos 0) (rows_from rounds tank 0 n)) ≡ Ok rows in
-    subst P count_is (ap (λ wrong. unless_wrong (rows_from rounds tank 0 count) wrong) first ∙ ap Ok whole)
+    let none : rows_from rounding tank i (count - i) ≡ [] = ap (λ n. rows_from rounding tank i n) e in
+    let first : first_wrong 0 (pos 0) (rows_from rounding tank 0 count) ≡ None = sym reached ∙ ap (λ rows. first_wrong i before rows) none in
+    let whole : rows_from rounding tank 0 count ≡ rows = sym so_far ∙ ap (λ later. rows ++ later) none ∙ append-nil rows in
+    let P : ℕ → Type 0 = λ n. unless_wrong (rows_from rounding tank 0 n) (first_wrong 0 (pos 0) (rows_from rounding tank 0 n)) ≡ Ok rows in
+    subst P count_is (ap (λ wrong. unless_wrong (rows_from rounding tank 0 count) wrong) first ∙ ap Ok whole)

@@ -2,43 +2,43 @@
 
 ghost use Rattle.std.specs.Prelude.{◌≡◌, ◌≤◌, ◌*◌, ◌^◌, length, All};
 ghost use Rattle.std.specs.Int.RustNames.{unsigned_abs};
-ghost use Rattle.farm_rounding.specs.Table.{row_at};
+ghost use Rattle.farm_fixed.specs.declared.limits.TheConstants.{MOST_LITRES};
 ghost use Rattle.strap_courses.specs.Courses.{deadwood_part};
-ghost use Rattle.strap_courses.specs.Rows.{deadwood_parts, rounded};
+ghost use Rattle.strap_courses.specs.Rows.{deadwood_parts, rounded_litres};
 
 use crate::Deadwood;
-use crate::arithmetic::{difference, millimetres, product, rounded};
-use farm_rounding::{DEADWOOD_PART, RoundTable};
+use crate::heights::millimetres;
+use farm_rounding::{DEADWOOD_PART, RoundTable, difference, product};
 
 /// The part of a deadwood up to a height, rounded.
-pub fn deadwood_part(rounds: &RoundTable, deadwood: &Deadwood, height: u64) -> i128
-    requires litres { unsigned_abs deadwood.now.litres ≤ 10 ^ 9 }
+pub fn deadwood_part(rounding: &RoundTable, deadwood: &Deadwood, height: u64) -> i128
+    requires litres { unsigned_abs deadwood.now.litres ≤ unsigned_abs MOST_LITRES }
     requires height { height ≤ 50000 }
-    ensures value { result ≡ rounded (row_at rounds.now 4) (deadwood_part deadwood.now height) }
+    ensures value { result ≡ rounded_litres rounding.now DEADWOOD_PART (deadwood_part deadwood.now height) }
     ensures size { unsigned_abs result ≤ 10 ^ 15 }
 {
     if height <= millimetres(deadwood.low) {
-        return rounded(rounds, DEADWOOD_PART, 0, 1);
+        return rounding.round(DEADWOOD_PART, 0, 1);
     }
     if millimetres(deadwood.high) <= height {
-        return rounded(rounds, DEADWOOD_PART, i128::from(deadwood.litres), 1);
+        return rounding.round(DEADWOOD_PART, i128::from(deadwood.litres), 1);
     }
     let low = deadwood.low.get();
     let part = product::<1_000_000_000, 100_000>(deadwood.litres, difference(height as i64, low));
     let whole = difference(deadwood.high.get(), low);
-    rounded(rounds, DEADWOOD_PART, part, i128::from(whole))
+    rounding.round(DEADWOOD_PART, part, i128::from(whole))
 }
 
 /// The parts of all deadwoods up to a height, of which there may be any number.
-pub fn deadwood_parts(rounds: &RoundTable, deadwoods: &[Deadwood], height: u64) -> i128
-    requires litres { All (λ deadwood. unsigned_abs deadwood.litres ≤ 10 ^ 9) deadwoods.now }
+pub fn deadwood_parts(rounding: &RoundTable, deadwoods: &[Deadwood], height: u64) -> i128
+    requires litres { All (λ deadwood. unsigned_abs deadwood.litres ≤ unsigned_abs MOST_LITRES) deadwoods.now }
     requires height { height ≤ 50000 }
-    ensures value { result ≡ deadwood_parts (row_at rounds.now 4) height deadwoods.now }
+    ensures value { result ≡ deadwood_parts rounding.now height deadwoods.now }
     ensures size { unsigned_abs result ≤ 10 ^ 36 }
 {
     let mut parts = 0;
     for deadwood in deadwoods {
-        parts += deadwood_part(rounds, deadwood, height);
+        parts += deadwood_part(rounding, deadwood, height);
     }
     parts
 }

@@ -4,17 +4,14 @@ ghost use Rattle.std.specs.Prelude.{◌≡◌, Some};
 ghost use Rattle.strap_courses.specs.declared.fault.StrapFault.TheVariants.{NoMemory};
 ghost use Rattle.strap_courses.specs.Faults.{bad_course, bad_deadwood, bad_point, deducts_too_much, first_fault, follows, found, is_bad_course, is_bad_deadwood, is_bottom_volume, wrong_height};
 
-use crate::arithmetic::millimetres;
 use crate::bottom::bottom_height;
+use crate::heights::millimetres;
 use crate::shell::{height, scaled_circumference};
 use crate::{Course, Deadwood, StrapFault};
-use farm_fixed::Mm;
+use farm_fixed::{MOST_HEIGHT, MOST_LITRES, Mm};
 
-const GREATEST_VOLUME: i64 = 1_000_000_000;
-
-const LEAST_HEIGHT: u128 = 10;
-
-const GREATEST_HEIGHT: u128 = 50_000;
+/// The least height of the courses of a tank, in mm: that of one row.
+pub const LEAST_HEIGHT: u128 = 10;
 
 /// Why parts are no strapped tank, if they are none.
 #[tactic(auto, unfolding(crate::specs::Faults::first_fault))]
@@ -86,7 +83,7 @@ fn is_bad_deadwood(top: u64, deadwood: &Deadwood) -> bool
 {
     deadwood.high.get() <= deadwood.low.get()
         || millimetres(deadwood.low) < top
-        || deadwood.litres.unsigned_abs() > GREATEST_VOLUME as u64
+        || deadwood.litres.unsigned_abs() > MOST_LITRES as u64
 }
 
 // The first bad point of a bottom, counted from 1.
@@ -115,7 +112,7 @@ fn follows(before: (Mm, i64), point: (Mm, i64)) -> bool
 fn is_bottom_volume(point: (Mm, i64)) -> bool
     ensures { result ≡ is_bottom_volume point }
 {
-    0 <= point.1 && point.1 <= GREATEST_VOLUME
+    0 <= point.1 && point.1 <= MOST_LITRES
 }
 
 // The fault of courses of this height over a bottom of that.
@@ -123,7 +120,7 @@ fn wrong_height(top: u64, height: u128) -> Option<StrapFault>
     ensures first { wrong_height top height ≡ found result }
     ensures takes_no_memory { ¬ (result ≡ Some NoMemory) }
 {
-    if height < LEAST_HEIGHT || height > GREATEST_HEIGHT || height < u128::from(top) {
+    if height < LEAST_HEIGHT || height > MOST_HEIGHT as u128 || height < u128::from(top) {
         return Some(StrapFault::TooTall);
     }
     None

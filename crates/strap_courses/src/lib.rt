@@ -5,11 +5,11 @@
 //! ISO 7507-1, with pi as 355 / 113. docs/definitions.md states it under "Strapped table".
 #![tactic(auto)]
 
-mod arithmetic;
 mod bottom;
 mod deadwood;
 mod fault;
 mod faults;
+mod heights;
 mod parts;
 mod shell;
 mod strapping;

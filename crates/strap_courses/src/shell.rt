@@ -5,7 +5,8 @@ ghost use Rattle.std.specs.Int.RustNames.{unsigned_abs};
 ghost use Rattle.strap_courses.specs.Courses.{held_between, height_of, scaled_circumference, shared_height};
 
 use crate::Course;
-use crate::arithmetic::{difference, millimetres};
+use crate::heights::millimetres;
+use farm_rounding::difference;
 
 // The sum of two lengths in 0.1 mm.
 fn total(a: i64, b: i64) -> i64

@@ -1,25 +1,23 @@
-ghost use Rattle.std.specs.Prelude.{◌≡◌, ◌≤◌, ◌*◌, ◌^◌, pos, IfOk, MatchResult, None, Err, Ok, Some};
+//! A strapped tank, and the rows of its capacity table.
+
+ghost use Rattle.std.specs.Prelude.{◌≡◌, ◌≤◌, ◌*◌, ◌^◌, IfErr, IfOk, IfSome, MatchResult, None, Err, Ok, Some};
 ghost use Rattle.std.specs.Int.RustNames.{unsigned_abs};
 ghost use Rattle.farm_base.specs.Steps.{IsRefusedAs};
 ghost use Rattle.farm_fixed.specs.Range.{IsWithin};
-ghost use Rattle.farm_rounding.specs.Table.{row_at};
 ghost use Rattle.strap_courses.specs.declared.fault.StrapFault.TheVariants.{NoMemory};
 ghost use Rattle.strap_courses.specs.Courses.{bottom_height, exact_volume, height_of, last_point};
-ghost use Rattle.strap_courses.specs.Faults.{first_fault, found, reported};
-ghost use Rattle.strap_courses.specs.Rows.{IsStrappedTable, row_count, rounded, strapped_row, strapped_rows, wrong_row};
+ghost use Rattle.strap_courses.specs.Faults.{HaveFault, IsTank, first_fault, found, reported};
+ghost use Rattle.strap_courses.specs.Rows.{HaveRowFault, IsStrappedTable, IsVolume, row_count, rounded_litres, strapped_row, strapped_rows, wrong_row};
 
-use crate::arithmetic::{less, product, rounded, sum};
 use crate::bottom::{bottom_height, bottom_row, whole_bottom};
 use crate::deadwood::deadwood_parts;
 use crate::faults::first_fault;
 use crate::shell::{height, held_between};
 use crate::{Course, Deadwood, StrapFault};
-use farm_fixed::Mm;
-use farm_rounding::{RoundTable, STRAPPED_ROW};
+use farm_fixed::{MOST_LITRES, Mm};
+use farm_rounding::{RoundTable, STRAPPED_ROW, product, sum, wide_difference};
 use std::alloc::Global;
 use std::marker::Model;
-
-const GREATEST_ROW: i128 = 1_000_000_000;
 
 // The square of a scaled circumference over this is what one mm of the course holds, in litres.
 const PER_LITRE: i64 = 64_184_000_000_000;
@@ -59,6 +57,9 @@ impl Strapping {
         ensures first { MatchResult result
             (λ _. first_fault (record { courses = courses.items; deadwoods = deadwoods.items; bottom = bottom.items }) ≡ None)
             (λ fault. first_fault (record { courses = courses.items; deadwoods = deadwoods.items; bottom = bottom.items }) ≡ reported fault) }
+        ensures meaning { MatchResult result
+            (λ _. IsTank (record { courses = courses.items; deadwoods = deadwoods.items; bottom = bottom.items }))
+            (λ fault. IfSome (reported fault) (HaveFault (record { courses = courses.items; deadwoods = deadwoods.items; bottom = bottom.items }))) }
         ensures takes_no_memory { ¬ (result ≡ Err NoMemory) }
         ensures parts { IfOk result (λ tank. tank ≡ record { courses = courses.items; deadwoods = deadwoods.items; bottom = bottom.items }) }
     {
@@ -80,6 +81,7 @@ impl Strapping {
     pub fn rows(&self, alloc: Global, rounds: &RoundTable) -> Result<Vec<i64>, StrapFault>
         ensures value { MatchResult result (λ rows. strapped_rows rounds.now self.now ≡ Ok rows.items) (λ fault. IsRefusedAs (reported fault) (strapped_rows rounds.now self.now)) }
         ensures meaning { IfOk result (λ rows. IsStrappedTable rounds.now self.now rows.items) }
+        ensures first_wrong_row { IfErr result (λ fault. IfSome (reported fault) (HaveRowFault rounds.now self.now)) }
         ensures tank { first_fault self.now ≡ None }
     {
         let count = self.row_count();
@@ -108,45 +110,40 @@ impl Strapping {
 
     // Row i: bottom and courses up to 10 i mm, less the deadwoods.
     #[tactic(auto, unfolding(crate::specs::Rows::strapped_row))]
-    fn row(&self, rounds: &RoundTable, i: u64) -> i128
+    fn row(&self, rounding: &RoundTable, i: u64) -> i128
         requires { i ≤ 5000 }
-        ensures { result ≡ strapped_row rounds.now self.now i }
+        ensures { result ≡ strapped_row rounding.now self.now i }
     {
-        let parts = deadwood_parts(rounds, &self.deadwoods, 10 * i);
-        less(self.volume(rounds, 10 * i), parts)
+        let parts = deadwood_parts(rounding, &self.deadwoods, 10 * i);
+        wide_difference(self.volume(rounding, 10 * i), parts)
     }
 
     // The volume of bottom and courses up to a height, rounded.
     #[tactic(auto, unfolding(crate::specs::Courses::exact_volume))]
-    fn volume(&self, rounds: &RoundTable, height: u64) -> i128
+    fn volume(&self, rounding: &RoundTable, height: u64) -> i128
         requires { height ≤ 50000 }
-        ensures value { result ≡ rounded (row_at rounds.now 3) (exact_volume self.now height) }
+        ensures value { result ≡ rounded_litres rounding.now STRAPPED_ROW (exact_volume self.now height) }
         ensures size { unsigned_abs result ≤ 10 ^ 36 }
     {
         let top = bottom_height(&self.bottom);
         if height <= top {
-            return bottom_row(rounds, &self.bottom, height);
+            return bottom_row(rounding, &self.bottom, height);
         }
         let below = product::<64_184_000_000_000, 1_000_000_000>(
             PER_LITRE,
             whole_bottom(&self.bottom),
         );
         let above = held_between(&self.courses, top, height) as i128;
-        rounded(
-            rounds,
-            STRAPPED_ROW,
-            sum(below, above),
-            i128::from(PER_LITRE),
-        )
+        rounding.round(STRAPPED_ROW, sum(below, above), i128::from(PER_LITRE))
     }
 }
 
 // What is wrong with row i after the one before it.
 fn wrong_row(i: usize, before: i128, row: i128) -> Option<StrapFault>
     ensures value { wrong_row i before row ≡ found result }
-    ensures range { result ≡ None → IsWithin (pos 0) (pos (10 ^ 9)) row }
+    ensures range { result ≡ None → IsVolume row }
 {
-    if row < 0 || row > GREATEST_ROW {
+    if row < 0 || row > i128::from(MOST_LITRES) {
         return Some(StrapFault::TooLarge(i));
     }
     if row < before {

@@ -36,11 +36,6 @@ fn point(height: i64, litres: i64) -> Result<(Mm, i64), Fail> {
     Ok((Mm::new(height)?, litres))
 }
 
-// Half of a course of 1,000 mm and 35,500.0 mm round, with no deduction, plate or paint.
-const HALF: Figures = [500, 355_000, 355_000, 0, 0, 0, 0];
-
-const WHOLE: Figures = [1_000, 355_000, 355_000, 0, 0, 0, 0];
-
 // The rows of a tank of one such course with this plate.
 fn rows_of(
     alloc: Global,
@@ -165,126 +160,6 @@ fn rows_are_refused_at_the_first_wrong_one(rt: HostRuntime) -> Result<(), Fail> 
     Ok(())
 }
 
-fn courses_fault(
-    alloc: Global,
-    first: Figures,
-    second: Figures,
-) -> Result<Option<StrapFault>, Fail> {
-    let courses = vec![in alloc; course(first)?, course(second)?]?;
-    Ok(Strapping::new(courses, Vec::new(alloc), flat_bottom(alloc)?).err())
-}
-
-#[test]
-fn courses_are_refused_at_the_first_bad_one(rt: HostRuntime) -> Result<(), Fail> {
-    let bad = |number| Some(StrapFault::BadCourse(number));
-    let cases = [
-        (HALF, HALF, None),
-        ([0, 355_000, 355_000, 0, 0, 0, 0], HALF, bad(1)),
-        (HALF, [500, 355_000, 355_000, 355_001, 0, 0, 0], bad(2)),
-        (HALF, [500, 355_000, 355_000, 0, 355_001, 0, 0], bad(2)),
-        (HALF, [500, 355_000, 355_000, 355_000, 0, 0, 0], None),
-        (
-            HALF,
-            [500, 355_000, 355_000, 355_000, 355_000, 0, 0],
-            bad(2),
-        ),
-        ([500, 710, 710, 0, 0, 100, 13], HALF, bad(1)),
-        ([500, 710, 711, 0, 0, 100, 13], HALF, None),
-        (
-            [4, 10, 10, 0, 0, 0, 0],
-            [5, 10, 10, 0, 0, 0, 0],
-            Some(StrapFault::TooTall),
-        ),
-        ([5, 10, 10, 0, 0, 0, 0], [5, 10, 10, 0, 0, 0, 0], None),
-        (
-            [25_000, 10, 10, 0, 0, 0, 0],
-            [25_000, 10, 10, 0, 0, 0, 0],
-            None,
-        ),
-        (
-            [25_000, 10, 10, 0, 0, 0, 0],
-            [25_001, 10, 10, 0, 0, 0, 0],
-            Some(StrapFault::TooTall),
-        ),
-    ];
-    for (case, (first, second, want)) in cases.into_iter().enumerate() {
-        assert_eq!(rt;
-            courses_fault(rt.alloc(), first, second)?,
-            want,
-            "case {case}"
-        );
-    }
-    Ok(())
-}
-
-fn deadwood_fault(
-    alloc: Global,
-    low: i64,
-    high: i64,
-    litres: i64,
-) -> Result<Option<StrapFault>, Fail> {
-    let courses = vec![in alloc; course(WHOLE)?]?;
-    let deadwoods = vec![in alloc; deadwood(100, 200, 1)?, deadwood(low, high, litres)?]?;
-    let bottom = vec![in alloc; point(0, 0)?, point(100, 50)?]?;
-    Ok(Strapping::new(courses, deadwoods, bottom).err())
-}
-
-#[test]
-fn deadwoods_are_refused_at_the_first_bad_one(rt: HostRuntime) -> Result<(), Fail> {
-    let cases = [
-        (100, 101, 1, true),
-        (99, 700, 1, false),
-        (200, 200, 1, false),
-        (700, 200, 1, false),
-        (200, 700, 1_000_000_000, true),
-        (200, 700, -1_000_000_000, true),
-        (200, 700, 1_000_000_001, false),
-        (200, 700, -1_000_000_001, false),
-        (200, 700, i64::MIN, false),
-    ];
-    for (low, high, litres, good) in cases {
-        let want = (!good).then_some(StrapFault::BadDeadwood(2));
-        assert_eq!(rt;
-            deadwood_fault(rt.alloc(), low, high, litres)?,
-            want,
-            "{litres} from {low} to {high}"
-        );
-    }
-    Ok(())
-}
-
-fn bottom_fault(alloc: Global, points: [(i64, i64); 3]) -> Result<Option<StrapFault>, Fail> {
-    let [first, second, third] = points;
-    let courses = vec![in alloc; course(WHOLE)?]?;
-    let bottom = vec![in alloc;
-        point(first.0, first.1)?,
-        point(second.0, second.1)?,
-        point(third.0, third.1)?,
-    ]?;
-    Ok(Strapping::new(courses, Vec::new(alloc), bottom).err())
-}
-
-#[test]
-fn bottoms_are_refused_at_the_first_bad_point(rt: HostRuntime) -> Result<(), Fail> {
-    let bad = |number| Some(StrapFault::BadBottom(number));
-    let cases = [
-        ([(0, 0), (100, 50), (200, 50)], None),
-        ([(0, 7), (100, 50), (200, 50)], None),
-        ([(1, 0), (100, 50), (200, 50)], bad(1)),
-        ([(0, -1), (100, 50), (200, 50)], bad(1)),
-        ([(0, 0), (0, 50), (200, 50)], bad(2)),
-        ([(0, 0), (100, 50), (200, 49)], bad(3)),
-        ([(0, 0), (100, 50), (200, 1_000_000_000)], None),
-        ([(0, 0), (100, 50), (200, 1_000_000_001)], bad(3)),
-        ([(0, 0), (100, 50), (1_000, 60)], None),
-        ([(0, 0), (100, 50), (1_001, 60)], Some(StrapFault::TooTall)),
-    ];
-    for (case, (points, want)) in cases.into_iter().enumerate() {
-        assert_eq!(rt; bottom_fault(rt.alloc(), points)?, want, "case {case}");
-    }
-    Ok(())
-}
-
 // Courses of this height, a deadwood to this height from 300 mm on, and a single point of the bottom, at this height.
 fn parts_fault(
     alloc: Global,
@@ -302,12 +177,12 @@ fn parts_fault(
 }
 
 #[test]
-fn faults_are_told_in_their_order(rt: HostRuntime) -> Result<(), Fail> {
+fn faults_are_reported_in_their_order(rt: HostRuntime) -> Result<(), Fail> {
     let alloc = rt.alloc();
     let none = Strapping::new(Vec::new(alloc), Vec::new(alloc), Vec::new(alloc));
     assert_eq!(rt; none.err(), shared(Some(StrapFault::NoCourse)));
     let no_points = Strapping::new(
-        vec![in alloc; course(HALF)?]?,
+        vec![in alloc; course([500, 10, 10, 0, 0, 0, 0])?]?,
         Vec::new(alloc),
         Vec::new(alloc),
     );
@@ -326,7 +201,30 @@ fn faults_are_told_in_their_order(rt: HostRuntime) -> Result<(), Fail> {
 }
 
 #[test]
-fn a_fault_tells_its_number(rt: HostRuntime) -> Result<(), Fail> {
+fn limits_of_a_tank(rt: HostRuntime) -> Result<(), Fail> {
+    let alloc = rt.alloc();
+    let cases = [
+        ([4, 5], 1, Some(StrapFault::TooTall)),
+        ([5, 5], 1, None),
+        ([25_000, 25_000], 1, None),
+        ([25_000, 25_001], 1, Some(StrapFault::TooTall)),
+        ([500, 500], 1_000_000_000, None),
+        ([500, 500], 1_000_000_001, Some(StrapFault::BadDeadwood(1))),
+    ];
+    for ([first, second], litres, want) in cases {
+        let courses = vec![in alloc;
+            course([first, 10, 10, 0, 0, 0, 0])?,
+            course([second, 10, 10, 0, 0, 0, 0])?,
+        ]?;
+        let deadwoods = vec![in alloc; deadwood(0, 1, litres)?]?;
+        let fault = Strapping::new(courses, deadwoods, flat_bottom(alloc)?).err();
+        assert_eq!(rt; fault, want, "{first} and {second} mm, {litres} litres");
+    }
+    Ok(())
+}
+
+#[test]
+fn a_fault_has_its_number_in_its_text(rt: HostRuntime) -> Result<(), Fail> {
     let alloc = rt.alloc();
     let course = format!(in alloc; "{}", StrapFault::BadCourse(2))?;
     assert_eq!(rt; course.as_str(), "course 2 has no height or no inside");

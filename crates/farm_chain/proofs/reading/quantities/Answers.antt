@@ -6,70 +6,70 @@ use Rattle.farm_fixed.specs.declared.records.ChainRule.{ChainRule}
 use Rattle.farm_rounding.specs.Table.{Row}
 use Rattle.farm_vcf.specs.Grid.{Grid}
 use Rattle.strap_table.specs.declared.tank.TankSpec.{TankSpec}
-use Rattle.farm_chain.specs.Figures.{calculated_figures}
-use Rattle.farm_chain.specs.Quantities.{calculated_quantities, total_observed, free_water, correction_factor, floating_mass}
+use Rattle.farm_chain.specs.Volumes.{calculated_figures}
+use Rattle.farm_chain.specs.Reading.{calculated_quantities, total_observed, free_water, correction_factor, floating_mass}
 use Rattle.farm_chain.proofs.reading.quantities.Goals as goal
 
--- a refusal of the total is told first
-of_no_total : (rounds : List Row) (tank : TankSpec) (table : List ℤ) (vcf : Grid) (reading : Reading) (sample : Sample) (refusal : ChainRule) →
-    Err refusal ≡ total_observed rounds table reading → Err refusal ≡ calculated_quantities rounds tank table vcf reading sample
+-- a refusal of the total comes first
+of_no_total : (rounding : List Row) (tank : TankSpec) (table : List ℤ) (vcf : Grid) (reading : Reading) (sample : Sample) (refusal : ChainRule) →
+    Err refusal ≡ total_observed rounding table reading → Err refusal ≡ calculated_quantities rounding tank table vcf reading sample
 unfolding calculated_quantities
-of_no_total rounds tank table vcf reading sample refusal total_is = rw (← total_is)
+of_no_total rounding tank table vcf reading sample refusal total_is = rw (← total_is)
 
 -- then one of the water
-of_no_water : (rounds : List Row) (tank : TankSpec) (table : List ℤ) (vcf : Grid) (reading : Reading) (sample : Sample) (tov : ℤ) (refusal : ChainRule) →
-    Ok tov ≡ total_observed rounds table reading → Err refusal ≡ free_water rounds table reading →
-    Err refusal ≡ calculated_quantities rounds tank table vcf reading sample
+of_no_water : (rounding : List Row) (tank : TankSpec) (table : List ℤ) (vcf : Grid) (reading : Reading) (sample : Sample) (tov : ℤ) (refusal : ChainRule) →
+    Ok tov ≡ total_observed rounding table reading → Err refusal ≡ free_water rounding table reading →
+    Err refusal ≡ calculated_quantities rounding tank table vcf reading sample
 unfolding calculated_quantities
-of_no_water rounds tank table vcf reading sample tov refusal total_is water_is = rw (← total_is, ← water_is)
+of_no_water rounding tank table vcf reading sample tov refusal total_is water_is = rw (← total_is, ← water_is)
 
 -- then one of the factor
-of_no_factor : (rounds : List Row) (tank : TankSpec) (table : List ℤ) (vcf : Grid) (reading : Reading) (sample : Sample) (tov fw : ℤ) (refusal : ChainRule) →
-    Ok tov ≡ total_observed rounds table reading → Ok fw ≡ free_water rounds table reading →
-    Err refusal ≡ correction_factor rounds vcf reading sample → Err refusal ≡ calculated_quantities rounds tank table vcf reading sample
+of_no_factor : (rounding : List Row) (tank : TankSpec) (table : List ℤ) (vcf : Grid) (reading : Reading) (sample : Sample) (tov fw : ℤ) (refusal : ChainRule) →
+    Ok tov ≡ total_observed rounding table reading → Ok fw ≡ free_water rounding table reading →
+    Err refusal ≡ correction_factor rounding vcf reading sample → Err refusal ≡ calculated_quantities rounding tank table vcf reading sample
 unfolding calculated_quantities
-of_no_factor rounds tank table vcf reading sample tov fw refusal total_is water_is factor_is = rw (← total_is, ← water_is, ← factor_is)
+of_no_factor rounding tank table vcf reading sample tov fw refusal total_is water_is factor_is = rw (← total_is, ← water_is, ← factor_is)
 
 -- then one of the roof
-of_no_floating : (rounds : List Row) (tank : TankSpec) (table : List ℤ) (vcf : Grid) (reading : Reading) (sample : Sample) (tov fw factor : ℤ) (refusal : ChainRule) →
-    Ok tov ≡ total_observed rounds table reading → Ok fw ≡ free_water rounds table reading →
-    Ok factor ≡ correction_factor rounds vcf reading sample → Err refusal ≡ floating_mass tank.roof reading.level →
-    Err refusal ≡ calculated_quantities rounds tank table vcf reading sample
+of_no_floating : (rounding : List Row) (tank : TankSpec) (table : List ℤ) (vcf : Grid) (reading : Reading) (sample : Sample) (tov fw factor : ℤ) (refusal : ChainRule) →
+    Ok tov ≡ total_observed rounding table reading → Ok fw ≡ free_water rounding table reading →
+    Ok factor ≡ correction_factor rounding vcf reading sample → Err refusal ≡ floating_mass tank.roof reading.level →
+    Err refusal ≡ calculated_quantities rounding tank table vcf reading sample
 unfolding calculated_quantities
-of_no_floating rounds tank table vcf reading sample tov fw factor refusal total_is water_is factor_is floating_is =
+of_no_floating rounding tank table vcf reading sample tov fw factor refusal total_is water_is factor_is floating_is =
     rw (← total_is, ← water_is, ← factor_is, ← floating_is)
 
 -- and with none of these the figures decide
-of_figures : (rounds : List Row) (tank : TankSpec) (table : List ℤ) (vcf : Grid) (reading : Reading) (sample : Sample) (tov fw factor floating : ℤ)
+of_figures : (rounding : List Row) (tank : TankSpec) (table : List ℤ) (vcf : Grid) (reading : Reading) (sample : Sample) (tov fw factor floating : ℤ)
     (answer : Result Quantities ChainRule) →
-    Ok tov ≡ total_observed rounds table reading → Ok fw ≡ free_water rounds table reading →
-    Ok factor ≡ correction_factor rounds vcf reading sample → Ok floating ≡ floating_mass tank.roof reading.level →
-    answer ≡ calculated_figures rounds tov fw tank.shell reading.liquid reading.ambient floating sample factor →
-    answer ≡ calculated_quantities rounds tank table vcf reading sample
+    Ok tov ≡ total_observed rounding table reading → Ok fw ≡ free_water rounding table reading →
+    Ok factor ≡ correction_factor rounding vcf reading sample → Ok floating ≡ floating_mass tank.roof reading.level →
+    answer ≡ calculated_figures rounding tov fw tank.shell reading.liquid reading.ambient floating sample factor →
+    answer ≡ calculated_quantities rounding tank table vcf reading sample
 unfolding calculated_quantities
-of_figures rounds tank table vcf reading sample tov fw factor floating answer total_is water_is factor_is floating_is answer_is =
+of_figures rounding tank table vcf reading sample tov fw factor floating answer total_is water_is factor_is floating_is answer_is =
     rw (← total_is, ← water_is, ← factor_is, ← floating_is) answer_is
 
 pub returns-in_err-tov : goal.returns-in_err-tov
 returns-in_err-tov c =
     let refused : Err c.in_err-tov.field-0.0 ≡ total_observed c.args.rounds.now c.args.table.now c.args.reading.now = sym c.in_err-tov.was ∙ c.total_observed.ensures.value in
-    let told : c.from_residual.result ≡ Err c.in_err-tov.field-0.0 = search rules in
-    told ∙ of_no_total c.args.rounds.now c.args.tank.now c.args.table.now c.args.vcf.now c.args.reading.now c.args.sample.now c.in_err-tov.field-0.0 refused
+    let refusal_is : c.from_residual.result ≡ Err c.in_err-tov.field-0.0 = search rules in
+    refusal_is ∙ of_no_total c.args.rounds.now c.args.tank.now c.args.table.now c.args.vcf.now c.args.reading.now c.args.sample.now c.in_err-tov.field-0.0 refused
 
 pub returns-in_err-fw : goal.returns-in_err-fw
 returns-in_err-fw c =
     let tov_is : Ok c.in_ok-tov.tov ≡ total_observed c.args.rounds.now c.args.table.now c.args.reading.now = sym c.in_ok-tov.was ∙ c.total_observed.ensures.value in
     let refused : Err c.in_err-fw.field-0.0 ≡ free_water c.args.rounds.now c.args.table.now c.args.reading.now = sym c.in_err-fw.was ∙ c.free_water.ensures.value in
-    let told : c.from_residual-in_err-fw.result ≡ Err c.in_err-fw.field-0.0 = search rules in
-    told ∙ of_no_water c.args.rounds.now c.args.tank.now c.args.table.now c.args.vcf.now c.args.reading.now c.args.sample.now c.in_ok-tov.tov c.in_err-fw.field-0.0 tov_is refused
+    let refusal_is : c.from_residual-in_err-fw.result ≡ Err c.in_err-fw.field-0.0 = search rules in
+    refusal_is ∙ of_no_water c.args.rounds.now c.args.tank.now c.args.table.now c.args.vcf.now c.args.reading.now c.args.sample.now c.in_ok-tov.tov c.in_err-fw.field-0.0 tov_is refused
 
 pub returns-in_err-factor : goal.returns-in_err-factor
 returns-in_err-factor c =
     let tov_is : Ok c.in_ok-tov.tov ≡ total_observed c.args.rounds.now c.args.table.now c.args.reading.now = sym c.in_ok-tov.was ∙ c.total_observed.ensures.value in
     let fw_is : Ok c.in_ok-fw.fw ≡ free_water c.args.rounds.now c.args.table.now c.args.reading.now = sym c.in_ok-fw.was ∙ c.free_water.ensures.value in
     let refused : Err c.in_err-factor.field-0.0 ≡ correction_factor c.args.rounds.now c.args.vcf.now c.args.reading.now c.args.sample.now = sym c.in_err-factor.was ∙ c.correction_factor.ensures in
-    let told : c.from_residual-in_err-factor.result ≡ Err c.in_err-factor.field-0.0 = search rules in
-    told ∙ of_no_factor c.args.rounds.now c.args.tank.now c.args.table.now c.args.vcf.now c.args.reading.now c.args.sample.now c.in_ok-tov.tov c.in_ok-fw.fw c.in_err-factor.field-0.0 tov_is fw_is refused
+    let refusal_is : c.from_residual-in_err-factor.result ≡ Err c.in_err-factor.field-0.0 = search rules in
+    refusal_is ∙ of_no_factor c.args.rounds.now c.args.tank.now c.args.table.now c.args.vcf.now c.args.reading.now c.args.sample.now c.in_ok-tov.tov c.in_ok-fw.fw c.in_err-factor.field-0.0 tov_is fw_is refused
 
 pub returns-in_err-floating : goal.returns-in_err-floating
 returns-in_err-floating c =
@@ -77,8 +77,8 @@ returns-in_err-floating c =
     let fw_is : Ok c.in_ok-fw.fw ≡ free_water c.args.rounds.now c.args.table.now c.args.reading.now = sym c.in_ok-fw.was ∙ c.free_water.ensures.value in
     let factor_is : Ok c.in_ok-factor.factor ≡ correction_factor c.args.rounds.now c.args.vcf.now c.args.reading.now c.args.sample.now = sym c.in_ok-factor.was ∙ c.correction_factor.ensures in
     let refused : Err c.in_err-floating.field-0.0 ≡ floating_mass c.args.tank.now.roof c.args.reading.now.level = sym c.in_err-floating.was ∙ c.floating_mass.ensures.value in
-    let told : c.from_residual-in_err-floating.result ≡ Err c.in_err-floating.field-0.0 = search rules in
-    told ∙ of_no_floating c.args.rounds.now c.args.tank.now c.args.table.now c.args.vcf.now c.args.reading.now c.args.sample.now c.in_ok-tov.tov c.in_ok-fw.fw c.in_ok-factor.factor c.in_err-floating.field-0.0 tov_is fw_is factor_is refused
+    let refusal_is : c.from_residual-in_err-floating.result ≡ Err c.in_err-floating.field-0.0 = search rules in
+    refusal_is ∙ of_no_floating c.args.rounds.now c.args.tank.now c.args.table.now c.args.vcf.now c.args.reading.now c.args.sample.now c.in_ok-tov.tov c.in_ok-fw.fw c.in_ok-factor.factor c.in_err-floating.field-0.0 tov_is fw_is factor_is refused
 
 pub returns : goal.returns
 returns c =

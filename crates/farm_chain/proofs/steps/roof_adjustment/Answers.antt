@@ -1,23 +1,24 @@
 use Rattle.std.proofs.Common.{◌≡◌, ◌^◌, false, List, ℤ, pos, neg_ℤ, ◌*ℤ◌, ap, ◌∙◌, rules}
 use Rattle.std.specs.Int.RustNames.{unsigned_abs}
 use Rattle.std.specs.Ordering.{int_eq}
-use Rattle.farm_rounding.specs.Table.{Row}
-use Rattle.farm_chain.specs.Figures.{roof_adjustment, rounded}
+use Rattle.farm_rounding.specs.Table.{Row, rounded}
+use Rattle.farm_rounding.specs.declared.table.TheConstants.{ROOF_ADJUSTMENT}
+use Rattle.farm_chain.specs.Steps.{roof_adjustment}
 use Rattle.farm_chain.proofs.steps.roof_adjustment.Goals as goal
 
 -- what the body computes for a roof
-of_a_roof : (rounds : List Row) (floating density vcf mass observed share answer : ℤ) →
+of_a_roof : (rounding : List Row) (floating density vcf mass observed share answer : ℤ) →
     int_eq floating (pos 0) ≡ false → mass ≡ floating *ℤ pos (10 ^ 9) → observed ≡ density *ℤ vcf →
-    share ≡ rounded rounds 8 mass (unsigned_abs observed) → answer ≡ neg_ℤ share →
-    answer ≡ roof_adjustment rounds floating density vcf
+    share ≡ rounded rounding ROOF_ADJUSTMENT mass (unsigned_abs observed) → answer ≡ neg_ℤ share →
+    answer ≡ roof_adjustment rounding floating density vcf
 unfolding roof_adjustment
-of_a_roof rounds floating density vcf mass observed share answer roof mass_is observed_is share_is answer_is =
-    rw roof (answer_is ∙ ap neg_ℤ (share_is ∙ ap (λ m. rounded rounds 8 m (unsigned_abs observed)) mass_is ∙ ap (λ d. rounded rounds 8 (floating *ℤ pos (10 ^ 9)) (unsigned_abs d)) observed_is))
+of_a_roof rounding floating density vcf mass observed share answer roof mass_is observed_is share_is answer_is =
+    rw roof (answer_is ∙ ap neg_ℤ (share_is ∙ ap (λ m. rounded rounding ROOF_ADJUSTMENT m (unsigned_abs observed)) mass_is ∙ ap (λ d. rounded rounding ROOF_ADJUSTMENT (floating *ℤ pos (10 ^ 9)) (unsigned_abs d)) observed_is))
 
 pub returns-clause-value : goal.returns-clause-value
 returns-clause-value c =
     let mass = c.product-mass.ensures.value in
     let observed = c.product-observed.ensures.value in
-    let share = c.rounded.ensures.value in
-    of_a_roof c.args.rounds.now c.args.floating c.args.density c.args.vcf c.product-mass.result c.product-observed.result c.rounded.result c.litres-2.result
+    let share = c.round.ensures.value in
+    of_a_roof c.args.rounding.now c.args.floating c.args.density c.args.vcf c.product-mass.result c.product-observed.result c.round.result c.litres-2.result
     (search rules) (search rules) (search rules) (search rules) (search rules)

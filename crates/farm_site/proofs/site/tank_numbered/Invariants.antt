@@ -1,7 +1,7 @@
 use Rattle.std.proofs.Common.{◌≡◌, drop, map}
 use Rattle.farm_site.specs.Described.{tank_numbered}
-use Rattle.farm_site.specs.Lists.{is_among}
-use Rattle.farm_site.specs.Tanks.{tank_number}
+use Rattle.site_keys.specs.Lists.{is_among}
+use Rattle.site_items.specs.Tanks.{tank_number}
 use Rattle.farm_site.proofs.site.tank_numbered.Given as goal
 
 abbrev pub invariant-loop-tank : goal.invariant-loop-tank

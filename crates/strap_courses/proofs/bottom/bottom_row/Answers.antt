@@ -3,9 +3,9 @@ use Rattle.std.specs.Int.{w128}
 use Rattle.std.proofs.lemmas.Int.{to_z-of_z}
 use Rattle.std.proofs.lemmas.List.{get_or_default}
 use Rattle.std.specs.Int.RustNames.{unsigned_abs}
-use Rattle.farm_rounding.specs.Table.{row_at}
+use Rattle.farm_rounding.specs.declared.table.TheConstants.{STRAPPED_ROW}
 use Rattle.strap_courses.specs.Courses.{Fraction, Point, bottom_volume, last_point, over}
-use Rattle.strap_courses.specs.Rows.{rounded}
+use Rattle.strap_courses.specs.Rows.{rounded_litres}
 use Rattle.strap_courses.proofs.Segments.{at_the_last, below_point, past_point}
 use Rattle.strap_courses.proofs.Points.{point_after, some_point}
 use Rattle.strap_courses.proofs.bottom.bottom_row.Goals as goal
@@ -36,7 +36,7 @@ returns-then-height-millimetres-clause-value c =
     let volume = below_point bottom low high c.loop-i.i c.args.height c.loop-i.auto.i c.loop-i-test.true c.index-bottom-i-then-height-millimetres.is high_is
     (omega (arith, size, c.if-height-millimetres.true)) in
     to_z-of_z w128 c.row_between.result (search rules) ∙ c.row_between.ensures.value
-    ∙ ap (λ (volume : Fraction). rounded (row_at c.args.rounds.now 3) volume) (sym volume ∙ c.loop-i.invariant)
+    ∙ ap (λ (volume : Fraction). rounded_litres c.args.rounding.now STRAPPED_ROW volume) (sym volume ∙ c.loop-i.invariant)
 
 pub loop-i-preserved : goal.loop-i-preserved
 loop-i-preserved c =
@@ -58,6 +58,6 @@ returns-clause-value c =
     let P : ℕ → Type 0 = λ k. bottom_volume (drop (k - 1) bottom) c.args.height ≡ bottom_volume bottom c.args.height in
     let all : c.loop-i.i ≡ length bottom = omega (arith, some, c.loop-i.auto.i-end, c.loop-i-test.false) in
     let volume = sym (at_the_last bottom c.args.height some) ∙ subst P all c.loop-i.invariant in
-    to_z-of_z w128 c.rounded.result (search rules) ∙ c.rounded.ensures.value
-    ∙ ap (λ (litres : ℤ). rounded (row_at c.args.rounds.now 3) (over litres 1)) whole
-    ∙ ap (λ (volume : Fraction). rounded (row_at c.args.rounds.now 3) volume) volume
+    to_z-of_z w128 c.round.result (search rules) ∙ c.round.ensures.value
+    ∙ ap (λ (litres : ℤ). rounded_litres c.args.rounding.now STRAPPED_ROW (over litres 1)) whole
+    ∙ ap (λ (volume : Fraction). rounded_litres c.args.rounding.now STRAPPED_ROW volume) volume

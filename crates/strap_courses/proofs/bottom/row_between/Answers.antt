@@ -2,7 +2,7 @@ use Rattle.std.proofs.Common.{rules, arith, ◌≡◌, ◌≤◌, ◌*◌, ◌^�
 use Rattle.std.specs.Int.{w128}
 use Rattle.std.proofs.lemmas.Int.{ints, to_z-of_z}
 use Rattle.std.specs.Int.RustNames.{unsigned_abs}
-use Rattle.farm_rounding.specs.Table.{row_at}
+use Rattle.farm_rounding.specs.declared.table.TheConstants.{STRAPPED_ROW}
 use Rattle.strap_courses.proofs.Segments.{of_two_points}
 use Rattle.strap_courses.proofs.bottom.row_between.Goals as goal
 
@@ -29,6 +29,6 @@ returns-clause-value c =
     let height : to_z w64 c.args.height ≡ pos c.args.height = omega (arith, ints) in
     let low = to_z-of_z w64 c.get-3.result (search rules) in
     let above_low : c.difference-over.result ≡ pos c.args.height -ℤ c.args.low.0 = cc (c.difference-over.ensures.value, c.get-3.ensures.value) in
-    of_two_points (row_at c.args.rounds.now 3) c.args.low c.args.high c.args.height
-    c.difference-rise.result c.difference-over.result c.difference.result c.product-below.result c.product-above.result c.sum.result c.from.result (to_z w128 (of_z w128 c.rounded.result))
+    of_two_points c.args.rounding.now STRAPPED_ROW c.args.low c.args.high c.args.height
+    c.difference-rise.result c.difference-over.result c.difference.result c.product-below.result c.product-above.result c.sum.result c.from.result (to_z w128 (of_z w128 c.round.result))
     (search rules) above_low (search rules) (search rules) (search rules) (search rules) (search rules) (search rules)

@@ -5,6 +5,7 @@ use Rattle.std.proofs.lemmas.Int.{to_z-of_z}
 use Rattle.farm_fixed.specs.Range.{IsWithin}
 use Rattle.strap_courses.specs.Faults.{reported}
 use Rattle.strap_courses.specs.Rows.{first_wrong, rows_from, strapped_row, wrong_row}
+use Rattle.strap_courses.proofs.FirstRow.{row_reported_is}
 use Rattle.strap_courses.proofs.Table.{reported_at, right_at, right_to_the_end, row_pushed, strapped_table}
 use Rattle.strap_courses.proofs.strapping.Strapping.rows.Goals as goal
 
@@ -17,6 +18,9 @@ returns-in-Some-clause-value c =
     let row_is : to_z w128 (of_z w128 c.row-row.result) ≡ strapped_row rounds tank i = to_z-of_z w128 c.row-row.result (search rules) ∙ c.row-row.ensures in
     let wrong : wrong_row i before (strapped_row rounds tank i) ≡ reported c.in-Some.fault = sym (ap (λ row. wrong_row i before row) row_is) ∙ c.in-Some.ensures.value in
     reported_at rounds tank i c.row_count-count.result before (reported c.in-Some.fault) c.loop-i-test.true c.row_count-count.ensures.value c.loop-i.invariant.right wrong
+
+pub returns-in-Some-clause-first_wrong_row : goal.returns-in-Some-clause-first_wrong_row
+returns-in-Some-clause-first_wrong_row c = row_reported_is c.args.rounds.now c.args.self.now (reported c.in-Some.fault) (returns-in-Some-clause-value c)
 
 pub loop-i-preserved : goal.loop-i-preserved
 loop-i-preserved c =

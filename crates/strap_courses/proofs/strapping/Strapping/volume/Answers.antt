@@ -1,11 +1,11 @@
 use Rattle.std.proofs.Common.{◌≡◌, ◌≤◌, List, None, pos, to_z, of_z, ◌+ℤ◌, sym, subst, ap, ◌∙◌, rules, arith}
 use Rattle.std.specs.Int.{w128}
 use Rattle.std.proofs.lemmas.Int.{ints, to_z-of_z}
-use Rattle.farm_rounding.specs.Table.{row_at}
+use Rattle.farm_rounding.specs.declared.table.TheConstants.{STRAPPED_ROW}
 use Rattle.strap_courses.specs.declared.parts.Course.{Course}
 use Rattle.strap_courses.specs.Courses.{Point, StrappedTank, bottom_height, exact_volume, held_between, height_of, last_point}
 use Rattle.strap_courses.specs.Faults.{bad_point}
-use Rattle.strap_courses.specs.Rows.{rounded}
+use Rattle.strap_courses.specs.Rows.{rounded_litres}
 use Rattle.strap_courses.proofs.Faultless.{faultless}
 use Rattle.strap_courses.proofs.Segments.{of_the_shell}
 use Rattle.strap_courses.proofs.strapping.Strapping.volume.Goals as goal
@@ -35,7 +35,6 @@ pub returns-clause-value : goal.returns-clause-value
 returns-clause-value c =
     let inside = c.self.inside in
     let tank : StrappedTank = record { courses = inside.courses.items; deadwoods = inside.deadwoods.items; bottom = inside.bottom.items } in
-    let row = row_at c.args.rounds.now 3 in
     let top = c.bottom_height-top.result in
     let top_is : top ≡ bottom_height tank.bottom =
     c.bottom_height-top.ensures.value ∙ ap (λ (points : List Point). bottom_height points) c.deref.ensures.value in
@@ -46,7 +45,7 @@ returns-clause-value c =
     let lifted : to_z w128 c.held_between-above.result ≡ pos c.held_between-above.result = omega (arith, ints, c.held_between-above.ensures.size) in
     let below = to_z-of_z w128 c.product-below.result (search rules) in
     let num : c.sum.result ≡ c.product-below.result +ℤ pos c.held_between-above.result = cc (c.sum.ensures.value) in
-    let P : StrappedTank → Type 0 = λ tank. to_z w128 (of_z w128 c.rounded.result) ≡ rounded row (exact_volume tank c.args.height) in
+    let P : StrappedTank → Type 0 = λ tank. to_z w128 (of_z w128 c.round.result) ≡ rounded_litres c.args.rounding.now STRAPPED_ROW (exact_volume tank c.args.height) in
     subst P c.self.view_is
-    (of_the_shell row tank c.args.height top c.held_between-above.result c.whole_bottom.result c.product-below.result c.sum.result c.from.result (to_z w128 (of_z w128 c.rounded.result))
+    (of_the_shell c.args.rounding.now STRAPPED_ROW tank c.args.height top c.held_between-above.result c.whole_bottom.result c.product-below.result c.sum.result c.from.result (to_z w128 (of_z w128 c.round.result))
     c.if-height-top.false top_is whole held (search rules) num (search rules) (search rules))

@@ -1,6 +1,0 @@
-use Rattle.std.proofs.Common.{◌≡◌, drop, map}
-use Rattle.farm_site.specs.Lists.{known}
-use Rattle.farm_site.proofs.numbered.known.Given as goal
-
-abbrev pub invariant-loop-known : goal.invariant-loop-known
-invariant-loop-known g l = known l.item (map g.T.Numbered.numbered (drop l.known-index l.items)) l.value ≡ known l.item (map g.T.Numbered.numbered l.items) l.value

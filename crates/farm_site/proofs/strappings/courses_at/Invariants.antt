@@ -1,8 +1,0 @@
-use Rattle.std.proofs.Common.{◌≡◌, [], drop, map}
-use Rattle.toml.specs.View.{view}
-use Rattle.farm_site.specs.Lists.{read_from}
-use Rattle.farm_site.specs.Strappings.{course_of}
-use Rattle.farm_site.proofs.strappings.courses_at.Given as goal
-
-abbrev pub invariant-loop-table : goal.invariant-loop-table
-invariant-loop-table l = read_from (course_of l.keys.item) l.courses.items (map view (drop l.table-index l.values)) ≡ read_from (course_of l.keys.item) [] (map view l.values)

@@ -1,8 +1,0 @@
-use Rattle.std.proofs.Common.{◌≡◌, [], drop, map}
-use Rattle.toml.specs.View.{view}
-use Rattle.farm_site.specs.Lists.{read_from}
-use Rattle.farm_site.specs.Strappings.{point_of}
-use Rattle.farm_site.proofs.strappings.points_of.Given as goal
-
-abbrev pub invariant-loop-value : goal.invariant-loop-value
-invariant-loop-value l = read_from (point_of l.item) l.points.items (map view (drop l.value-index l.values)) ≡ read_from (point_of l.item) [] (map view l.values)

@@ -1,0 +1,17 @@
+use Rattle.std.proofs.Common.{◌≡◌, ◌+◌, true, List, [], Some, drop, length, map}
+use Rattle.toml.specs.View.{view}
+use Rattle.farm_base.specs.Known.{Stays}
+use Rattle.farm_ports.specs.Folders.{File}
+use Rattle.site_keys.specs.Lists.{are_numbered, numbered_from}
+use Rattle.site_items.specs.Products.{product_number}
+use Rattle.site_items.specs.Tanks.{is_tank, tank_number, tank_of}
+use Rattle.site_items.proofs.tanks.tanks_in.Given as goal
+
+abbrev pub invariant-loop-index : goal.invariant-loop-index
+invariant-loop-index g l = record {
+  read : (files : List File) → g.F.Folder.files l.folder ≡ Some files → numbered_from tank_number (tank_of files l.format l.rounds (map product_number l.products)) (l.index + 1) l.tanks.items (map view (drop l.index l.tables)) ≡ numbered_from tank_number (tank_of files l.format l.rounds (map product_number l.products)) 1 [] (map view l.tables);
+  stays : Stays (g.F.Folder.files l.fn.folder) (g.F.Folder.files l.folder);
+  quiet : g.F.Folder.faults l.folder ≡ g.F.Folder.faults l.fn.folder;
+  count : length l.tanks.items ≡ l.index;
+  sound : are_numbered tank_number (is_tank (map product_number l.products)) l.tanks.items ≡ true;
+}

@@ -1,0 +1,7 @@
+pub mod Formats
+pub mod Names
+pub mod Parties
+pub mod Products
+pub mod Shells
+pub mod Tanks
+pub mod Facts

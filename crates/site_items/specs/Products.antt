@@ -1,0 +1,52 @@
+-- The products of a site, each with its volume correction factors.
+use Rattle.std.specs.Prelude.{ℕ, ◌&&◌, Bool, List, [], map, codes, Result, Ok, Err}
+use Rattle.farm_base.specs.Steps.{◌>>=◌}
+use Rattle.toml.specs.Data.{Data}
+use Rattle.farm_ports.specs.Folders.{File}
+use Rattle.farm_vcf.specs.Grid.{Grid}
+use Rattle.farm_vcf.specs.Records.{vcf_of}
+use Rattle.farm_vcf.specs.Faults.{FactorFault}
+use Rattle.farm_vcf.specs.Faults as factors
+use Rattle.modbus_poll.specs.Maps.{is_between}
+use Rattle.site_keys.specs.declared.codes.TheConstants.{FACTORS, TEXT}
+use Rattle.site_keys.specs.declared.fault.SiteFault.{SiteFault}
+use Rattle.site_items.specs.declared.records.Product.{Product}
+use Rattle.site_keys.specs.Faults.{Refusal, bad, detail, found}
+use Rattle.site_keys.specs.Files.{content}
+use Rattle.site_keys.specs.Keys.{text_at}
+use Rattle.site_keys.specs.declared.lists.TheConstants.{GREATEST_NUMBER}
+use Rattle.site_keys.specs.Lists.{list_at, numbered_from, own_number}
+use Rattle.site_items.specs.declared.products.TheConstants.{MOST_PRODUCTS}
+use Rattle.site_items.specs.Names.{is_name, name_at}
+
+-- the number of a product
+abbrev pub product_number : Product → ℕ
+product_number product = product.number
+
+-- a product has a number and a name; its factors are a grid by their own type
+abbrev pub is_product : Product → Bool
+is_product product = is_between 1 GREATEST_NUMBER product.number && is_name product.name
+
+-- why a factor file is none
+abbrev pub factors_read : ℕ → Result Grid FactorFault → Result Grid SiteFault
+factors_read item (Ok grid) = Ok grid
+factors_read item (Err factors.Csv) = bad TEXT item 0
+factors_read item (Err (factors.BadField row)) = bad FACTORS item (detail row)
+factors_read item (Err factors.TooMany) = bad FACTORS item 0
+factors_read item (Err (factors.NotGrid row)) = bad FACTORS item (detail row)
+
+-- a product of a table, after others
+unfoldable pub product_of : List File → List Product → ℕ → Data → Result Product Refusal
+product_of files earlier item keys = do
+  number ← found (own_number (map product_number earlier) item keys)
+  name ← found (name_at item keys)
+  file ← found (text_at item keys (codes "factors"))
+  bytes ← content files item file
+  grid ← found (factors_read item (vcf_of bytes))
+  Ok (record { number = number; name = name; vcf = grid })
+
+-- the products, from 1 to 16
+unfoldable pub products_of : List File → Data → Result (List Product) Refusal
+products_of files top = do
+  tables ← found (list_at 1 MOST_PRODUCTS 0 top (codes "product"))
+  numbered_from product_number (product_of files) 1 [] tables

@@ -1,0 +1,105 @@
+//! What is fixed of a tank: its shell, its reference height and its roof.
+
+ghost use Rattle.std.specs.Prelude.{◌≡◌, pos, IfOk, IsTrue, Some};
+ghost use Rattle.toml.specs.View.{view};
+ghost use Rattle.farm_fixed.specs.Range.{IsWithin};
+ghost use Rattle.site_items.specs.Shells.{floating_at, is_roof, is_spec, roof_at, roof_of_three, shell_at, shell_kind, spec_at};
+
+use crate::Format;
+use farm_fixed::{HundredthDegree, Kg, Mm, Shell};
+use site_keys::{Keys, RANGE, SiteFault, bad};
+use strap_table::{Roof, TankSpec};
+
+/// A height is at most this many mm.
+const HIGHEST: i64 = 50_000;
+
+/// A shell's coefficient is at most this many 0.0000001 per C.
+const GREATEST_COEFFICIENT: i64 = 1_000;
+
+/// A roof has at most this many kg.
+const HEAVIEST_ROOF: i64 = 10_000_000;
+
+/// What is fixed of a tank.
+#[tactic(auto, unfolding(crate::specs::Shells::spec_at))]
+pub fn spec_at(format: Format, keys: &Keys<'_>) -> Result<TankSpec, SiteFault>
+    ensures spec { result ≡ spec_at format keys.now.item (view keys.now.table.now) }
+    ensures sound { IfOk result (λ spec. IsTrue (is_spec spec)) }
+{
+    let shell = shell_at(keys)?;
+    let height = keys.whole("reference_height", 1, HIGHEST)?;
+    let roof = roof_at(format, keys)?;
+    Ok(TankSpec {
+        shell,
+        height: Mm::new(height).unwrap(),
+        roof,
+    })
+}
+
+// The shell.
+#[tactic(auto, unfolding(crate::specs::Shells::shell_at))]
+fn shell_at(keys: &Keys<'_>) -> Result<Shell, SiteFault>
+    ensures shell { result ≡ shell_at keys.now.item (view keys.now.table.now) }
+    ensures range { IfOk result (λ shell. IsWithin (pos 0) GREATEST_COEFFICIENT shell.coefficient) }
+{
+    let kind = keys.text("shell")?;
+    let insulated = shell_kind(keys.item, kind)?;
+    let coefficient = keys.whole("coefficient", 0, GREATEST_COEFFICIENT)?;
+    let reference = keys.quantity::<HundredthDegree>("reference_temperature")?;
+    Ok(Shell {
+        insulated,
+        coefficient,
+        reference,
+    })
+}
+
+// Whether a shell is insulated.
+fn shell_kind(item: u32, text: &str) -> Result<bool, SiteFault>
+    ensures insulated { result ≡ shell_kind item text.now }
+{
+    match text {
+        "bare" => Ok(false),
+        "insulated" => Ok(true),
+        _ => Err(bad(RANGE, item)),
+    }
+}
+
+// The roof, by the keys that the format has for one.
+fn roof_at(format: Format, keys: &Keys<'_>) -> Result<Option<Roof>, SiteFault>
+    ensures roof { result ≡ roof_at format keys.now.item (view keys.now.table.now) }
+    ensures sound { IfOk result (λ roof. IsTrue (is_roof roof)) }
+{
+    match format {
+        Format::One => roof_of_three(keys),
+    }
+}
+
+// The roof: a tank has all three keys of one, or none.
+#[tactic(auto, unfolding(crate::specs::Shells::roof_of_three))]
+fn roof_of_three(keys: &Keys<'_>) -> Result<Option<Roof>, SiteFault>
+    ensures roof { result ≡ roof_of_three keys.now.item (view keys.now.table.now) }
+    ensures sound { IfOk result (λ roof. IsTrue (is_roof roof)) }
+{
+    if keys.has("roof_kg") || keys.has("roof_low") || keys.has("roof_high") {
+        return Ok(Some(floating_at(keys)?));
+    }
+    Ok(None)
+}
+
+// The floating roof, once there is one.
+#[tactic(auto, unfolding(crate::specs::Shells::floating_at))]
+fn floating_at(keys: &Keys<'_>) -> Result<Roof, SiteFault>
+    ensures roof { result ≡ floating_at keys.now.item (view keys.now.table.now) }
+    ensures sound { IfOk result (λ roof. IsTrue (is_roof (Some roof))) }
+{
+    let mass = keys.whole("roof_kg", 1, HEAVIEST_ROOF)?;
+    let low = keys.whole("roof_low", 0, HIGHEST)?;
+    let high = keys.whole("roof_high", 0, HIGHEST)?;
+    if high < low {
+        return Err(bad(RANGE, keys.item));
+    }
+    Ok(Roof {
+        mass: Kg::new(mass).unwrap(),
+        low: Mm::new(low).unwrap(),
+        high: Mm::new(high).unwrap(),
+    })
+}

@@ -1,0 +1,5 @@
+pub mod Arrays
+pub mod Contents
+pub mod PlacedFacts
+pub mod Steps
+pub mod Kept

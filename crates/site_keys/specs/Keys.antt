@@ -1,0 +1,74 @@
+-- The values of a table of TOML, each by its key. A fault names the item that the table is.
+use Rattle.std.specs.Prelude.{ℕ, Bool, true, false, List, [], ◌∷◌, Option, Some, None, Result, Ok, Err, ℤ, pos, if◌then◌else◌, option_and_then}
+use Rattle.std.specs.Int.RustNames.{unsigned_abs}
+use Rattle.toml.specs.Data.{Data, Items, get, as_array, as_integer, as_str}
+use Rattle.farm_base.specs.Steps.{◌>>=◌}
+use Rattle.farm_fixed.specs.declared.fault.ReadFault.{ReadFault}
+use Rattle.farm_fixed.specs.declared.fault.ReadFault.TheVariants as reading
+use Rattle.farm_fixed.specs.Range.{is_within}
+use Rattle.farm_fixed.specs.Parsing.{quantity_of}
+use Rattle.site_keys.specs.declared.fault.SiteFault.{SiteFault}
+use Rattle.site_keys.specs.declared.codes.TheConstants.{FIELD, RANGE}
+use Rattle.site_keys.specs.Faults.{bad, needed, ranged}
+
+-- there is something
+abbrev pub is_some : {A : Type 0} → Option A → Bool
+is_some None = false
+is_some (Some value) = true
+
+-- the table has the key
+abbrev pub has : Data → List ℕ → Bool
+has keys key = is_some (get key keys)
+
+-- a whole number
+unfoldable pub integer_at : ℕ → Data → List ℕ → Result ℤ SiteFault
+integer_at item keys key = needed item (option_and_then as_integer (get key keys))
+
+-- a whole number in a range
+unfoldable pub whole_at : ℕ → Data → List ℕ → ℤ → ℤ → Result ℤ SiteFault
+whole_at item keys key least most = do
+  value ← integer_at item keys key
+  ranged item (is_within least most value) value
+
+-- a whole number in a range from 0 or more
+unfoldable pub natural_at : ℕ → Data → List ℕ → ℕ → ℕ → Result ℕ SiteFault
+natural_at item keys key least most = do
+  value ← whole_at item keys key (pos least) (pos most)
+  Ok (unsigned_abs value)
+
+-- a whole number in a range from 0 or more; where it is missing, the default
+unfoldable pub natural_or : ℕ → ℕ → Data → List ℕ → ℕ → ℕ → Result ℕ SiteFault
+natural_or default item keys key least most = if has keys key then natural_at item keys key least most else Ok default
+
+-- a text
+unfoldable pub text_at : ℕ → Data → List ℕ → Result (List ℕ) SiteFault
+text_at item keys key = needed item (option_and_then as_str (get key keys))
+
+-- a decimal text: outside its range, or none in its form
+abbrev pub decimal_read : ℕ → Result ℤ ReadFault → Result ℤ SiteFault
+decimal_read item (Ok value) = Ok value
+decimal_read item (Err reading.OutOfRange) = bad RANGE item 0
+decimal_read item (Err reading.Empty) = bad FIELD item 0
+decimal_read item (Err (reading.BadByte offset)) = bad FIELD item 0
+decimal_read item (Err reading.TooFine) = bad FIELD item 0
+
+-- a quantity of so many decimals and this range
+unfoldable pub quantity_at : ℕ → ℤ → ℤ → ℕ → Data → List ℕ → Result ℤ SiteFault
+quantity_at places least most item keys key = do
+  text ← text_at item keys key
+  decimal_read item (quantity_of places least most text)
+
+-- the values of an array
+abbrev pub values_of : Items → List Data
+values_of Items.no_items = []
+values_of (Items.item value values) = value ∷ values_of values
+
+-- an array, by its values
+unfoldable pub array_at : ℕ → Data → List ℕ → Result (List Data) SiteFault
+array_at item keys key = do
+  values ← needed item (option_and_then as_array (get key keys))
+  Ok (values_of values)
+
+-- an array, by its values; where it is missing, no values
+unfoldable pub array_or_none : ℕ → Data → List ℕ → Result (List Data) SiteFault
+array_or_none item keys key = if has keys key then array_at item keys key else Ok []

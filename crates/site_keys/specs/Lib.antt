@@ -1,0 +1,5 @@
+pub mod Faults
+pub mod Keys
+pub mod Lists
+pub mod Texts
+pub mod Files

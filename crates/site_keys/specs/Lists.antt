@@ -1,0 +1,79 @@
+-- Lists of tables: their lengths, items of their own number, and items one after another.
+use Rattle.std.specs.Prelude.{ℕ, ◌+◌, ◌==◌, ◌&&◌, Bool, true, nat_lt, if◌then◌else◌, List, [], ◌∷◌, ◌++◌, length, map, take, drop, codes, Result, Ok, ℤ, pos}
+use Rattle.std.specs.Int.RustNames.{unsigned_abs}
+use Rattle.std.specs.List.{list_all, list_any}
+use Rattle.std.specs.Ordering.{int_eq}
+use Rattle.toml.specs.Data.{Data}
+use Rattle.modbus_poll.specs.Maps.{is_between}
+use Rattle.farm_base.specs.Steps.{◌>>=◌}
+use Rattle.site_keys.specs.declared.codes.TheConstants.{REPEATED, TOO_MANY, UNKNOWN}
+use Rattle.site_keys.specs.declared.fault.SiteFault.{SiteFault}
+use Rattle.site_keys.specs.declared.lists.TheConstants.{GREATEST_NUMBER}
+use Rattle.site_keys.specs.Faults.{bad}
+use Rattle.site_keys.specs.Keys.{array_or_none, integer_at, natural_at}
+
+-- the values of a list of the site file, of which there are at least and at most so many; none where the list is missing
+unfoldable pub list_at : ℕ → ℕ → ℕ → Data → List ℕ → Result (List Data) SiteFault
+list_at least most item keys key = do
+  values ← array_or_none item keys key
+  if is_between least most (length values) then Ok values else bad TOO_MANY 0 0
+
+-- what each value is read as, after what others are; the first fault stops
+abbrev pub read_from : {A E : Type 0} → (Data → Result A E) → List A → List Data → Result (List A) E
+read_from read done [] = Ok done
+read_from read done (value ∷ values) = do
+  next ← read value
+  read_from read (done ++ next ∷ []) values
+
+-- where a number goes among others: before the first that is greater
+abbrev pub place_among : ℕ → List ℕ → ℕ
+place_among new [] = 0
+place_among new (number ∷ numbers) = if nat_lt new number then 0 else place_among new numbers + 1
+
+-- an item put at a place among others
+abbrev pub put_at : {A : Type 0} → ℕ → A → List A → List A
+put_at place new others = take place others ++ new ∷ drop place others
+
+-- an item put among others in rising order of their numbers
+abbrev pub placed : {A : Type 0} → (A → ℕ) → A → List A → List A
+placed number new others = put_at (place_among (number new) (map number others)) new others
+
+-- the items of a list, each with the number of its place in the list, in rising order of their own numbers
+abbrev pub numbered_from : {A E : Type 0} → (A → ℕ) → (List A → ℕ → Data → Result A E) → ℕ → List A → List Data → Result (List A) E
+numbered_from number read item done [] = Ok done
+numbered_from number read item done (value ∷ values) = do
+  next ← read done item value
+  numbered_from number read (item + 1) (placed number next done) values
+
+-- a number is among others
+abbrev pub is_among : ℕ → List ℕ → Bool
+is_among n numbers = list_any (λ other. other == n) numbers
+
+-- the number of an item, which no earlier one has
+unfoldable pub own_number : List ℕ → ℕ → Data → Result ℕ SiteFault
+own_number earlier item keys = do
+  n ← natural_at item keys (codes "number") 1 GREATEST_NUMBER
+  if is_among n earlier then bad REPEATED item 0 else Ok n
+
+-- a whole number that is one of these
+abbrev pub known : ℕ → List ℕ → ℤ → Result ℕ SiteFault
+known item numbers value = if list_any (λ n. int_eq (pos n) value) numbers then Ok (unsigned_abs value) else bad UNKNOWN item 0
+
+-- the number at a key, which is one of these
+unfoldable pub reference_at : ℕ → Data → List ℕ → List ℕ → Result ℕ SiteFault
+reference_at item keys key numbers = do
+  value ← integer_at item keys key
+  known item numbers value
+
+-- numbers rise, each greater than the one before
+abbrev pub rises_from : ℕ → List ℕ → Bool
+rises_from before [] = true
+rises_from before (n ∷ numbers) = nat_lt before n && rises_from n numbers
+
+abbrev pub rises : List ℕ → Bool
+rises [] = true
+rises (n ∷ numbers) = rises_from n numbers
+
+-- each item is sound, and their numbers rise
+abbrev pub are_numbered : {A : Type 0} → (A → ℕ) → (A → Bool) → List A → Bool
+are_numbered number is_sound items = list_all is_sound items && rises (map number items)

@@ -1,0 +1,116 @@
+//! Lists of tables, and items that have a number of their own, in rising order of it.
+
+ghost use Rattle.std.specs.Prelude.{◌≡◌, ◌≤◌, ℕ, length, map, MatchResult, IfOk, IfErr, IsTrue, IsFalse, Ok, Err};
+ghost use Rattle.site_keys.specs.Lists.{is_among, known, list_at, own_number, place_among, placed, reference_at};
+ghost use Rattle.site_keys.specs.declared.fault.SiteReadFault.TheVariants.{NoMemory};
+ghost use Rattle.toml.specs.View.{view};
+
+use crate::codes::{REPEATED, TOO_MANY, UNKNOWN};
+use crate::keys::Keys;
+use crate::{SiteFault, SiteReadFault, bad};
+use toml::Value;
+
+/// An item's number is from 1 up to this.
+pub const GREATEST_NUMBER: u32 = 65_535;
+
+/// An item that has a number.
+pub trait Numbered {
+    /// Its number.
+    ghost numbered: { Self → ℕ };
+
+    /// Its number.
+    fn number(&self) -> u16
+        ensures { result ≡ numbered self.now };
+}
+
+/// The values of a list of the site file, of which there are from `least` to `most`; none where the list is missing.
+#[tactic(auto, unfolding(crate::specs::Lists::list_at))]
+pub fn list_at<'a>(
+    keys: &Keys<'a>,
+    key: &str,
+    least: usize,
+    most: usize,
+) -> Result<&'a [Value], SiteFault>
+    ensures values { MatchResult result (λ values. list_at least most keys.now.item (view keys.now.table.now) key.now ≡ Ok (map view values.now))
+        (λ fault. list_at least most keys.now.item (view keys.now.table.now) key.now ≡ Err fault) }
+    ensures least { IfOk result (λ values. least ≤ length values.now) }
+    ensures most { IfOk result (λ values. length values.now ≤ most) }
+{
+    let values = keys.array_or_none(key)?;
+    if values.len() < least || values.len() > most {
+        return Err(bad(TOO_MANY, 0));
+    }
+    Ok(values)
+}
+
+// Whether an item has this number.
+fn is_among<T: Numbered>(number: u16, items: &[T]) -> bool
+    ensures among { result ≡ is_among number (map T.numbered items.now) }
+{
+    for item in items {
+        if item.number() == number {
+            return true;
+        }
+    }
+    false
+}
+
+/// The number that a table gives its item, which no earlier item has.
+#[tactic(auto, unfolding(crate::specs::Lists::own_number))]
+pub fn own_number<T: Numbered>(earlier: &[T], keys: &Keys<'_>) -> Result<u16, SiteFault>
+    ensures number { result ≡ own_number (map T.numbered earlier.now) keys.now.item (view keys.now.table.now) }
+    ensures least { IfOk result (λ number. 1 ≤ number) }
+    ensures fresh { IfOk result (λ number. IsFalse (is_among number (map T.numbered earlier.now))) }
+{
+    let number = keys.natural("number", 1, GREATEST_NUMBER)? as u16;
+    if is_among(number, earlier) {
+        return Err(bad(REPEATED, keys.item));
+    }
+    Ok(number)
+}
+
+/// The number at a key, which is that of an item.
+#[tactic(auto, unfolding(crate::specs::Lists::reference_at))]
+pub fn reference<T: Numbered>(keys: &Keys<'_>, key: &str, items: &[T]) -> Result<u16, SiteFault>
+    ensures number { result ≡ reference_at keys.now.item (view keys.now.table.now) key.now (map T.numbered items.now) }
+    ensures among { IfOk result (λ number. IsTrue (is_among number (map T.numbered items.now))) }
+{
+    let value = keys.integer(key)?;
+    known(keys.item, items, value)
+}
+
+// A whole number as that of an item.
+fn known<T: Numbered>(item: u32, items: &[T], value: i64) -> Result<u16, SiteFault>
+    ensures number { result ≡ known item (map T.numbered items.now) value }
+    ensures among { IfOk result (λ number. IsTrue (is_among number (map T.numbered items.now))) }
+{
+    for known in items {
+        if i64::from(known.number()) == value {
+            return Ok(known.number());
+        }
+    }
+    Err(bad(UNKNOWN, item))
+}
+
+/// Puts an item among others in rising order of their numbers, before the first that has a greater one.
+pub fn place<T: Numbered + Drop>(items: &mut Vec<T>, item: T) -> Result<(), SiteReadFault>
+    ensures placed { IfOk result (λ _. items.new.items ≡ placed T.numbered item items.old.items) }
+    ensures out_of_memory { IfErr result (λ fault. fault ≡ NoMemory) }
+{
+    let index = place_of(item.number(), items);
+    items.insert(index, item)?;
+    Ok(())
+}
+
+// Where an item of this number goes: before the first with a greater one.
+fn place_of<T: Numbered>(number: u16, items: &[T]) -> usize
+    ensures place { result ≡ place_among number (map T.numbered items.now) }
+    ensures within { result ≤ length items.now }
+{
+    for (index, item) in items.iter().enumerate() {
+        if number < item.number() {
+            return index;
+        }
+    }
+    items.len()
+}

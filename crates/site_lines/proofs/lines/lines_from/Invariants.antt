@@ -1,0 +1,17 @@
+use Rattle.std.proofs.Common.{◌≡◌, ◌+◌, true, ◌++◌, [], drop, length, map}
+use Rattle.std.specs.List.{list_all}
+use Rattle.toml.specs.View.{view}
+use Rattle.modbus_poll.specs.Maps.{is_line_map}
+use Rattle.site_lines.specs.Gauges.{are_gauged}
+use Rattle.site_lines.specs.Lines.{all_gauged, lines_from}
+use Rattle.site_lines.proofs.lines.lines_from.Given as goal
+
+abbrev pub invariant-loop-index : goal.invariant-loop-index
+invariant-loop-index g l = record {
+  lines : lines_from (map g.T.Numbered.numbered l.tanks) (l.index + 1) l.gauged.items l.lines.items (map view (drop l.index l.tables))
+      ≡ lines_from (map g.T.Numbered.numbered l.tanks) 1 l.fn.gauged.items [] (map view l.tables);
+  count : length l.lines.items ≡ l.index;
+  sound : list_all is_line_map l.lines.items ≡ true;
+  gauged : l.gauged.items ≡ l.fn.gauged.items ++ all_gauged l.lines.items;
+  tanks : are_gauged (map g.T.Numbered.numbered l.tanks) l.gauged.items ≡ true;
+}

@@ -1,0 +1,165 @@
+//! The gauges of a line: what is asked of the device, and which registers are a tank's level and temperatures.
+
+ghost use Rattle.std.specs.Prelude.{◌≡◌, ◌+◌, ◌++◌, [], nat_le, length, map, codes, pos, negsuc, MatchResult, IfOk, Ok, IsTrue, IsFalse, IfErr};
+ghost use Rattle.std.specs.List.{list_all};
+ghost use Rattle.toml.specs.View.{view};
+ghost use Rattle.farm_fixed.specs.Range.{is_within};
+ghost use Rattle.modbus_poll.specs.Maps.{is_between, is_gauge_map};
+ghost use Rattle.farm_base.specs.Steps.{IsRefusedAs};
+ghost use Rattle.site_keys.specs.Faults.{IsNotTheFolders, reported};
+ghost use Rattle.site_keys.specs.Lists.{is_among};
+ghost use Rattle.site_lines.specs.Gauges.{ambient_fixed_at, are_gauged, deadbands_at, gauge_of, gauged_tank_at, gauges_from, is_request, quantity_from, request_at, tanks_gauged};
+
+use crate::fields::{field_at, field_or_none, valid_or_none};
+use modbus_poll::GaugeMap;
+use site_keys::{Keys, Numbered, RANGE, REPEATED, SiteFault, SiteReadFault, bad, reference};
+use std::alloc::Global;
+use toml::Value;
+
+// What is asked of a device.
+#[derive(Clone, Copy)]
+struct Request {
+    unit: u8,
+    function: u8,
+    start: u16,
+    quantity: u8,
+}
+
+/// The gauges of a line's tables, after gauges on some tanks.
+pub fn gauges_from<T: Numbered>(
+    alloc: Global,
+    item: u32,
+    tanks: &[T],
+    gauged: &mut Vec<u16>,
+    tables: &[Value],
+) -> Result<Vec<GaugeMap>, SiteReadFault>
+    requires { IsTrue (are_gauged (map T.numbered tanks.now) gauged.old.items) }
+    ensures gauges { MatchResult result (λ gauges. gauges_from item (map T.numbered tanks.now) gauged.old.items [] (map view tables.now) ≡ Ok gauges.items)
+        (λ fault. IsRefusedAs (reported fault) (gauges_from item (map T.numbered tanks.now) gauged.old.items [] (map view tables.now))) }
+    ensures gauged { IfOk result (λ gauges. gauged.new.items ≡ gauged.old.items ++ tanks_gauged gauges.items) }
+    ensures count { IfOk result (λ gauges. length gauges.items ≡ length tables.now) }
+    ensures sound { IfOk result (λ gauges. IsTrue (list_all is_gauge_map gauges.items)) }
+    ensures tanks { IfOk result (λ _. IsTrue (are_gauged (map T.numbered tanks.now) gauged.new.items)) }
+    ensures not_the_folders { IfErr result IsNotTheFolders }
+{
+    let mut gauges = Vec::new(alloc);
+    for table in tables {
+        let gauge = gauge_of(tanks, gauged, &Keys { item, table })?;
+        gauged.push(gauge.tank)?;
+        gauges.push(gauge)?;
+    }
+    Ok(gauges)
+}
+
+// The gauge of a table, after gauges on some tanks.
+#[tactic(auto, unfolding(crate::specs::Gauges::gauge_of))]
+fn gauge_of<T: Numbered>(
+    tanks: &[T],
+    gauged: &[u16],
+    keys: &Keys<'_>,
+) -> Result<GaugeMap, SiteFault>
+    ensures gauge { result ≡ gauge_of keys.now.item (map T.numbered tanks.now) gauged.now (view keys.now.table.now) }
+    ensures sound { IfOk result (λ gauge. IsTrue (is_gauge_map gauge)) }
+    ensures known { IfOk result (λ gauge. IsTrue (is_among gauge.tank (map T.numbered tanks.now))) }
+    ensures new { IfOk result (λ gauge. IsFalse (is_among gauge.tank gauged.now)) }
+{
+    let tank = gauged_tank_at(tanks, gauged, keys)?;
+    let request = request_at(keys)?;
+    let quantity = request.quantity;
+    let level = field_at(quantity, keys, "level")?;
+    let temperature = field_at(quantity, keys, "temperature")?;
+    let water = field_or_none(quantity, keys, "water")?;
+    let ambient = field_or_none(quantity, keys, "ambient")?;
+    let ambient_fixed = ambient_fixed_at(keys)?;
+    let valid = valid_or_none(quantity, keys)?;
+    let (deadband_mm, deadband_centi) = deadbands_at(keys)?;
+    Ok(GaugeMap {
+        tank,
+        unit: request.unit,
+        function: request.function,
+        start: request.start,
+        quantity,
+        level,
+        temperature,
+        water,
+        ambient,
+        ambient_fixed,
+        valid,
+        deadband_mm,
+        deadband_centi,
+    })
+}
+
+// The tank of a gauge: one of the site that no earlier gauge is on.
+#[tactic(auto, unfolding(crate::specs::Gauges::gauged_tank_at))]
+fn gauged_tank_at<T: Numbered>(
+    tanks: &[T],
+    gauged: &[u16],
+    keys: &Keys<'_>,
+) -> Result<u16, SiteFault>
+    ensures tank { result ≡ gauged_tank_at keys.now.item (map T.numbered tanks.now) gauged.now (view keys.now.table.now) }
+    ensures known { IfOk result (λ tank. IsTrue (is_among tank (map T.numbered tanks.now))) }
+    ensures new { IfOk result (λ tank. IsFalse (is_among tank gauged.now)) }
+{
+    let tank = reference(keys, "tank", tanks)?;
+    if gauged.contains(&tank) {
+        return Err(bad(REPEATED, keys.item));
+    }
+    Ok(tank)
+}
+
+// What is asked of a device.
+#[tactic(auto, unfolding(crate::specs::Gauges::request_at))]
+fn request_at(keys: &Keys<'_>) -> Result<Request, SiteFault>
+    ensures request { result ≡ request_at keys.now.item (view keys.now.table.now) }
+    ensures sound { IfOk result (λ request. IsTrue (is_request request)) }
+{
+    let unit = keys.natural("unit", 0, 255)? as u8;
+    let function = keys.natural("function", 3, 4)? as u8;
+    let start = keys.natural("start", 0, 65_535)? as u16;
+    let quantity = quantity_from(start, keys)?;
+    Ok(Request {
+        unit,
+        function,
+        start,
+        quantity,
+    })
+}
+
+// How many registers are read from the first.
+#[tactic(auto, unfolding(crate::specs::Gauges::quantity_from))]
+fn quantity_from(start: u16, keys: &Keys<'_>) -> Result<u8, SiteFault>
+    ensures quantity { result ≡ quantity_from start keys.now.item (view keys.now.table.now) }
+    ensures count { IfOk result (λ quantity. IsTrue (is_between 1 125 quantity)) }
+    ensures within { IfOk result (λ quantity. IsTrue (nat_le (start + quantity) 65536)) }
+{
+    let quantity = keys.natural("quantity", 1, 125)?;
+    if u32::from(start) + quantity > 65_536 {
+        return Err(bad(RANGE, keys.item));
+    }
+    Ok(quantity as u8)
+}
+
+// The ambient temperature where the gauge gives none.
+#[tactic(auto, unfolding(crate::specs::Gauges::ambient_fixed_at))]
+fn ambient_fixed_at(keys: &Keys<'_>) -> Result<i64, SiteFault>
+    ensures ambient { result ≡ ambient_fixed_at keys.now.item (view keys.now.table.now) }
+    ensures range { IfOk result (λ ambient. IsTrue (is_within (negsuc 9999) (pos 30000) ambient)) }
+{
+    if !keys.has("ambient_fixed") {
+        return Ok(1_500);
+    }
+    keys.whole("ambient_fixed", -10_000, 30_000)
+}
+
+// The deadbands: of the levels, in mm, and of the temperature, in 0.01 C.
+#[tactic(auto, unfolding(crate::specs::Gauges::deadbands_at))]
+fn deadbands_at(keys: &Keys<'_>) -> Result<(u16, u16), SiteFault>
+    ensures deadbands { result ≡ deadbands_at keys.now.item (view keys.now.table.now) }
+    ensures levels { IfOk result (λ deadbands. IsTrue (is_between 1 1000 deadbands.0)) }
+    ensures temperature { IfOk result (λ deadbands. IsTrue (is_between 1 1000 deadbands.1)) }
+{
+    let levels = keys.natural_or(1, "deadband_mm", 1, 1_000)? as u16;
+    let temperature = keys.natural_or(5, "deadband_centi", 1, 1_000)? as u16;
+    Ok((levels, temperature))
+}

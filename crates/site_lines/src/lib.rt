@@ -1,0 +1,8 @@
+//! The gauge lines of a site file: devices, and which of their registers are a tank's level and temperatures.
+#![tactic(auto)]
+
+mod fields;
+mod gauges;
+mod lines;
+
+pub use lines::lines_of;

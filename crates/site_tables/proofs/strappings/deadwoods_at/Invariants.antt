@@ -1,0 +1,8 @@
+use Rattle.std.proofs.Common.{◌≡◌, [], drop, map}
+use Rattle.toml.specs.View.{view}
+use Rattle.site_keys.specs.Lists.{read_from}
+use Rattle.site_tables.specs.Strappings.{deadwood_of}
+use Rattle.site_tables.proofs.strappings.deadwoods_at.Given as goal
+
+abbrev pub invariant-loop-table : goal.invariant-loop-table
+invariant-loop-table l = read_from (deadwood_of l.keys.item) l.deadwoods.items (map view (drop l.table-index l.values)) ≡ read_from (deadwood_of l.keys.item) [] (map view l.values)

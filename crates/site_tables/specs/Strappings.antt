@@ -1,0 +1,139 @@
+-- Strappings of a site: a file of courses, deadwoods and a bottom, and the capacity table that it makes.
+use Rattle.std.specs.Prelude.{ℕ, if◌then◌else◌, List, [], ◌∷◌, codes, Option, Some, None, Result, Ok, Err, ℤ, pos}
+use Rattle.farm_base.specs.Steps.{◌>>=◌}
+use Rattle.toml.specs.Data.{Data, as_array, as_integer}
+use Rattle.farm_fixed.specs.Range.{is_within}
+use Rattle.farm_rounding.specs.Table.{Row}
+use Rattle.strap_courses.specs.Courses.{Point, StrappedTank}
+use Rattle.strap_courses.specs.Faults.{TankFault, first_fault}
+use Rattle.strap_courses.specs.Faults as strap
+use Rattle.strap_courses.specs.Rows.{strapped_rows}
+use Rattle.strap_courses.specs.declared.parts.Course.{Course}
+use Rattle.strap_courses.specs.declared.parts.Deadwood.{Deadwood}
+use Rattle.site_keys.specs.declared.codes.TheConstants.{FIELD, STRAP}
+use Rattle.site_keys.specs.declared.fault.SiteFault.{SiteFault}
+use Rattle.site_keys.specs.Faults.{bad, detail, fault_at, needed, ranged}
+use Rattle.site_keys.specs.Files.{toml_of}
+use Rattle.site_keys.specs.Keys.{array_at, array_or_none, has, integer_at, quantity_at, values_of, whole_at}
+use Rattle.site_keys.specs.Lists.{read_from}
+use Rattle.site_tables.specs.declared.strappings.TheConstants.{HIGHEST}
+use Rattle.site_tables.specs.Tables.{table_of_rows}
+
+-- a circumference, a deduction or a thickness, in 0.1 mm and up to 500 m
+unfoldable pub length_at : ℕ → Data → List ℕ → Result ℤ SiteFault
+length_at item keys key = quantity_at 1 (pos 0) (pos 5000000) item keys key
+
+-- a deduction or a thickness; where it is missing, none
+unfoldable pub length_or_none : ℕ → Data → List ℕ → Result ℤ SiteFault
+length_or_none item keys key = if has keys key then length_at item keys key else Ok (pos 0)
+
+-- a height, in mm
+unfoldable pub height_at : ℕ → Data → List ℕ → Result ℤ SiteFault
+height_at item keys key = whole_at item keys key (pos 0) HIGHEST
+
+-- a course of a table
+unfoldable pub course_of : ℕ → Data → Result Course SiteFault
+course_of item keys = do
+  height ← height_at item keys (codes "height")
+  lower ← length_at item keys (codes "lower")
+  upper ← length_at item keys (codes "upper")
+  lower_off ← length_or_none item keys (codes "lower_deduction")
+  upper_off ← length_or_none item keys (codes "upper_deduction")
+  plate ← length_or_none item keys (codes "plate")
+  paint ← length_or_none item keys (codes "paint")
+  Ok (record {
+    height = height;
+    lower = lower;
+    upper = upper;
+    lower_off = lower_off;
+    upper_off = upper_off;
+    plate = plate;
+    paint = paint;
+  })
+
+-- a deadwood of a table
+unfoldable pub deadwood_of : ℕ → Data → Result Deadwood SiteFault
+deadwood_of item keys = do
+  low ← height_at item keys (codes "low")
+  high ← height_at item keys (codes "high")
+  litres ← integer_at item keys (codes "litres")
+  Ok (record { low = low; high = high; litres = litres })
+
+-- the height of a point
+unfoldable pub level_of : ℕ → Data → Result ℤ SiteFault
+level_of item value = do
+  height ← needed item (as_integer value)
+  ranged item (is_within (pos 0) HIGHEST height) height
+
+-- a point of a bottom: a pair of a height and litres
+abbrev pub point_of_pair : ℕ → List Data → Result Point SiteFault
+point_of_pair item (height ∷ litres ∷ []) = do
+  level ← level_of item height
+  volume ← needed item (as_integer litres)
+  Ok (level, volume)
+point_of_pair item values = bad FIELD item 0
+
+-- a point of a bottom, as an array of two
+unfoldable pub point_of : ℕ → Data → Result Point SiteFault
+point_of item value = do
+  pair ← needed item (as_array value)
+  point_of_pair item (values_of pair)
+
+-- the bottom: the points of an array, or a flat one where there is none
+unfoldable pub bottom_at : ℕ → Data → Result (List Point) SiteFault
+bottom_at item keys =
+    if has keys (codes "bottom") then (do
+      values ← array_at item keys (codes "bottom")
+      read_from (point_of item) [] values) else Ok ((pos 0, pos 0) ∷ [])
+
+-- the courses
+unfoldable pub courses_at : ℕ → Data → Result (List Course) SiteFault
+courses_at item keys = do
+  values ← array_or_none item keys (codes "course")
+  read_from (course_of item) [] values
+
+-- the deadwoods
+unfoldable pub deadwoods_at : ℕ → Data → Result (List Deadwood) SiteFault
+deadwoods_at item keys = do
+  values ← array_or_none item keys (codes "deadwood")
+  read_from (deadwood_of item) [] values
+
+-- the parts of a strapping
+unfoldable pub parts_of : ℕ → Data → Result StrappedTank SiteFault
+parts_of item keys = do
+  courses ← courses_at item keys
+  deadwoods ← deadwoods_at item keys
+  bottom ← bottom_at item keys
+  Ok (record { courses = courses; deadwoods = deadwoods; bottom = bottom })
+
+-- why a strapping is refused
+abbrev pub strap_fault : ℕ → TankFault → SiteFault
+strap_fault item strap.NoCourse = fault_at STRAP item 0
+strap_fault item (strap.BadCourse n) = fault_at STRAP item (detail n)
+strap_fault item (strap.BadDeadwood n) = fault_at STRAP item (detail n)
+strap_fault item (strap.BadBottom n) = fault_at STRAP item (detail n)
+strap_fault item (strap.NotRising row) = fault_at STRAP item (detail row)
+strap_fault item strap.TooTall = fault_at STRAP item 0
+strap_fault item (strap.TooLarge row) = fault_at STRAP item (detail row)
+
+-- rows, or why there are none
+abbrev pub rows_read : ℕ → Result (List ℤ) TankFault → Result (List ℤ) SiteFault
+rows_read item (Ok rows) = table_of_rows item rows
+rows_read item (Err fault) = Err (strap_fault item fault)
+
+-- the capacity table of a strapped tank, or why there is none
+abbrev pub judged : ℕ → List Row → StrappedTank → Option TankFault → Result (List ℤ) SiteFault
+judged item rounds tank (Some fault) = Err (strap_fault item fault)
+judged item rounds tank None = rows_read item (strapped_rows rounds tank)
+
+-- the capacity table of a strapping's keys
+unfoldable pub table_of_strapping : ℕ → List Row → Data → Result (List ℤ) SiteFault
+table_of_strapping item rounds keys = do
+  tank ← parts_of item keys
+  judged item rounds tank (first_fault tank)
+
+-- the capacity table of a strapping file
+unfoldable pub strapped_file : ℕ → List Row → List ℕ → Result (List ℤ) SiteFault
+strapped_file item rounds bytes = do
+  keys ← toml_of item bytes
+  table_of_strapping item rounds keys

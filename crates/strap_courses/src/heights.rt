@@ -1,0 +1,15 @@
+//! Heights as numbers without a sign.
+
+ghost use Rattle.std.specs.Prelude.{◌≡◌, ◌≤◌, pos};
+ghost use Rattle.std.specs.Int.RustNames.{unsigned_abs};
+
+use farm_fixed::Mm;
+
+/// A height as a number without a sign.
+pub fn millimetres(height: Mm) -> u64
+    ensures value { result ≡ unsigned_abs height }
+    ensures signed { pos result ≡ height }
+    ensures most { result ≤ 50000 }
+{
+    height.get().unsigned_abs()
+}
