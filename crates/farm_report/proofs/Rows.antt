@@ -1,4 +1,4 @@
--- Laws of the issued tables: what a buffer begins with, and the rows one by one.
+-- The rows of issued tables, one after another, and what a buffer begins with.
 use native.Mathlib.Numerals.{unary_clauses}
 use Rattle.std.proofs.Common.{◌≡◌, ℕ, zero, suc, ◌+◌, ◌*◌, ◌<◌, List, [], ◌∷◌, ◌++◌, length, take, slice_index_or, ℤ, refl, ◌∙◌, arith, append_assoc, append-nil}
 use Rattle.farm_report.specs.Issued.{row_line, rows_from}
@@ -21,7 +21,7 @@ rows_from-take index (suc i) (litres ∷ rows) d h =
     let rest = rows_from-take (index + 1) i rows d (omega (arith, h)) in
     let same : index + 1 + i ≡ index + suc i = omega arith in rw (rest, same, append_assoc (row_line (10 * index) litres) (rows_from (index + 1) (take i rows)))
 
--- a row appended behind the rows before it
+-- a row appended after the rows before it
 pub one_row_more : (front held new : List ℕ) (i : ℕ) (rows : List ℤ) (d : ℤ) → i < length rows →
     held ≡ front ++ rows_from 0 (take i rows) → new ≡ held ++ row_line (10 * i) (slice_index_or rows i d) →
     new ≡ front ++ rows_from 0 (take (i + 1) rows)
