@@ -4,8 +4,8 @@ use Rattle.std.specs.Ordering.{int_eq}
 use Rattle.farm_fixed.specs.declared.records.Quantities.{Quantities}
 use Rattle.farm_fixed.specs.declared.records.ChainRule.{ChainRule}
 use Rattle.farm_rounding.specs.Table.{usual_rows}
-use Rattle.farm_chain.specs.Figures.{calculated_figures}
-use Rattle.farm_chain.specs.Quantities.{calculated_quantities}
+use Rattle.farm_chain.specs.Volumes.{calculated_figures}
+use Rattle.farm_chain.specs.Reading.{calculated_quantities}
 use Rattle.strap_table.specs.declared.tank.Roof.{Roof}
 use Rattle.strap_table.specs.declared.tank.TankSpec.{TankSpec}
 use Rattle.calc_input.specs.declared.volumes_line.Volumes.{Volumes}

@@ -4,7 +4,7 @@ ghost use Rattle.std.specs.Prelude.{◌≡◌, ◌≤◌, length, pos, Ok, Err, 
 ghost use Rattle.farm_base.specs.Steps.{IsRefusedAs};
 ghost use Rattle.farm_fixed.specs.Range.{IsWithin};
 ghost use Rattle.farm_rounding.specs.Table.{usual_rows};
-ghost use Rattle.farm_chain.specs.Quantities.{IsFloatingRoof, calculated_quantities};
+ghost use Rattle.farm_chain.specs.Reading.{IsFloatingRoof, calculated_quantities};
 ghost use Rattle.calc_input.specs.declared.refusal.Refused.{Refused};
 ghost use Rattle.calc_input.specs.declared.answer.Unanswered.TheVariants as variants;
 ghost use Rattle.calc_input.specs.VolumesLine.{IsCalculable};

@@ -5,8 +5,7 @@
 #![tactic(auto)]
 
 ghost use Rattle.std.specs.Prelude.{◌≡◌, IfSome, map, string_bytes};
-ghost use Rattle.command_line.specs.Words.{site_folder};
-ghost use Rattle.farm_ports.specs.Folders.{directory_of};
+ghost use Rattle.command_line.specs.Commands.{site_folder};
 
 use command_line::places;
 use farm_ports::{DirFolder, StdSink, StdSource};
@@ -24,11 +23,18 @@ fn arguments(rt: &(impl Env + AllocGlobal)) -> io::Result<Vec<String>> {
 fn run_arguments(rt: &HostRuntime, words: &[String]) -> u8 {
     let mut input = StdSource::new(rt.stdin());
     let mut output = StdSink::new(rt.stdout());
-    let Some((site, _)) = places(rt.alloc(), words) else {
+    let Some(mut folder) = folder_named(rt, words) else {
         return report_no_memory(&mut output);
     };
-    let mut folder = DirFolder::new(rt, site);
     run(rt.alloc(), words, &mut input, &mut output, &mut folder)
+}
+
+// The folder that the arguments name, of an empty path where they name none. `None` is out of memory alone.
+fn folder_named<'a>(rt: &'a HostRuntime, words: &[String]) -> Option<DirFolder<&'a HostRuntime>>
+    ensures folder { IfSome result (λ folder. folder.over ≡ site_folder (map string_bytes words.now)) }
+{
+    let (site, _) = places(rt.alloc(), words)?;
+    Some(DirFolder::new(rt, site))
 }
 
 fn main(rt: HostRuntime) -> ExitCode {

@@ -1,5 +1,5 @@
 -- A run of `calc`: what was read of the input answers as the whole input does, and a refusal names the refused line.
-use Rattle.std.proofs.Common.{◌≡◌, ◌⊎◌, inl, inr, ℕ, suc, ◌+◌, ◌<◌, List, ◌++◌, length, append-nil, Option, Some, None, Result, Ok, Err, refl, sym, ap, ◌∙◌, arith}
+use Rattle.std.proofs.Common.{◌≡◌, ◌⊎◌, inl, inr, ℕ, suc, ◌+◌, ◌<◌, List, ◌++◌, length, append-nil, Option, Some, None, Result, Ok, Err, ap, ◌∙◌, arith}
 use Rattle.std.proofs.lemmas.Bool.Decides.{leb_tells}
 use Rattle.farm_base.specs.Counts.{Count, IsQuiet}
 use Rattle.farm_base.specs.Known.{WhereKnown, Stream}
@@ -7,7 +7,6 @@ use Rattle.farm_ports.specs.Ports.{ReadsUpTo}
 use Rattle.farm_fixed.specs.declared.records.Quantities.{Quantities}
 use Rattle.calc_input.specs.declared.refusal.Refused.{Refused}
 use Rattle.calc_input.specs.Answer.{answer_of, limit}
-use Rattle.calc_input.specs.RefusedLine.{IsRefusal}
 use Rattle.calc_input.proofs.Answering.{front_decides}
 use Rattle.calc_input.proofs.RefusedLines.{refusal_right}
 use Rattle.farm_run.specs.Answers.{calc_of, calc_text, text_of_figures}
@@ -18,7 +17,7 @@ use Rattle.farm_run.proofs.Runs.{known_map, run_answering}
 -- a refusal of a text is one of its figures
 refused_figures : (answer : Result Quantities Refused) (why : Refused) → text_of_figures answer ≡ Err why → answer ≡ Err why
 refused_figures (Ok figures) why is = cc
-refused_figures (Err other) why is = is
+refused_figures (Err other) why is = cc
 
 refused_answer : (bytes : List ℕ) (why : Refused) → calc_of bytes ≡ Some (Err why) → answer_of bytes ≡ Err why
 unfolding calc_text
@@ -52,5 +51,5 @@ pub calc_answered : (old new : Option Stream) (bytes : List ℕ) (source : Count
     ReadsUpTo old new (limit + 1) bytes → Answers 4 refusal_text (calc_of bytes) output status → CalcRun (given old new) source output status
 calc_answered old new bytes source output status quiet reads answers =
     calc_run (given old new) source output status (
-      run_answering 4 refusal_text calc_of (given old new) (calc_of bytes) source output status quiet (read_enough old new bytes reads) answers
+    run_answering 4 refusal_text calc_of (given old new) (calc_of bytes) source output status quiet (read_enough old new bytes reads) answers
     )

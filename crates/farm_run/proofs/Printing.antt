@@ -71,7 +71,7 @@ says_after_fault old middle new before between now others text last first rose l
 
 -- and nothing of a text before them
 pub after_a_text : {old new : Option (List ℕ)} {texts : List (List ℕ)} (text : List ℕ) → AddsAll old new texts → AddsAll old new (text ∷ texts)
-behind_a_text text adds = record {
+after_a_text text adds = record {
   bytes = adds.bytes;
   added = adds.added;
   fronts = (0, omega arith, adds.bytes, refl, adds.fronts);

@@ -1,18 +1,9 @@
 -- A run of a command, from what its parts did.
-use Rattle.std.proofs.Common.{◌≤◌, ◌≡◌, ◌⊎◌, inl, inr, ℕ, suc, ◌+◌, ◌<◌, List, ◌++◌, length, append-nil, length-append, Option, Some, None, Result, Ok, Err, IfOk, MatchResult, refl, sym, ap, subst, ◌∙◌, arith}
-use Rattle.std.proofs.lemmas.Bool.Decides.{leb_tells}
-use Rattle.farm_base.specs.Counts.{Count, HasRisen, IsQuiet, Rose}
-use Rattle.farm_base.specs.Known.{Adds, WhereKnown, Stream}
-use Rattle.farm_ports.specs.Ports.{ReadsUpTo}
-use Rattle.calc_input.specs.declared.refusal.Refused.{Refused}
-use Rattle.calc_input.specs.Answer.{answer_of, limit}
-use Rattle.calc_input.specs.RefusedLine.{IsRefusal}
-use Rattle.calc_input.proofs.Answering.{front_decides}
-use Rattle.calc_input.proofs.RefusedLines.{refusal_right}
-use Rattle.farm_fixed.specs.declared.records.Quantities.{Quantities}
-use Rattle.farm_run.specs.Answers.{calc_of, calc_text, text_of_figures}
-use Rattle.farm_run.specs.Texts.{no_memory, port_fault, refusal_text}
-use Rattle.farm_run.specs.Runs.{Answers, CalcRun, Delivers, LacksMemory, OneAnswerRun, Output, Puts, Refuses, Says, given, text_of, unused}
+use Rattle.std.proofs.Common.{◌≡◌, inl, inr, ℕ, ◌<◌, List, [], Option, Some, None, Result, Ok, Err, IfOk, MatchResult, refl, sym, subst, ◌∙◌, arith}
+use Rattle.farm_base.specs.Counts.{Count, HasRisen, IsQuiet}
+use Rattle.farm_base.specs.Known.{WhereKnown}
+use Rattle.farm_run.specs.Texts.{no_memory, port_fault}
+use Rattle.farm_run.specs.Runs.{Answers, Delivers, LacksMemory, OneAnswerRun, Output, Puts, Refuses, text_of, unused}
 use Rattle.farm_run.proofs.Printing.{puts_ends, says_ends, says_last}
 
 -- what holds of any input holds of one that is known

@@ -3,8 +3,8 @@ use Rattle.std.specs.Prelude.{◌≡◌, ◌⊎◌, ℕ, ◌≤◌, Bool, true, 
 use Rattle.farm_base.specs.Counts.{Count, HasRisen, IsQuiet}
 use Rattle.farm_base.specs.Known.{WhereKnown, Stream, Adds, AddsAll, AddsWhole}
 use Rattle.farm_ports.specs.Folders.{File}
-use Rattle.command_line.specs.declared.command.Subcommand.{Subcommand}
-use Rattle.command_line.specs.declared.command.Subcommand.TheVariants.{Calc, Table}
+use Rattle.command_line.specs.declared.commands.Subcommand.{Subcommand}
+use Rattle.command_line.specs.declared.commands.Subcommand.TheVariants.{Calc, Table}
 use Rattle.calc_input.specs.declared.refusal.Refused.{Refused}
 use Rattle.calc_input.specs.RefusedLine.{IsRefusal}
 use Rattle.farm_run.specs.Answers.{calc_of, table_of}

@@ -29,10 +29,10 @@ cause_word (Chain Negative) = codes "Negative"
 
 -- 4: the input is refused at a line
 unfoldable pub refusal_text : Refused → List ℕ
-refusal_text why = codes "input refused at line " ++ decimal why.line ++ codes ": " ++ cause_word why.cause ++ codes "\n"
+refusal_text why = codes "input refused at line " ++ (decimal why.line ++ (codes ": " ++ (cause_word why.cause ++ codes "\n")))
 
 -- 2: the folder describes no site
 unfoldable pub site_refused_text : SiteFault → List ℕ
 site_refused_text fault =
-    codes "site refused: code " ++ decimal fault.code ++ codes " item " ++ decimal fault.item ++ codes " detail " ++ decimal fault.detail
-    ++ codes "\n"
+    codes "site refused: code " ++ (decimal fault.code ++ (codes " item " ++ (decimal fault.item ++ (codes " detail " ++
+    (decimal fault.detail ++ codes "\n")))))

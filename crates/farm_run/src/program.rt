@@ -2,8 +2,9 @@
 
 ghost use Rattle.std.specs.Prelude.{◌≡◌, ◌≤◌, ◌⊎◌, map, string_bytes, false, None, Some, Ok, Err, IfOk, MatchResult};
 ghost use Rattle.farm_base.specs.Known.{Stays};
+ghost use Rattle.farm_report.specs.Figures.{figures_text};
 ghost use Rattle.farm_report.specs.Issued.{issued_text};
-ghost use Rattle.command_line.specs.Words.{command_of};
+ghost use Rattle.command_line.specs.Commands.{command_of};
 ghost use Rattle.calc_input.specs.declared.refusal.Refused.{Refused};
 ghost use Rattle.farm_run.specs.Answers.{calc_of, calc_text};
 ghost use Rattle.farm_run.specs.Texts.{port_fault, refusal_text};
@@ -12,7 +13,7 @@ ghost use Rattle.farm_run.specs.Runs.{Answers, CalcRun, Delivers, LacksMemory, P
 use crate::texts::{NO_MEMORY, PORT_FAULT, USAGE, refusal_text, site_refused_text};
 use calc_input::{LIMIT, Unanswered, figures_of_input};
 use command_line::Subcommand;
-use farm_fixed::NoMemory;
+use farm_fixed::{NoMemory, Quantities};
 use farm_ports::{Folder, PortFault, Sink, Source, put_all, read_up_to};
 use farm_report::{figures_text, issued};
 use farm_site::{Site, SiteReadFault};
@@ -105,13 +106,24 @@ fn answer_input<K: Sink>(alloc: Global, bytes: &[u8], output: &mut K) -> u8
 }
 
 // The ten lines of an input, or its refusal.
+#[tactic(auto, unfolding(crate::specs::Answers::calc_text))]
 fn calc_text(alloc: Global, bytes: &[u8]) -> Result<Vec<u8>, Unanswered>
     ensures text { IfOk result (λ text. calc_text bytes.now ≡ Ok text.items) }
     ensures refused { (why : Refused) → result ≡ Err (Unanswered.Refused why) → calc_text bytes.now ≡ Err why }
 {
-    let figures = figures_of_input(alloc, bytes)?;
+    match figures_of_input(alloc, bytes) {
+        Ok(figures) => Ok(ten_lines(alloc, &figures)?),
+        Err(Unanswered::Refused(why)) => Err(Unanswered::Refused(why)),
+        Err(Unanswered::NoMemory) => Err(Unanswered::NoMemory),
+    }
+}
+
+// The ten lines of figures.
+fn ten_lines(alloc: Global, figures: &Quantities) -> Result<Vec<u8>, NoMemory>
+    ensures lines { IfOk result (λ text. text.items ≡ figures_text figures.now) }
+{
     let mut text = Vec::new(alloc);
-    figures_text(&figures, &mut text)?;
+    figures_text(figures, &mut text)?;
     Ok(text)
 }
 

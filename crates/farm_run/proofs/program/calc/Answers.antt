@@ -17,4 +17,4 @@ returns-in-Err-Failed-clause-calc_run g c =
 pub returns-in-Err-NoMemory-clause-calc_run : goal.returns-in-Err-NoMemory-clause-calc_run
 returns-in-Err-NoMemory-clause-calc_run g c =
     calc_run _ _ _ _
-    (run_lacking 4 refusal_text calc_of _ _ _ _ (omega arith, omega arith) (c.in-Err-NoMemory.ensures.quiet ?) c.report_no_memory.ensures.lacks_memory)
+    (run_lacking 4 refusal_text calc_of _ _ _ _ (omega arith, omega arith) (c.in-Err-NoMemory.ensures.quiet (λ same. let other = c.in-Err-NoMemory.field-0-is in cc)) c.report_no_memory.ensures.lacks_memory)
