@@ -6,7 +6,7 @@ use Rattle.csv.specs.Records.{field_at}
 use Rattle.farm_csv.specs.Blanks.{without_blanks}
 use Rattle.farm_csv.specs.Records.{equal_lengths, records_of}
 use Rattle.farm_fixed.specs.Whole.{whole_number}
-use Rattle.strap_table.specs.Capacity.{first_fault}
+use Rattle.strap_table.specs.Faults.{first_fault}
 use Rattle.strap_table.specs.declared.fault.TableFault.{TableFault}
 use Rattle.strap_table.specs.declared.fault.TableFault.TheVariants as rows
 use Rattle.site_keys.specs.declared.codes.TheConstants.{FIELD, TABLE, TEXT}
