@@ -1,1 +1,3 @@
 mod RoundingRows
+pub mod TankFacts
+pub mod Meaning

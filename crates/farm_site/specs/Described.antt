@@ -1,5 +1,5 @@
 -- The site that files describe, or why they describe none. The files are looked at in the order of this definition.
-use Rattle.std.specs.Prelude.{ℕ, ◌==◌, if◌then◌else◌, List, [], ◌∷◌, map, codes, Option, Some, None, Result, Ok}
+use Rattle.std.specs.Prelude.{ℕ, List, map, codes, Option, Result, Ok}
 use Rattle.toml.specs.Data.{Data}
 use Rattle.farm_base.specs.Steps.{◌>>=◌}
 use Rattle.farm_ports.specs.Folders.{File}
@@ -7,6 +7,7 @@ use Rattle.farm_rounding.specs.Table.{Row}
 use Rattle.modbus_poll.specs.declared.map.LineMap.{LineMap}
 use Rattle.site_keys.specs.Faults.{Refusal, found}
 use Rattle.site_keys.specs.Files.{content, toml_of}
+use Rattle.site_keys.specs.Lists.{item_numbered}
 use Rattle.site_items.specs.declared.records.Party.{Party}
 use Rattle.site_items.specs.declared.records.Product.{Product}
 use Rattle.site_items.specs.declared.records.Tank.{Tank}
@@ -53,10 +54,8 @@ site_of_files files = do
 
 -- the first tank with a number
 abbrev pub tank_numbered : ℕ → List Tank → Option Tank
-tank_numbered number [] = None
-tank_numbered number (tank ∷ tanks) = if tank.number == number then Some tank else tank_numbered number tanks
+tank_numbered number tanks = item_numbered tank_number number tanks
 
 -- the first product with a number
 abbrev pub product_numbered : ℕ → List Product → Option Product
-product_numbered number [] = None
-product_numbered number (product ∷ products) = if product.number == number then Some product else product_numbered number products
+product_numbered number products = item_numbered product_number number products

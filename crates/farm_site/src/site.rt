@@ -1,9 +1,12 @@
 //! A site, and the reading of its folder.
 
-ghost use Rattle.std.specs.Prelude.{◌≡◌, ◌↔◌, List, map, option_map, MatchResult, IfSome, IsNone, IsFalse, IsTrue, Ok, Some};
+ghost use Rattle.std.specs.Prelude.{◌≡◌, ◌↔◌, List, map, option_map, pos, MatchResult, IfOk, IfSome, IsNone, IsFalse, IsTrue, Ok, Some};
 ghost use Rattle.toml.specs.View.{view};
 ghost use Rattle.farm_base.specs.Known.{KeepsKnown, WhereKnown};
 ghost use Rattle.farm_base.specs.Steps.{IsRefusedAs};
+ghost use Rattle.farm_chain.specs.Reading.{IsFloatingRoof};
+ghost use Rattle.farm_fixed.specs.Range.{IsWithin};
+ghost use Rattle.farm_fixed.specs.declared.limits.TheConstants.{MOST_COEFFICIENT};
 ghost use Rattle.farm_ports.specs.Folders.{File};
 ghost use Rattle.site_keys.specs.Faults.{refusal_of};
 ghost use Rattle.site_keys.specs.Lists.{is_among};
@@ -12,14 +15,15 @@ ghost use Rattle.site_items.specs.Names.{is_name};
 ghost use Rattle.site_items.specs.Products.{product_number};
 ghost use Rattle.site_items.specs.Tanks.{tank_number};
 ghost use Rattle.site_lines.specs.Lines.{are_lines};
-ghost use Rattle.farm_site.specs.Described.{site_of_files, site_of_keys, tank_numbered, top_of_files};
+ghost use Rattle.farm_site.specs.Described.{product_numbered, site_of_files, site_of_keys, tank_numbered, top_of_files};
+ghost use Rattle.farm_site.specs.Members.{IsMissing, IsSiteOf, IsStopped};
 
 use crate::rounds::rounds_at;
-use crate::{Lines, Name, Parties, Products, Tank, Tanks};
+use crate::{Lines, Name, Parties, Product, Products, Tank, Tanks};
 use farm_ports::Folder;
 use farm_rounding::RoundTable;
 use site_items::{format_at, name_at, parties_of, products_of, tanks_of};
-use site_keys::{Keys, SiteReadFault, content, toml_of};
+use site_keys::{Keys, SiteReadFault, content, item_numbered, toml_of};
 use site_lines::lines_of;
 use std::alloc::Global;
 use toml::Value;
@@ -63,6 +67,15 @@ impl Site {
               lines = site.lines;
             }))
             (λ fault. IsRefusedAs (refusal_of fault) (site_of_files files))) }
+        ensures meaning { WhereKnown (F.files folder.new) (λ files. IfOk result (λ site. IsSiteOf files (record {
+              name = site.name;
+              rounds = site.rounds;
+              products = site.products;
+              parties = site.parties;
+              tanks = site.tanks;
+              lines = site.lines;
+            }))) }
+        ensures missing { WhereKnown (F.files folder.new) (λ files. IsMissing (site_of_files files) → IsStopped result) }
         ensures keeps { KeepsKnown (F.files folder.old) (F.files folder.new) (F.faults folder.old) (F.faults folder.new)
             SiteReadFault.Folder result }
     {
@@ -132,12 +145,26 @@ impl Site {
     }
 
     /// The tank with this number. `None` exactly where the site has none.
+    ///
+    /// A tank of a site has what a calculation asks for, and its product is one of the site.
     pub fn tank(&self, number: u16) -> Option<&Tank>
         ensures tank { option_map (λ tank. tank.now) result ≡ tank_numbered number self.now.tanks }
         ensures number { IfSome result (λ tank. tank.now.number ≡ number) }
         ensures none { IsNone result ↔ IsFalse (is_among number (map tank_number self.now.tanks)) }
+        ensures coefficient { IfSome result (λ tank. IsWithin (pos 0) MOST_COEFFICIENT tank.now.spec.shell.coefficient) }
+        ensures roof { IfSome result (λ tank. IfSome tank.now.spec.roof IsFloatingRoof) }
+        ensures product { IfSome result (λ tank. IsTrue (is_among tank.now.product (map product_number self.now.products))) }
     {
-        tank_numbered(number, self.tanks.get())
+        item_numbered(number, self.tanks.get())
+    }
+
+    /// The product with this number. `None` exactly where the site has none.
+    pub fn product(&self, number: u16) -> Option<&Product>
+        ensures product { option_map (λ product. product.now) result ≡ product_numbered number self.now.products }
+        ensures number { IfSome result (λ product. product.now.number ≡ number) }
+        ensures none { IsNone result ↔ IsFalse (is_among number (map product_number self.now.products)) }
+    {
+        item_numbered(number, self.products.get())
     }
 }
 
@@ -151,18 +178,4 @@ fn top_of<F: Folder>(alloc: Global, folder: &mut F) -> Result<Value, SiteReadFau
 {
     let bytes = content(alloc, folder, 0, "site.toml")?;
     toml_of(alloc, 0, &bytes)
-}
-
-// The first tank with a number.
-fn tank_numbered(number: u16, tanks: &[Tank]) -> Option<&Tank>
-    ensures tank { option_map (λ tank. tank.now) result ≡ tank_numbered number tanks.now }
-    ensures number { IfSome result (λ tank. tank.now.number ≡ number) }
-    ensures none { IsNone result ↔ IsFalse (is_among number (map tank_number tanks.now)) }
-{
-    for tank in tanks {
-        if tank.number == number {
-            return Some(tank);
-        }
-    }
-    None
 }

@@ -4,6 +4,7 @@ use Rattle.std.specs.Int.RustNames.{int_lt}
 use Rattle.std.specs.Str.{bytes_eq}
 use Rattle.toml.specs.Data.{Data}
 use Rattle.farm_base.specs.Steps.{◌>>=◌}
+use Rattle.farm_fixed.specs.declared.limits.TheConstants.{MOST_COEFFICIENT, MOST_HEIGHT, MOST_ROOF_MASS}
 use Rattle.farm_fixed.specs.Range.{is_within}
 use Rattle.farm_fixed.specs.declared.records.Shell.{Shell}
 use Rattle.strap_table.specs.declared.tank.Roof.{Roof}
@@ -14,7 +15,6 @@ use Rattle.site_keys.specs.Faults.{bad, ranged}
 use Rattle.site_keys.specs.Keys.{has, quantity_at, text_at, whole_at}
 use Rattle.site_items.specs.declared.formats.Format.{Format}
 use Rattle.site_items.specs.declared.formats.Format.TheVariants.{One}
-use Rattle.site_items.specs.declared.shells.TheConstants.{GREATEST_COEFFICIENT, HEAVIEST_ROOF, HIGHEST}
 
 -- whether a shell is insulated
 abbrev pub shell_kind : ℕ → List ℕ → Result Bool SiteFault
@@ -26,16 +26,16 @@ unfoldable pub shell_at : ℕ → Data → Result Shell SiteFault
 shell_at item keys = do
   text ← text_at item keys (codes "shell")
   insulated ← shell_kind item text
-  coefficient ← whole_at item keys (codes "coefficient") (pos 0) GREATEST_COEFFICIENT
+  coefficient ← whole_at item keys (codes "coefficient") (pos 0) MOST_COEFFICIENT
   reference ← quantity_at 2 (negsuc 9999) (pos 30000) item keys (codes "reference_temperature")
   Ok (record { insulated = insulated; coefficient = coefficient; reference = reference })
 
 -- the floating roof of a tank, once it has one
 unfoldable pub floating_at : ℕ → Data → Result Roof SiteFault
 floating_at item keys = do
-  mass ← whole_at item keys (codes "roof_kg") (pos 1) HEAVIEST_ROOF
-  low ← whole_at item keys (codes "roof_low") (pos 0) HIGHEST
-  high ← whole_at item keys (codes "roof_high") (pos 0) HIGHEST
+  mass ← whole_at item keys (codes "roof_kg") (pos 1) MOST_ROOF_MASS
+  low ← whole_at item keys (codes "roof_low") (pos 0) MOST_HEIGHT
+  high ← whole_at item keys (codes "roof_high") (pos 0) MOST_HEIGHT
   ranged item (not (int_lt high low)) (record { mass = mass; low = low; high = high })
 
 -- the roof of a tank: it has all three keys of one, or none
@@ -53,15 +53,15 @@ roof_at One item keys = roof_of_three item keys
 unfoldable pub spec_at : Format → ℕ → Data → Result TankSpec SiteFault
 spec_at format item keys = do
   shell ← shell_at item keys
-  height ← whole_at item keys (codes "reference_height") (pos 1) HIGHEST
+  height ← whole_at item keys (codes "reference_height") (pos 1) MOST_HEIGHT
   roof ← roof_at format item keys
   Ok (record { shell = shell; height = height; roof = roof })
 
 -- a roof has a mass, and its zone isn't upside down
 abbrev pub is_roof : Option Roof → Bool
 is_roof None = true
-is_roof (Some roof) = is_within (pos 1) HEAVIEST_ROOF roof.mass && not (int_lt roof.high roof.low)
+is_roof (Some roof) = is_within (pos 1) MOST_ROOF_MASS roof.mass && not (int_lt roof.high roof.low)
 
 -- what is fixed of a tank is in its ranges
 abbrev pub is_spec : TankSpec → Bool
-is_spec spec = is_within (pos 0) GREATEST_COEFFICIENT spec.shell.coefficient && is_within (pos 1) HIGHEST spec.height && is_roof spec.roof
+is_spec spec = is_within (pos 0) MOST_COEFFICIENT spec.shell.coefficient && is_within (pos 1) MOST_HEIGHT spec.height && is_roof spec.roof

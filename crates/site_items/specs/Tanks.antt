@@ -18,7 +18,7 @@ use Rattle.site_tables.specs.Strappings.{strapped_file}
 use Rattle.site_tables.specs.Tables.{table_of_file}
 use Rattle.site_items.specs.declared.formats.Format.{Format}
 use Rattle.site_items.specs.declared.records.Tank.{Tank}
-use Rattle.site_items.specs.declared.tanks.TheConstants.{GREATEST_STOCK, MOST_TANKS}
+use Rattle.site_items.specs.declared.tanks.TheConstants.{MOST_STOCK, MOST_TANKS}
 use Rattle.site_items.specs.Shells.{is_spec, spec_at}
 
 -- the number of a tank
@@ -39,7 +39,7 @@ file_key false = codes "table"
 
 -- a stock, in litres or kilograms
 unfoldable pub stock_at : ℕ → Data → List ℕ → Result ℤ SiteFault
-stock_at item keys key = whole_at item keys key (neg_ℤ GREATEST_STOCK) GREATEST_STOCK
+stock_at item keys key = whole_at item keys key (neg_ℤ MOST_STOCK) MOST_STOCK
 
 -- the opening stock
 unfoldable pub opening_at : ℕ → Data → Result Amount SiteFault
@@ -74,7 +74,7 @@ tanks_of files format rounds products top = do
 
 -- a stock is at most 10^9 either way
 abbrev pub is_stock : ℤ → Bool
-is_stock stock = is_within (neg_ℤ GREATEST_STOCK) GREATEST_STOCK stock
+is_stock stock = is_within (neg_ℤ MOST_STOCK) MOST_STOCK stock
 
 -- both parts of an opening stock are
 abbrev pub is_opening : Amount → Bool

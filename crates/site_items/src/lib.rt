@@ -13,8 +13,8 @@ mod shells;
 mod tanks;
 
 pub use formats::{Format, format_at};
-pub use names::{Name, name_at};
-pub use parties::parties_of;
-pub use products::products_of;
+pub use names::{LONGEST_NAME, Name, name_at};
+pub use parties::{MOST_PARTIES, parties_of};
+pub use products::{MOST_PRODUCTS, products_of};
 pub use records::{Party, Product, Tank};
-pub use tanks::tanks_of;
+pub use tanks::{MOST_TANKS, tanks_of};

@@ -11,7 +11,7 @@ use std::alloc::Global;
 use std::marker::Model;
 
 /// A name has at most this many bytes.
-const LONGEST_NAME: usize = 32;
+pub const LONGEST_NAME: usize = 32;
 
 /// A name of the site, of a product or of a party. In a clause it is the list of its bytes.
 #[derive(Debug, Drop)]

@@ -15,7 +15,7 @@ use std::alloc::Global;
 use toml::Value;
 
 /// A site has at most this many parties.
-const MOST_PARTIES: usize = 256;
+pub const MOST_PARTIES: usize = 256;
 
 impl Numbered for Party {
     ghost use Rattle.site_items.specs.Parties.{party_number};

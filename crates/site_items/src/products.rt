@@ -22,7 +22,7 @@ use std::alloc::Global;
 use toml::Value;
 
 /// A site has at most this many products.
-const MOST_PRODUCTS: usize = 16;
+pub const MOST_PRODUCTS: usize = 16;
 
 impl Numbered for Product {
     ghost use Rattle.site_items.specs.Products.{product_number};

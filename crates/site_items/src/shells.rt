@@ -6,18 +6,11 @@ ghost use Rattle.farm_fixed.specs.Range.{IsWithin};
 ghost use Rattle.site_items.specs.Shells.{floating_at, is_roof, is_spec, roof_at, roof_of_three, shell_at, shell_kind, spec_at};
 
 use crate::Format;
-use farm_fixed::{HundredthDegree, Kg, Mm, Shell};
+use farm_fixed::{
+    HundredthDegree, Kg, MOST_COEFFICIENT, MOST_HEIGHT, MOST_ROOF_MASS, Mm, Shell,
+};
 use site_keys::{Keys, RANGE, SiteFault, bad};
 use strap_table::{Roof, TankSpec};
-
-/// A height is at most this many mm.
-const HIGHEST: i64 = 50_000;
-
-/// A shell's coefficient is at most this many 0.0000001 per C.
-const GREATEST_COEFFICIENT: i64 = 1_000;
-
-/// A roof has at most this many kg.
-const HEAVIEST_ROOF: i64 = 10_000_000;
 
 /// What is fixed of a tank.
 #[tactic(auto, unfolding(crate::specs::Shells::spec_at))]
@@ -26,7 +19,7 @@ pub fn spec_at(format: Format, keys: &Keys<'_>) -> Result<TankSpec, SiteFault>
     ensures sound { IfOk result (λ spec. IsTrue (is_spec spec)) }
 {
     let shell = shell_at(keys)?;
-    let height = keys.whole("reference_height", 1, HIGHEST)?;
+    let height = keys.whole("reference_height", 1, MOST_HEIGHT)?;
     let roof = roof_at(format, keys)?;
     Ok(TankSpec {
         shell,
@@ -39,11 +32,11 @@ pub fn spec_at(format: Format, keys: &Keys<'_>) -> Result<TankSpec, SiteFault>
 #[tactic(auto, unfolding(crate::specs::Shells::shell_at))]
 fn shell_at(keys: &Keys<'_>) -> Result<Shell, SiteFault>
     ensures shell { result ≡ shell_at keys.now.item (view keys.now.table.now) }
-    ensures range { IfOk result (λ shell. IsWithin (pos 0) GREATEST_COEFFICIENT shell.coefficient) }
+    ensures range { IfOk result (λ shell. IsWithin (pos 0) MOST_COEFFICIENT shell.coefficient) }
 {
     let kind = keys.text("shell")?;
     let insulated = shell_kind(keys.item, kind)?;
-    let coefficient = keys.whole("coefficient", 0, GREATEST_COEFFICIENT)?;
+    let coefficient = keys.whole("coefficient", 0, MOST_COEFFICIENT)?;
     let reference = keys.quantity::<HundredthDegree>("reference_temperature")?;
     Ok(Shell {
         insulated,
@@ -91,9 +84,9 @@ fn floating_at(keys: &Keys<'_>) -> Result<Roof, SiteFault>
     ensures roof { result ≡ floating_at keys.now.item (view keys.now.table.now) }
     ensures sound { IfOk result (λ roof. IsTrue (is_roof (Some roof))) }
 {
-    let mass = keys.whole("roof_kg", 1, HEAVIEST_ROOF)?;
-    let low = keys.whole("roof_low", 0, HIGHEST)?;
-    let high = keys.whole("roof_high", 0, HIGHEST)?;
+    let mass = keys.whole("roof_kg", 1, MOST_ROOF_MASS)?;
+    let low = keys.whole("roof_low", 0, MOST_HEIGHT)?;
+    let high = keys.whole("roof_high", 0, MOST_HEIGHT)?;
     if high < low {
         return Err(bad(RANGE, keys.item));
     }

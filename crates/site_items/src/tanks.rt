@@ -26,10 +26,10 @@ use strap_table::CapTable;
 use toml::Value;
 
 /// A site has at most this many tanks.
-const MOST_TANKS: usize = 64;
+pub const MOST_TANKS: usize = 64;
 
 /// An opening stock is at most this many litres or kilograms either way.
-const GREATEST_STOCK: i64 = 1_000_000_000;
+const MOST_STOCK: i64 = 1_000_000_000;
 
 impl Numbered for Tank {
     ghost use Rattle.site_items.specs.Tanks.{tank_number};
@@ -188,5 +188,5 @@ fn stock_at(keys: &Keys<'_>, key: &str) -> Result<i64, SiteFault>
     ensures stock { result ≡ stock_at keys.now.item (view keys.now.table.now) key.now }
     ensures sound { IfOk result (λ stock. IsTrue (is_stock stock)) }
 {
-    keys.whole(key, -GREATEST_STOCK, GREATEST_STOCK)
+    keys.whole(key, -MOST_STOCK, MOST_STOCK)
 }

@@ -3,3 +3,4 @@ pub mod Contents
 pub mod PlacedFacts
 pub mod Steps
 pub mod Kept
+pub mod ListMembers

@@ -1,7 +1,8 @@
 -- Lists of tables: their lengths, items of their own number, and items one after another.
-use Rattle.std.specs.Prelude.{ℕ, ◌+◌, ◌==◌, ◌&&◌, Bool, true, nat_lt, if◌then◌else◌, List, [], ◌∷◌, ◌++◌, length, map, take, drop, codes, Result, Ok, ℤ, pos}
+use Rattle.std.specs.Prelude.{◌≡◌, ℕ, ◌+◌, ◌==◌, ◌&&◌, Bool, true, IsTrue, nat_lt, if◌then◌else◌, List, [], ◌∷◌, ◌++◌, length, map, take, drop, codes, Option, Some, None, Result, Ok, ℤ, pos}
 use Rattle.std.specs.Int.RustNames.{unsigned_abs}
 use Rattle.std.specs.List.{list_all, list_any}
+use Rattle.std.specs.List.Sorted.{IsPermutation}
 use Rattle.std.specs.Ordering.{int_eq}
 use Rattle.toml.specs.Data.{Data}
 use Rattle.modbus_poll.specs.Maps.{is_between}
@@ -49,6 +50,11 @@ numbered_from number read item done (value ∷ values) = do
 abbrev pub is_among : ℕ → List ℕ → Bool
 is_among n numbers = list_any (λ other. other == n) numbers
 
+-- the first item with a number
+abbrev pub item_numbered : {A : Type 0} → (A → ℕ) → ℕ → List A → Option A
+item_numbered number n [] = None
+item_numbered number n (item ∷ items) = if number item == n then Some item else item_numbered number n items
+
 -- the number of an item, which no earlier one has
 unfoldable pub own_number : List ℕ → ℕ → Data → Result ℕ SiteFault
 own_number earlier item keys = do
@@ -77,3 +83,19 @@ rises (n ∷ numbers) = rises_from n numbers
 -- each item is sound, and their numbers rise
 abbrev pub are_numbered : {A : Type 0} → (A → ℕ) → (A → Bool) → List A → Bool
 are_numbered number is_sound items = list_all is_sound items && rises (map number items)
+
+-- each value, by its number from n on, reads as its item
+abbrev pub EachReadsAs : {A E : Type 0} → (ℕ → Data → Result A E) → ℕ → List Data → List A → Type 0
+EachReadsAs read n [] [] = Unit {0}
+EachReadsAs read n [] (item ∷ items) = ⊥
+EachReadsAs read n (value ∷ values) [] = ⊥
+EachReadsAs read n (value ∷ values) (item ∷ items) = (read n value ≡ Ok item) × EachReadsAs read (n + 1) values items
+
+-- items are what the tables at a key read as, each of them once, and their numbers rise
+pub record AreItemsAt {A E : Type 0} (number : A → ℕ) (read : ℕ → Data → Result A E) (top : Data) (key : List ℕ) (items : List A) : Type 0 where
+  pub tables : List Data
+  pub listed : array_or_none 0 top key ≡ Ok tables
+  pub in_file : List A
+  pub each : EachReadsAs read 1 tables in_file
+  pub once : IsPermutation in_file items
+  pub rising : IsTrue (rises (map number items))

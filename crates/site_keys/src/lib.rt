@@ -17,5 +17,5 @@ pub use codes::{
 pub use fault::{SiteFault, SiteReadFault, bad, bad_at};
 pub use files::{content, toml_of};
 pub use keys::Keys;
-pub use lists::{GREATEST_NUMBER, Numbered, list_at, own_number, place, reference};
+pub use lists::{GREATEST_NUMBER, Numbered, item_numbered, list_at, own_number, place, reference};
 pub use texts::is_text;

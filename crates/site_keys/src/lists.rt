@@ -1,7 +1,7 @@
 //! Lists of tables, and items that have a number of their own, in rising order of it.
 
-ghost use Rattle.std.specs.Prelude.{◌≡◌, ◌≤◌, ℕ, length, map, MatchResult, IfOk, IfErr, IsTrue, IsFalse, Ok, Err};
-ghost use Rattle.site_keys.specs.Lists.{is_among, known, list_at, own_number, place_among, placed, reference_at};
+ghost use Rattle.std.specs.Prelude.{◌≡◌, ◌≤◌, ◌↔◌, ℕ, length, map, option_map, MatchResult, IfOk, IfErr, IfSome, IsNone, IsTrue, IsFalse, Ok, Err};
+ghost use Rattle.site_keys.specs.Lists.{is_among, item_numbered, known, list_at, own_number, place_among, placed, reference_at};
 ghost use Rattle.site_keys.specs.declared.fault.SiteReadFault.TheVariants.{NoMemory};
 ghost use Rattle.toml.specs.View.{view};
 
@@ -90,6 +90,20 @@ fn known<T: Numbered>(item: u32, items: &[T], value: i64) -> Result<u16, SiteFau
         }
     }
     Err(bad(UNKNOWN, item))
+}
+
+/// The item with a number. `None` exactly where there is none.
+pub fn item_numbered<T: Numbered>(number: u16, items: &[T]) -> Option<&T>
+    ensures item { option_map (λ item. item.now) result ≡ item_numbered T.numbered number items.now }
+    ensures number { IfSome result (λ item. T.numbered item.now ≡ number) }
+    ensures none { IsNone result ↔ IsFalse (is_among number (map T.numbered items.now)) }
+{
+    for found in items {
+        if found.number() == number {
+            return Some(found);
+        }
+    }
+    None
 }
 
 /// Puts an item among others in rising order of their numbers, before the first that has a greater one.

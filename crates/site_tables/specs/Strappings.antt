@@ -2,6 +2,7 @@
 use Rattle.std.specs.Prelude.{ℕ, if◌then◌else◌, List, [], ◌∷◌, codes, Option, Some, None, Result, Ok, Err, ℤ, pos}
 use Rattle.farm_base.specs.Steps.{◌>>=◌}
 use Rattle.toml.specs.Data.{Data, as_array, as_integer}
+use Rattle.farm_fixed.specs.declared.limits.TheConstants.{MOST_HEIGHT}
 use Rattle.farm_fixed.specs.Range.{is_within}
 use Rattle.farm_rounding.specs.Table.{Row}
 use Rattle.strap_courses.specs.Courses.{Point, StrappedTank}
@@ -16,7 +17,6 @@ use Rattle.site_keys.specs.Faults.{bad, detail, fault_at, needed, ranged}
 use Rattle.site_keys.specs.Files.{toml_of}
 use Rattle.site_keys.specs.Keys.{array_at, array_or_none, has, integer_at, quantity_at, values_of, whole_at}
 use Rattle.site_keys.specs.Lists.{read_from}
-use Rattle.site_tables.specs.declared.strappings.TheConstants.{HIGHEST}
 use Rattle.site_tables.specs.Tables.{table_of_rows}
 
 -- a circumference, a deduction or a thickness, in 0.1 mm and up to 500 m
@@ -29,7 +29,7 @@ length_or_none item keys key = if has keys key then length_at item keys key else
 
 -- a height, in mm
 unfoldable pub height_at : ℕ → Data → List ℕ → Result ℤ SiteFault
-height_at item keys key = whole_at item keys key (pos 0) HIGHEST
+height_at item keys key = whole_at item keys key (pos 0) MOST_HEIGHT
 
 -- a course of a table
 unfoldable pub course_of : ℕ → Data → Result Course SiteFault
@@ -63,7 +63,7 @@ deadwood_of item keys = do
 unfoldable pub level_of : ℕ → Data → Result ℤ SiteFault
 level_of item value = do
   height ← needed item (as_integer value)
-  ranged item (is_within (pos 0) HIGHEST height) height
+  ranged item (is_within (pos 0) MOST_HEIGHT height) height
 
 -- a point of a bottom: a pair of a height and litres
 abbrev pub point_of_pair : ℕ → List Data → Result Point SiteFault

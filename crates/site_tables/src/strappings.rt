@@ -10,16 +10,13 @@ ghost use Rattle.site_keys.specs.Lists.{read_from};
 ghost use Rattle.site_tables.specs.Strappings.{bottom_at, course_of, courses_at, deadwood_of, deadwoods_at, height_at, length_at, length_or_none, level_of, parts_of, point_of, point_of_pair, rows_read, strap_fault, strapped_file, table_of_strapping};
 
 use crate::tables::table_of_rows;
-use farm_fixed::{Deci, Mm, TenthMillimetre};
+use farm_fixed::{Deci, MOST_HEIGHT, Mm, TenthMillimetre};
 use farm_rounding::RoundTable;
 use site_keys::{FIELD, Keys, RANGE, STRAP, SiteFault, SiteReadFault, bad, bad_at, toml_of};
 use std::alloc::Global;
 use strap_courses::{Course, Deadwood, StrapFault, Strapping};
 use strap_table::CapTable;
 use toml::Value;
-
-/// A height in a strapping file is at most this many mm.
-const HIGHEST: i64 = 50_000;
 
 /// The capacity table of a strapping file: courses, deadwoods and a bottom.
 #[tactic(auto, unfolding(crate::specs::Strappings::strapped_file))]
@@ -219,7 +216,7 @@ fn length_at(keys: &Keys<'_>, key: &str) -> Result<Deci, SiteFault>
 fn height_at(keys: &Keys<'_>, key: &str) -> Result<Mm, SiteFault>
     ensures height { result ≡ height_at keys.now.item (view keys.now.table.now) key.now }
 {
-    let height = keys.whole(key, 0, HIGHEST)?;
+    let height = keys.whole(key, 0, MOST_HEIGHT)?;
     Ok(Mm::new(height).unwrap())
 }
 

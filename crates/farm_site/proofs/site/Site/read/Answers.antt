@@ -1,0 +1,10 @@
+use Rattle.farm_site.proofs.Meaning.{read_means, read_misses, where_known}
+use Rattle.farm_site.proofs.site.Site.read.Goals as goal
+
+pub returns-clause-meaning : goal.returns-clause-meaning
+returns-clause-meaning g c =
+    where_known (g.F.Folder.files c.of_folder.new.folder) _ (λ files known. read_means files c.of_folder.result (c.of_folder.ensures.site files known))
+
+pub returns-clause-missing : goal.returns-clause-missing
+returns-clause-missing g c =
+    where_known (g.F.Folder.files c.of_folder.new.folder) _ (λ files known. read_misses files c.of_folder.result (c.of_folder.ensures.site files known))

@@ -1,0 +1,41 @@
+-- A site in the words of the rule: each of its lists has what the tables of the site file read as, each item once, in rising
+-- order of number.
+use Rattle.std.specs.Prelude.{◌≡◌, ℕ, List, [], map, codes, Result, Ok, Err, ◌⊎◌}
+use Rattle.toml.specs.Data.{Data}
+use Rattle.farm_ports.specs.Folders.{File}
+use Rattle.site_keys.specs.declared.fault.SiteReadFault.{SiteReadFault}
+use Rattle.site_keys.specs.declared.fault.SiteReadFault.TheVariants.{Folder, NoMemory}
+use Rattle.site_keys.specs.Faults.{Refusal, Faulty, Missing}
+use Rattle.site_keys.specs.Lists.{AreItemsAt}
+use Rattle.site_items.specs.declared.formats.Format.{Format}
+use Rattle.site_items.specs.Formats.{format_at}
+use Rattle.site_items.specs.Names.{name_at}
+use Rattle.site_items.specs.Parties.{party_number, party_of}
+use Rattle.site_items.specs.Products.{product_number, product_of}
+use Rattle.site_items.specs.Tanks.{tank_number, tank_of}
+use Rattle.site_lines.specs.Lines.{lines_of}
+use Rattle.farm_site.specs.Described.{Described, top_of_files}
+use Rattle.farm_site.specs.Rounds.{rounds_at}
+
+-- a site has the name and the rounding table of its file, its lines in the order of the file, and of each other list the items
+pub record IsSiteOf (files : List File) (site : Described) : Type 0 where
+  pub top : Data
+  pub keys : top_of_files files ≡ Ok top
+  pub format : Format
+  pub of_format : format_at top ≡ Ok format
+  pub name : name_at 0 top ≡ Ok site.name
+  pub rounds : rounds_at format top ≡ Ok site.rounds
+  pub products : AreItemsAt product_number (product_of files []) top (codes "product") site.products
+  pub parties : AreItemsAt party_number (party_of []) top (codes "party") site.parties
+  pub tanks : AreItemsAt tank_number (tank_of files format site.rounds (map product_number site.products) []) top (codes "tank") site.tanks
+  pub lines : lines_of (map tank_number site.tanks) top ≡ Ok site.lines
+
+-- a file that is due is missing
+abbrev pub IsMissing : Result Described Refusal → Type 0
+IsMissing (Ok site) = ⊥
+IsMissing (Err (Faulty fault)) = ⊥
+IsMissing (Err (Missing name)) = Unit {0}
+
+-- no site and no fault of one: the folder failed, or out of memory
+abbrev pub IsStopped : {A : Type 0} → Result A SiteReadFault → Type 0
+IsStopped result = (result ≡ Err Folder) ⊎ (result ≡ Err NoMemory)
