@@ -112,7 +112,9 @@ fn factors_of(alloc: Global, item: u32, bytes: &[u8]) -> Result<Vcf, SiteReadFau
     match Vcf::read(alloc, bytes) {
         Ok(grid) => Ok(grid),
         Err(VcfFault::Csv) => Err(bad(TEXT, item).into()),
-        Err(VcfFault::BadField(row) | VcfFault::NotGrid(row)) => Err(bad_at(FACTORS, item, row).into()),
+        Err(VcfFault::BadField(row) | VcfFault::NotGrid(row)) => Err(bad_at(
+            FACTORS, item, row,
+        ).into()),
         Err(VcfFault::TooMany) => Err(bad(FACTORS, item).into()),
         Err(VcfFault::NoMemory) => Err(SiteReadFault::NoMemory),
     }
