@@ -1,9 +1,0 @@
-pub mod Words
-pub mod Lines
-pub mod Line
-pub mod Levels
-pub mod Form
-pub mod Calc
-pub mod Issue
-pub mod Texts
-pub mod Runs

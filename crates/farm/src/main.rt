@@ -1,54 +1,50 @@
-//! `farm`, the custody desk of a tank terminal: its commands over the ports that it is handed.
+//! `farm`, the custody desk of a tank terminal.
 //!
-//! `run` does all that the program does, and `main` only hands it the real ports. docs/definitions.md states what each
+//! `main` hands the real ports to `farm_run::run`, which does all that the program does. docs/definitions.md states what each
 //! command reads and prints.
 #![tactic(auto)]
 
-mod calc;
-mod command;
-mod form;
-mod levels;
-mod line;
-mod lines;
-mod program;
-mod refusal;
-mod texts;
-mod words;
+ghost use Rattle.std.specs.Prelude.{◌≡◌, IfSome, map, string_bytes};
+ghost use Rattle.command_line.specs.Commands.{site_folder};
 
-pub use command::places;
+use command_line::places;
 use farm_ports::{DirFolder, StdSink, StdSource};
-pub use program::run;
+use farm_run::{report_no_memory, run};
 use std::process::ExitCode;
 use std::rt::Env;
 use std::{env, io};
 
-#[cfg(test)]
-mod tests;
-
-// The words behind the program's name.
+// The arguments: the words after the program's name.
 fn arguments(rt: &(impl Env + AllocGlobal)) -> io::Result<Vec<String>> {
     Ok(env::args(rt)?.skip(1).collect(rt.alloc())?)
 }
 
-// Runs the words over the real ports. What isn't named by them is opened by no command.
-fn run_words(rt: &HostRuntime, words: &[String]) -> u8 {
+// Runs the arguments over the real ports. What they don't name is opened by no command.
+fn run_arguments(rt: &HostRuntime, words: &[String]) -> u8 {
     let mut input = StdSource::new(rt.stdin());
     let mut output = StdSink::new(rt.stdout());
-    let Some((site, _)) = places(rt.alloc(), words) else {
-        return program::lack_memory(&mut output);
+    let Some(mut folder) = folder_named(rt, words) else {
+        return report_no_memory(&mut output);
     };
-    let mut folder = DirFolder::new(rt, site);
     run(rt.alloc(), words, &mut input, &mut output, &mut folder)
+}
+
+// The folder that the arguments name, of an empty path where they name none. `None` is out of memory alone.
+fn folder_named<'a>(rt: &'a HostRuntime, words: &[String]) -> Option<DirFolder<&'a HostRuntime>>
+    ensures folder { IfSome result (λ folder. folder.over ≡ site_folder (map string_bytes words.now)) }
+{
+    let (site, _) = places(rt.alloc(), words)?;
+    Some(DirFolder::new(rt, site))
 }
 
 fn main(rt: HostRuntime) -> ExitCode {
     let status = match arguments(&rt) {
-        Ok(words) => run_words(&rt, &words),
+        Ok(words) => run_arguments(&rt, &words),
         Err(error) if error.kind() == io::ErrorKind::OutOfMemory => {
-            program::lack_memory(&mut StdSink::new(rt.stdout()))
+            report_no_memory(&mut StdSink::new(rt.stdout()))
         }
-        // Words that aren't text are out of form, as no words are.
-        Err(_) => run_words(&rt, &[]),
+        // Arguments that aren't text are no command, as no arguments are.
+        Err(_) => run_arguments(&rt, &[]),
     };
     ExitCode::from(status)
 }

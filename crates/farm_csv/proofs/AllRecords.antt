@@ -3,6 +3,7 @@ use Rattle.std.proofs.Common.{◌≡◌, ◌≢◌, ℕ, zero, suc, ◌+◌, ◌
 use Rattle.std.proofs.lemmas.Bool.Decides.{nat_tests}
 use Rattle.std.proofs.lemmas.List.{append-nil}
 use Rattle.std.specs.Prelude.{IfSome}
+use Rattle.farm_base.proofs.BoolTests.{and_from, and_parts}
 use Rattle.csv.specs.Machine.{Read, after_end, ends_at_end, ends_with, field_after, fields_after, in_field, is_end, next_record, start_field, start_record, step}
 use Rattle.csv.specs.Reading.{ExplainsRead, NextIs, Reached, ReadsNext, default_config, records, records_from, source_of, strip_bom}
 use Rattle.csv.specs.declared.error.ErrorKind.{ErrorKind}
@@ -123,21 +124,9 @@ abbrev pub IsExpected : Option ℕ → List (List (List ℕ)) → Type 0
 IsExpected None rows = rows ≡ []
 IsExpected (Some size) rows = (0 < length rows) × (all_of_length size rows ≡ true)
 
-and_both : (a b : Bool) → a ≡ true → b ≡ true → (a && b) ≡ true
-and_both true b first second = second
-and_both false b first second = first
-
-and_first : (a b : Bool) → (a && b) ≡ true → a ≡ true
-and_first true b both = refl
-and_first false b both = both
-
-and_second : (a b : Bool) → (a && b) ≡ true → b ≡ true
-and_second true b both = both
-and_second false b both = cc
-
 all_more : (size : ℕ) (rows : List (List (List ℕ))) (f : List (List ℕ)) → all_of_length size rows ≡ true → length f ≡ size → all_of_length size (rows ++ f ∷ []) ≡ true
-all_more size [] f all one = and_both (length f == size) true (eq-eqb (length f) size one) refl
-all_more size (r ∷ rows) f all one = and_both (length r == size) (all_of_length size (rows ++ f ∷ [])) (and_first _ _ all) (all_more size rows f (and_second _ _ all) one)
+all_more size [] f all one = and_from (length f == size) true (eq-eqb (length f) size one) refl
+all_more size (r ∷ rows) f all one = and_from (length r == size) (all_of_length size (rows ++ f ∷ [])) (and_parts _ _ all).0 (all_more size rows f (and_parts _ _ all).1 one)
 
 pub expected_more : (old new : Option ℕ) (rows : List (List (List ℕ))) (f : List (List ℕ)) → IsExpected old rows → IfSome old (λ e. new ≡ Some e) → new ≡ Some (length f) → IsExpected new (rows ++ f ∷ [])
 expected_more None new rows f none kept is = rw (is, none) (omega arith, all_more (length f) [] f refl refl)
@@ -151,8 +140,8 @@ unfolding equal_lengths
 expected_equal None rows none = rw none refl
 expected_equal (Some size) [] all = refl
 expected_equal (Some size) (r ∷ rows) all =
-    let one : length r ≡ size = grind (arith, nat_tests, and_first (length r == size) (all_of_length size rows) all.1) in
-    rw one (and_second (length r == size) (all_of_length size rows) all.1)
+    let one : length r ≡ size = grind (arith, nat_tests, (and_parts (length r == size) (all_of_length size rows) all.1).0) in
+    rw one (and_parts (length r == size) (all_of_length size rows) all.1).1
 
 not_all : (size : ℕ) (rows : List (List (List ℕ))) (f : List (List ℕ)) (more : List (List (List ℕ))) → length f ≢ size → all_of_length size (rows ++ (f ∷ more)) ≡ false
 not_all size [] f more other = by (length f == size) refl
@@ -171,7 +160,7 @@ unequal : (size : ℕ) (rows : List (List (List ℕ))) (f : List (List ℕ)) (mo
 unfolding equal_lengths
 unequal size [] f more all other = absurd (omega (arith, all.0))
 unequal size (r ∷ rows) f more all other =
-    let one : length r ≡ size = grind (arith, nat_tests, and_first (length r == size) (all_of_length size rows) all.1) in
+    let one : length r ≡ size = grind (arith, nat_tests, (and_parts (length r == size) (all_of_length size rows) all.1).0) in
     rw one (not_all size rows f more other)
 
 next_of : (s : State) (y : List ℕ) (after : Option (List ℕ)) (fields : List (List ℕ)) (s2 : State) → ReadsNext default_config s (Some y) after true fields s2 →
@@ -183,7 +172,7 @@ next_of s y (Some ys) fields s2 h = by (next_record default_config s [] [] y) re
     by None e h = cc
     by (Some p) e h = (p, e, h.1)
 
--- unequal lengths are told only of records that have them
+-- unequal lengths are reported only of records that have them
 pub uneven_is : {R : Type 0} (rem : R → Option (List ℕ)) (a b : Reader R) (text : List ℕ) (why : ErrorKind) (rows : List (List (List ℕ))) (y : List ℕ) → a.config ≡ default_config → source_of rem a ≡ Some y →
     Reached default_config st.StartRecord (strip_bom text) rows a.state y → IsExpected a.expected rows → ExplainsRead rem a b false why → fault_of why ≡ Uneven → equal_lengths (records_of text) ≡ false
 uneven_is rem a b text (kind.UnequalLengths place expected len) rows y config source reached all why uneven =

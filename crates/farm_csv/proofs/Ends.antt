@@ -1,7 +1,8 @@
 -- Blanks at the ends of a text.
 use Rattle.std.proofs.Common.{◌≡◌, ℕ, ◌+◌, ◌<◌, ◌==◌, true, false, List, [], ◌∷◌, ◌++◌, drop, length, get_or, ne_eqb, refl, arith}
 use Rattle.std.proofs.lemmas.List.{drop_more}
-use Rattle.farm_csv.specs.Blanks.{drop_blanks, is_blank, length_before_blanks}
+use Rattle.farm_base.specs.Bytes.{is_blank}
+use Rattle.farm_csv.specs.Blanks.{drop_blanks, length_before_blanks}
 
 -- a blank at the start goes
 pub start_blank : (text : List ℕ) (i : ℕ) → i < length text → is_blank (get_or text i 0) ≡ true → drop_blanks (drop i text) ≡ drop_blanks (drop (i + 1) text)

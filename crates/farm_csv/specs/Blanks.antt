@@ -1,9 +1,6 @@
--- Blanks, spaces and tabs, at the ends of a text.
-use Rattle.std.specs.Prelude.{ℕ, ◌+◌, Bool, ◌&&◌, ◌||◌, ◌==◌, if◌then◌else◌, List, [], ◌∷◌, take}
-
--- a blank is a space or a tab
-abbrev pub is_blank : ℕ → Bool
-is_blank byte = byte == 32 || byte == 9
+-- Blanks at the ends of a text.
+use Rattle.std.specs.Prelude.{ℕ, ◌+◌, ◌&&◌, ◌==◌, if◌then◌else◌, List, [], ◌∷◌, take}
+use Rattle.farm_base.specs.Bytes.{is_blank}
 
 -- a text with no blank at its start
 unfoldable pub drop_blanks : List ℕ → List ℕ

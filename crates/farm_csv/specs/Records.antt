@@ -10,7 +10,7 @@ use Rattle.farm_csv.specs.declared.fault.CsvFault.TheVariants.{Uneven, NoMemory}
 abbrev pub records_of : List ℕ → List (List (List ℕ))
 records_of text = records default_config (strip_bom text)
 
--- each record has so many fields
+-- each record has this many fields
 abbrev pub all_of_length : ℕ → List (List (List ℕ)) → Bool
 all_of_length size [] = true
 all_of_length size (fields ∷ records) = length fields == size && all_of_length size records
@@ -20,7 +20,7 @@ unfoldable pub equal_lengths : List (List (List ℕ)) → Bool
 equal_lengths [] = true
 equal_lengths (fields ∷ records) = all_of_length (length fields) records
 
--- what an error of the reader is told as
+-- what an error of the reader is reported as
 abbrev pub fault_of : ErrorKind → CsvFault
 fault_of (kind.UnequalLengths place expected len) = Uneven
 fault_of (kind.Io e) = NoMemory

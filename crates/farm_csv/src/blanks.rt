@@ -1,19 +1,21 @@
 //! Blanks at the ends of a field.
 
 ghost use Rattle.std.specs.Prelude.{◌≡◌, ◌≤◌, length, drop};
-ghost use Rattle.farm_csv.specs.Blanks.{drop_blanks, is_blank, length_before_blanks, without_blanks};
+ghost use Rattle.farm_csv.specs.Blanks.{drop_blanks, length_before_blanks, without_blanks};
+
+use farm_base::is_blank;
 
 /// A text with no blank at either end.
 pub fn without_blanks(text: &[u8]) -> &[u8]
-    ensures { result.now ≡ without_blanks text.now }
+    ensures trimmed { result.now ≡ without_blanks text.now }
 {
-    let text = &text[blanks(text)..];
+    let text = &text[blanks_at_start(text)..];
     &text[..length_before_blanks(text)]
 }
 
 /// How many blanks a text begins with.
-fn blanks(text: &[u8]) -> usize
-    ensures value { drop result text.now ≡ drop_blanks text.now }
+fn blanks_at_start(text: &[u8]) -> usize
+    ensures rest { drop result text.now ≡ drop_blanks text.now }
     ensures within { result ≤ length text.now }
 {
     'bytes: for index in 0..text.len() {
@@ -26,7 +28,7 @@ fn blanks(text: &[u8]) -> usize
 
 /// How many bytes of a text stand before the blanks at its end.
 fn length_before_blanks(text: &[u8]) -> usize
-    ensures value { result ≡ length_before_blanks text.now }
+    ensures length { result ≡ length_before_blanks text.now }
     ensures within { result ≤ length text.now }
 {
     let len = text.len();
@@ -36,11 +38,4 @@ fn length_before_blanks(text: &[u8]) -> usize
         }
     }
     0
-}
-
-/// Whether a byte is a space or a tab.
-fn is_blank(byte: u8) -> bool
-    ensures { result ≡ is_blank byte }
-{
-    byte == b' ' || byte == b'\t'
 }

@@ -1,3 +1,5 @@
+//! Why a text gives no records.
+
 ghost use Rattle.std.specs.Prelude.{◌≡◌};
 ghost use Rattle.farm_csv.specs.declared.fault.CsvFault.TheVariants.{NoMemory};
 

@@ -14,7 +14,7 @@ use std::alloc::Global;
 
 /// Each record of a text, a header among them.
 ///
-/// `Uneven` where one has another number of fields than the first. Any other failure is want of memory.
+/// `Uneven` where one has another number of fields than the first. Any other failure is out of memory.
 pub fn records_of(alloc: Global, text: &[u8]) -> Result<Vec<ByteRecord>, CsvFault>
     ensures records { IfOk result (λ list. records_of text.now ≡ map fields_of list.items) }
     ensures even { IfOk result (λ list. equal_lengths (records_of text.now) ≡ true) }
@@ -44,7 +44,7 @@ fn reader_of(alloc: Global, text: &[u8]) -> Reader<&[u8]>
         .from_reader(alloc, text)
 }
 
-/// What an error of the reader is told as. Any but unequal lengths comes of a reader over bytes only for want of memory.
+/// What an error of the reader is reported as. Over bytes in memory the only one but unequal lengths is out of memory.
 fn fault_of(error: &Error) -> CsvFault
     ensures { result ≡ fault_of (error_kind error.now) }
 {

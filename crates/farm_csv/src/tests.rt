@@ -20,7 +20,7 @@ fn a_header_is_a_record(rt: HostRuntime) -> Result<(), Fail> {
     Ok(())
 }
 
-/// The records of a text, each field behind a bar and each record before a slash.
+/// The records of a text, each field after a bar and each record before a slash.
 fn shown(alloc: Global, text: &[u8]) -> Result<Vec<u8>, Fail> {
     let mut shown = Vec::new(alloc);
     for record in &records_of(alloc, text)? {

@@ -1,4 +1,5 @@
 pub mod TextLaws
+pub mod BadBytes
 pub mod Parts
 pub mod ParsingLaws
 pub mod PrintingLaws

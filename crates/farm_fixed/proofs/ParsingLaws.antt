@@ -10,20 +10,23 @@ use Rattle.farm_fixed.specs.declared.fault.ReadFault.TheVariants.{Empty, BadByte
 use Rattle.farm_fixed.specs.Range.{IsWithin, is_within, IsSmall}
 use Rattle.farm_fixed.specs.Text.{Number, IsTextOf, bad_offset, signed, value_of}
 use Rattle.farm_fixed.specs.Parsing.{number_of, quantity_from, unless_bad, quantity_of, IsReadAs}
-use Rattle.farm_fixed.proofs.TextLaws.{bad_at_from_some}
+use Rattle.farm_fixed.proofs.BadBytes.{bad_at_from_some}
 use Rattle.farm_fixed.proofs.Parts.{text_of_parts}
 
 -- the test of the range tells it
 pub is_within-true : (least most value : ℤ) → is_within least most value ≡ true → IsWithin least most value
 is_within-true least most value e = record { low = grind (arith, ints); high = grind (arith, ints) }
 
+-- a value in its range passes the test
 pub is_within-from : (least most value : ℤ) → IsWithin least most value → is_within least most value ≡ true
 is_within-from least most value within = let low = within.low in let high = within.high in grind (arith, ints)
 
+-- a cut magnitude at most the greatest value was not cut
 above_most : (most : ℤ) (n : ℕ) → unsigned_abs most ≤ 10 ^ 17 → pos (min n (10 ^ 18)) ≤ℤ most → n < 10 ^ 18
 above_most (pos m) n small high = omega (arith, ints)
 above_most (negsuc m) n small high = omega (arith, ints)
 
+-- nor one at least the least value, under a minus
 below_least : (least : ℤ) (n : ℕ) → unsigned_abs least ≤ 10 ^ 17 → least ≤ℤ neg_ℤ (pos (min n (10 ^ 18))) → n < 10 ^ 18
 below_least (pos m) n small low = omega (arith, ints)
 below_least (negsuc m) n small low = omega (arith, ints)
@@ -33,18 +36,22 @@ pub not_cut : (least most : ℤ) (places : ℕ) (negative : Bool) (n : ℕ) → 
 not_cut least most places true n small within = below_least least n small.low within.low
 not_cut least most places false n small within = above_most most n small.high within.high
 
+-- a magnitude at most the greatest value is small
 in_range : (most : ℤ) (n : ℕ) → unsigned_abs most ≤ 10 ^ 17 → pos n ≤ℤ most → n < 10 ^ 18
 in_range (pos m) n small high = omega (arith, ints)
 in_range (negsuc m) n small high = omega (arith, ints)
 
+-- and so is one at least the least value, under a minus
 in_range_below : (least : ℤ) (n : ℕ) → unsigned_abs least ≤ 10 ^ 17 → least ≤ℤ neg_ℤ (pos n) → n < 10 ^ 18
 in_range_below (pos m) n small low = omega (arith, ints)
 in_range_below (negsuc m) n small low = omega (arith, ints)
 
+-- a value in range has a small magnitude
 pub small_within : (least most : ℤ) (places : ℕ) (negative : Bool) (n : ℕ) → IsSmall least most places → IsWithin least most (signed negative n) → n < 10 ^ 18
 small_within least most places true n small within = in_range_below least n small.low within.low
 small_within least most places false n small within = in_range most n small.high within.high
 
+-- a small magnitude is not cut
 cut_same : (n : ℕ) → n < 10 ^ 18 → min n (10 ^ 18) ≡ n
 cut_same n h = omega arith
 
@@ -56,12 +63,15 @@ within_cut least most places negative n v small is = (
   λ within. is ∙ ap (signed negative) (cut_same n (small_within least most places negative n small within)),
 )
 
+-- the test of few enough decimals
 fits_test : (places n : ℕ) → n ≤ places → nat_lt places n ≡ false
 fits_test places n h = grind (arith, nat_tests)
 
+-- the test of too many decimals
 fine_test : (places n : ℕ) → places < n → nat_lt places n ≡ true
 fine_test places n h = grind (arith, nat_tests)
 
+-- a value outside its range fails the test
 outside_test : (least most value : ℤ) (b : Bool) → is_within least most value ≡ b → ¬ (IsWithin least most value) → b ≡ false
 outside_test least most value true e outside = absurd (outside (is_within-true least most value e))
 outside_test least most value false e outside = refl
@@ -72,12 +82,14 @@ pub from_within : (places : ℕ) (least most : ℤ) (number : Number) → length
 unfolding quantity_from
 from_within places least most number fits within = simp (fits_test places (length number.fraction) fits, is_within-from least most (value_of places number) within)
 
+-- a number outside the range is refused
 pub from_outside : (places : ℕ) (least most : ℤ) (number : Number) → length number.fraction ≤ places → ¬ (IsWithin least most (value_of places number)) →
     quantity_from places least most number ≡ Err OutOfRange
 unfolding quantity_from
 from_outside places least most number fits outside =
     simp (fits_test places (length number.fraction) fits, outside_test least most (value_of places number) (is_within least most (value_of places number)) refl outside)
 
+-- a number with too many decimals is refused
 pub from_fine : (places : ℕ) (least most : ℤ) (number : Number) → places < length number.fraction → quantity_from places least most number ≡ Err TooFine
 unfolding quantity_from
 from_fine places least most number fine = simp (fine_test places (length number.fraction) fine)
@@ -91,6 +103,7 @@ from_cut_within places least most number v small fits is within =
     let same : v ≡ value_of places number = (within_cut least most places number.negative n v small is).0 within in
     from_within places least most number fits (subst (IsWithin least most) same within) ∙ ap Ok (sym same)
 
+-- a cut value outside the range comes from a number outside it
 pub from_cut_outside : (places : ℕ) (least most : ℤ) (number : Number) (v : ℤ) → IsSmall least most places → length number.fraction ≤ places →
     v ≡ signed number.negative (min (digits_value 10 (number.whole ++ number.fraction ++ replicate (places - length number.fraction) 48)) (10 ^ 18)) →
     ¬ (IsWithin least most v) → quantity_from places least most number ≡ Err OutOfRange
@@ -106,16 +119,19 @@ unfolding quantity_of
 quantity_of-bad places least most [] offset some e = absurd (omega arith)
 quantity_of-bad places least most (byte ∷ bytes) offset some e = ap (λ o. unless_bad o (quantity_from places least most (number_of (byte ∷ bytes)))) e
 
+-- a number is read by its parts
 pub quantity_of-number : (places : ℕ) (least most : ℤ) (text : List ℕ) → 0 < length text → bad_offset text ≡ None → quantity_of places least most text ≡ quantity_from places least most (number_of text)
 unfolding quantity_of
 quantity_of-number places least most [] some e = absurd (omega arith)
 quantity_of-number places least most (byte ∷ bytes) some e = ap (λ o. unless_bad o (quantity_from places least most (number_of (byte ∷ bytes)))) e
 
+-- an empty text is refused
 pub quantity_of-empty : (places : ℕ) (least most : ℤ) (text : List ℕ) → length text ≡ 0 → quantity_of places least most text ≡ Err Empty
 unfolding quantity_of
 quantity_of-empty places least most [] e = refl
 quantity_of-empty places least most (byte ∷ bytes) e = absurd (omega arith)
 
+-- what a number is read as is right
 right_from : (places : ℕ) (least most : ℤ) (byte : ℕ) (bytes : List ℕ) (fine within : Bool) → let text = byte ∷ bytes in let number = number_of text in
     nat_lt places (length number.fraction) ≡ fine → is_within least most (value_of places number) ≡ within → IsTextOf text number →
     IsReadAs places least most text (if fine then Err TooFine else (if within then Ok (value_of places number) else Err OutOfRange))
@@ -130,6 +146,7 @@ right_from places least most byte bytes false false f r w = (
       let no : is_within least most value ≡ true = is_within-from least most value within in cc,
 )
 
+-- what a text is read as is right, by its first bad byte
 right_unless : (places : ℕ) (least most : ℤ) (byte : ℕ) (bytes : List ℕ) (bad : Option ℕ) → bad_offset (byte ∷ bytes) ≡ bad →
     IsReadAs places least most (byte ∷ bytes) (unless_bad bad (quantity_from places least most (number_of (byte ∷ bytes))))
 unfolding quantity_from
@@ -163,9 +180,11 @@ value_from_parts places number negative whole fraction magnitude v n w f m is =
 pub empty_length : (text : List ℕ) (b : Bool) → b ≡ (length text == 0) → b ≡ true → length text ≡ 0
 empty_length text b e h = grind (arith, nat_tests)
 
+-- a text that is not empty has a byte
 pub some_length : (text : List ℕ) (b : Bool) → b ≡ (length text == 0) → b ≡ false → 0 < length text
 some_length text b e h = grind (arith, nat_tests)
 
+-- what a number is read as, by its answer
 abbrev pub Answered : ℕ → ℤ → ℤ → Number → Result ℤ ReadFault → Type 0
 Answered places least most number answer = answer ≡ quantity_from places least most number
 

@@ -4,17 +4,22 @@ use Rattle.std.specs.Char.{IsAsciiDigit}
 use Rattle.std.specs.List.{position_or_len, before_first, after_first}
 use Rattle.farm_fixed.specs.Text.{Number, sign_text, fraction_text, IsTextOf, bad_offset}
 use Rattle.farm_fixed.specs.Parsing.{unsigned_text, number_of}
-use Rattle.farm_fixed.proofs.TextLaws.{Digits, not_minus, not_point, number_from_none}
+use Rattle.farm_fixed.proofs.TextLaws.{Digits, not_minus, not_point}
+use Rattle.farm_fixed.proofs.BadBytes.{number_from_none}
 
+-- where the point of a text stands
 abbrev point_at : List ℕ → ℕ
 point_at text = position_or_len (λ byte. byte == 46) text
 
+-- a digit in front moves the point by one
 point_after_digit : (d : ℕ) (t : List ℕ) → IsAsciiDigit d → point_at (d ∷ t) ≡ suc (point_at t)
 point_after_digit d t digit = simp (not_point d digit) (omega arith)
 
+-- one byte more before an offset of a text
 take_one_more : (n d : ℕ) (k : ℕ) (t : List ℕ) → n ≡ suc k → take n (d ∷ t) ≡ d ∷ take k t
 take_one_more n d k t e = rw e refl
 
+-- one byte more after it
 drop_one_more : (n d : ℕ) (k : ℕ) (t : List ℕ) → n ≡ suc k → drop (n + 1) (d ∷ t) ≡ drop (k + 1) t
 drop_one_more n d k t e = let one : n + 1 ≡ suc (k + 1) = omega arith in rw one refl
 
@@ -40,6 +45,7 @@ sign_is true whole fraction some digits = refl
 sign_is false [] fraction some digits = absurd (omega arith)
 sign_is false (d ∷ ds) fraction some digits = not_minus d digits.0
 
+-- a text without its minus
 without_sign : (negative : Bool) (whole fraction : List ℕ) → 0 < length whole → Digits whole → unsigned_text (sign_text negative ++ whole ++ fraction_text fraction) ≡ whole ++ fraction_text fraction
 without_sign true whole fraction some digits = refl
 without_sign false [] fraction some digits = absurd (omega arith)

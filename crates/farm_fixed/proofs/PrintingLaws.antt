@@ -20,6 +20,7 @@ small_units (negsuc m) most (negsuc n) places small within = let low = small.low
 pub small_scale : (places : ℕ) → places ≤ 5 → 10 ^ places ≤ 10 ^ 5
 small_scale places h = pow-le-pow_right {n = 10} (lit< tt) h
 
+-- a power of ten is above zero
 pub some_scale : (places : ℕ) → 0 < 10 ^ places
 some_scale places = one-le-pow places 10 (lit< tt)
 
@@ -27,9 +28,11 @@ some_scale places = one-le-pow places 10 (lit< tt)
 pub short_decimals : (places n : ℕ) → 0 < places → places ≤ 5 → n < 10 ^ places → length (decimal n) ≤ places
 short_decimals places n some few below = let scale = small_scale places few in length-decimal-le places n some below (omega arith)
 
+-- a small number has few digits
 pub short_whole : (n : ℕ) → n ≤ 10 ^ 17 → length (decimal n) ≤ 18
 short_whole n small = length-decimal-le 18 n (lit< tt) (omega arith) (omega arith)
 
+-- a quotient of a small number is small
 pub small_quotient : (n scale : ℕ) → n ≤ 10 ^ 17 → n / scale ≤ 10 ^ 17
 small_quotient n scale small = let less : n / scale ≤ n = div-le_self n scale in omega arith
 
@@ -53,6 +56,7 @@ digits_at_end n start old new blank within written before =
     let digits : drop start new ≡ decimal n = written ∙ ap (λ rest. decimal n ++ rest) nothing ∙ append-nil (decimal n) in
     sym (take-append-drop start new) ∙ ap (λ front. front ++ drop start new) zeros ∙ ap (λ rest. replicate start 48 ++ rest) digits
 
+-- digits at the end of zeros are padded
 pub padded_at_end : (places n start : ℕ) (old new : List ℕ) → places ≤ 5 → length (decimal n) ≤ places → old ≡ replicate 32 48 →
     start + length (decimal n) ≡ 32 → drop start new ≡ decimal n ++ drop 32 old → take start new ≡ take start old → drop (32 - places) new ≡ padded places n
 padded_at_end places n start old new few short blank ends written before =
@@ -64,11 +68,13 @@ unfolding quantity_text
 not_below_zero places (pos n) above = refl
 not_below_zero places (negsuc n) above = cc
 
+-- the text of a number below zero has a minus
 below_zero : (places : ℕ) (value : ℤ) → int_lt value (pos 0) ≡ true → 45 ∷ magnitude_text places (unsigned_abs value) ≡ quantity_text places value
 unfolding quantity_text
 below_zero places (pos n) below = absurd (grind (arith, ints))
 below_zero places (negsuc n) below = refl
 
+-- a minus that is written in front makes that text
 pub minus_in_front : (places : ℕ) (value : ℤ) (start : ℕ) (buffer : List ℕ) → 0 < start → start ≤ length buffer → int_lt value (pos 0) ≡ true →
     drop start buffer ≡ magnitude_text places (unsigned_abs value) → drop (start - 1) (set buffer (start - 1) 45) ≡ quantity_text places value
 minus_in_front places value start buffer some within below text =

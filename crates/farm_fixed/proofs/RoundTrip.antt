@@ -17,12 +17,15 @@ use Rattle.farm_fixed.specs.Text.{Number, IsTextOf, sign_text, fraction_text, si
 use Rattle.farm_fixed.proofs.Parts.{parts_are}
 use Rattle.farm_fixed.proofs.PrintingLaws.{small_units, some_scale, small_scale, short_decimals, small_quotient}
 use Rattle.farm_fixed.proofs.ParsingLaws.{from_within, quantity_of-number}
-use Rattle.farm_fixed.proofs.TextLaws.{Digits, none_from_number}
+use Rattle.farm_fixed.proofs.TextLaws.{Digits}
+use Rattle.farm_fixed.proofs.BadBytes.{none_from_number}
 use Rattle.farm_fixed.proofs.Values.{value-append}
 
+-- the digits of a numeral have its value
 own : IsNumeralModel Digits (digits_value 10)
 own = numerals_by_value Digits (search rules)
 
+-- a digit among others, by its weight
 spread : (n d scale all rest last : ℕ) → all ≡ (n * 10 + d) * scale + rest → last ≡ (0 * 10 + d) * scale + rest → all ≡ n * (scale * 10) + last
 spread n d scale all rest last whole part = omega arith
 
@@ -35,14 +38,17 @@ value_scaled n (d ∷ ds) =
     spread n digit (10 ^ length ds) (digits_value_after 10 (n * 10 + digit) ds) (digits_value_after 10 0 ds) last (value_scaled (n * 10 + digit) ds) (value_scaled (0 * 10 + digit) ds)
     ∙ ap (λ scale. n * scale + last) (sym (pow-suc 10 (length ds)))
 
+-- zeros in front change no value
 zeros_in_front : (k : ℕ) (ds : List ℕ) → digits_value_after 10 0 (replicate k 48 ++ ds) ≡ digits_value_after 10 0 ds
 zeros_in_front zero ds = refl
 zeros_in_front (suc k) ds = zeros_in_front k ds
 
+-- digits after zeros are digits
 digits_after_zeros : (k : ℕ) (ds : List ℕ) → Digits ds → Digits (replicate k 48 ++ ds)
 digits_after_zeros zero ds digits = digits
 digits_after_zeros (suc k) ds digits = ((omega arith, omega arith), digits_after_zeros k ds digits)
 
+-- a unit with decimals has some
 some_places : (places : ℕ) → 0 < places → (places == 0) ≡ false
 some_places places some = grind (arith, nat_tests)
 
@@ -50,6 +56,7 @@ some_places places some = grind (arith, nat_tests)
 abbrev decimals_of : ℕ → ℕ → List ℕ
 decimals_of places n = if places == 0 then [] else padded places (n % 10 ^ places)
 
+-- padded digits have the length that was asked for
 length-padded : (places n : ℕ) → 0 < places → places ≤ 5 → n < 10 ^ places → length (padded places n) ≡ places
 length-padded places n some few below =
     let short = short_decimals places n some few below in
@@ -57,6 +64,7 @@ length-padded places n some few below =
     let zeros = length-replicate {A = ℕ} (places - length (decimal n)) 48 in
     omega arith
 
+-- what is left over a power of ten is below it
 below_scale : (places n : ℕ) → n % 10 ^ places < 10 ^ places
 below_scale places n = mod_below n (10 ^ places) (some_scale places)
 
@@ -83,13 +91,16 @@ record AreParts (places n : ℕ) (fraction : List ℕ) : Type 0 where
   fits : length fraction ≤ places
   value : digits_value 10 (decimal (n / 10 ^ places) ++ fraction ++ replicate (places - length fraction) 48) ≡ n
 
+-- the text of some decimals
 point_and : (ds : List ℕ) → 0 < length ds → fraction_text ds ≡ 46 ∷ ds
 point_and [] some = absurd (omega arith)
 point_and (d ∷ ds) some = refl
 
+-- a numeral is of digits
 decimal_digits : (n : ℕ) → n ≤ 10 ^ 17 → Digits (decimal n)
 decimal_digits n small = digits_decimal own n (omega arith)
 
+-- the parts of a text with a point
 parts_with_point : (places n : ℕ) → 0 < places → places ≤ 5 → n ≤ 10 ^ 17 → AreParts places n (padded places (n % 10 ^ places))
 parts_with_point places n some few small =
     let r = n % 10 ^ places in
@@ -108,6 +119,7 @@ parts_with_point places n some few small =
           ∙ value_whole places n some few small;
     }
 
+-- the parts of a text
 parts_of : (places n : ℕ) → places ≤ 5 → n ≤ 10 ^ 17 → AreParts places n (decimals_of places n)
 parts_of zero n few small = record {
   text = refl;
@@ -122,14 +134,17 @@ parts_of (suc p) n few small =
     let all = parts_with_point (suc p) n (omega arith) few small in
     subst (AreParts (suc p) n) (simp point) all
 
+-- a value is below zero
 abbrev is_below : ℤ → Bool
 is_below (pos n) = false
 is_below (negsuc n) = true
 
+-- the minus of a value is that of its text
 sign_of : (value : ℤ) → minus_of value ≡ sign_text (is_below value)
 sign_of (pos n) = refl
 sign_of (negsuc n) = refl
 
+-- a value is its magnitude under its sign
 signed_magnitude : (value : ℤ) → signed (is_below value) (unsigned_abs value) ≡ value
 signed_magnitude (pos n) = refl
 signed_magnitude (negsuc n) = refl
@@ -142,6 +157,7 @@ number_for places value = record {
   fraction = decimals_of places (unsigned_abs value);
 }
 
+-- the printed text is that of its parts
 text_for : (places : ℕ) (value : ℤ) → places ≤ 5 → unsigned_abs value ≤ 10 ^ 17 → IsTextOf (quantity_text places value) (number_for places value)
 unfolding quantity_text
 text_for places value few small =
@@ -156,6 +172,7 @@ text_for places value few small =
       fraction = parts.digits;
     }
 
+-- the text of a number has a byte
 some_text : (text : List ℕ) (number : Number) → IsTextOf text number → 0 < length text
 some_text text number w =
     let all = ap length w.parts in

@@ -3,6 +3,7 @@ use Rattle.std.proofs.Common.{◌≡◌, ℕ, ◌+◌, ◌*◌, min, List, [], �
 use Rattle.std.specs.Char.{digit_value}
 use Rattle.std.specs.Str.Parse.{digits_value_after}
 
+-- a number that is cut twice is cut once
 cut_once : (n d top : ℕ) → min (min n top * 10 + d) top ≡ min (n * 10 + d) top
 cut_once n d top = omega arith
 

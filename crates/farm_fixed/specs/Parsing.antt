@@ -1,4 +1,4 @@
--- Reading a quantity from its text, with the first refusal: empty, a bad byte, too many decimals, out of range.
+-- Parsing a quantity from its text, with the first refusal: empty, a bad byte, too many decimals, out of range.
 use Rattle.std.specs.Prelude.{◌≡◌, ℕ, ◌<◌, ◌≤◌, if◌then◌else◌, List, [], ◌∷◌, length, Option, Some, None, Result, Ok, Err, ◌==◌, nat_lt, slice_index, drop, ℤ}
 use Rattle.std.specs.List.{before_first, after_first}
 use Rattle.farm_fixed.specs.declared.fault.ReadFault.{ReadFault}
@@ -18,12 +18,13 @@ number_of text = record {
   fraction = after_first (λ byte. byte == 46) (unsigned_text text);
 }
 
--- a quantity of so many decimals and this range, from the parts of a number's text
+-- a quantity of this many decimals and this range, from the parts of a number's text
 unfoldable pub quantity_from : ℕ → ℤ → ℤ → Number → Result ℤ ReadFault
 quantity_from places least most number =
     if nat_lt places (length number.fraction) then Err TooFine
     else (if is_within least most (value_of places number) then Ok (value_of places number) else Err OutOfRange)
 
+-- a bad byte is refused before all else
 abbrev pub unless_bad : Option ℕ → Result ℤ ReadFault → Result ℤ ReadFault
 unless_bad (Some offset) value = Err (BadByte offset)
 unless_bad None value = value
@@ -34,7 +35,7 @@ quantity_of places least most [] = Err Empty
 quantity_of places least most (byte ∷ bytes) =
     unless_bad (bad_offset (byte ∷ bytes)) (quantity_from places least most (number_of (byte ∷ bytes)))
 
--- Reading in the words of the rule: the answer is right for this text.
+-- Parsing in the words of the rule: the answer is right for this text.
 abbrev pub IsReadAs : ℕ → ℤ → ℤ → List ℕ → Result ℤ ReadFault → Type 0
 IsReadAs places least most text (Ok value) =
     (number : Number) × IsTextOf text number × (length number.fraction ≤ places) × (value ≡ value_of places number) × IsWithin least most value

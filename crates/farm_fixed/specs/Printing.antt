@@ -6,11 +6,12 @@ use Rattle.std.specs.Int.RustNames.{unsigned_abs}
 abbrev pub padded : ℕ → ℕ → List ℕ
 padded places n = replicate (places - length (decimal n)) 48 ++ decimal n
 
--- a magnitude of units with so many decimals
+-- a magnitude of units with this many decimals
 abbrev pub magnitude_text : ℕ → ℕ → List ℕ
 magnitude_text places units =
     decimal (units / 10 ^ places) ++ (if places == 0 then [] else 46 ∷ padded places (units % 10 ^ places))
 
+-- the minus of a value below zero
 abbrev pub minus_of : ℤ → List ℕ
 minus_of (pos n) = []
 minus_of (negsuc n) = 45 ∷ []

@@ -12,10 +12,12 @@ pub record Number : Type 0 where
   pub whole : List ℕ
   pub fraction : List ℕ
 
+-- the text of a sign
 abbrev pub sign_text : Bool → List ℕ
 sign_text true = 45 ∷ []
 sign_text false = []
 
+-- the text of decimals, with its point
 abbrev pub fraction_text : List ℕ → List ℕ
 fraction_text [] = []
 fraction_text (digit ∷ digits) = 46 ∷ digit ∷ digits
@@ -75,7 +77,7 @@ abbrev pub signed : Bool → ℕ → ℤ
 signed true n = neg_ℤ (pos n)
 signed false n = pos n
 
--- the number of units that the parts stand for, at so many decimals of which the fraction has no more
+-- the number of units that the parts stand for, at this many decimals, of which the fraction has no more
 abbrev pub value_of : ℕ → Number → ℤ
 value_of places number =
     signed number.negative (digits_value 10 (number.whole ++ number.fraction ++ replicate (places - length number.fraction) 48))

@@ -30,7 +30,7 @@ pub trait Unit {
     /// The decimals of the text, at most 5.
     const PLACES: u8;
 
-    // Reading and printing compute with 64 bits; these bounds leave room for every step.
+    // Parsing and printing compute with 64 bits; these bounds leave room for every step.
     ghost small: { IsSmall LEAST MOST PLACES };
 }
 

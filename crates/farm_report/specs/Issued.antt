@@ -1,5 +1,5 @@
 -- The issued capacity tables: the text of the capacity tables of a site's tanks. Levels are in mm, volumes in litres.
-use Rattle.std.specs.Prelude.{◌≡◌, ℕ, ◌+◌, ◌*◌, List, [], ◌∷◌, ◌++◌, length, take, codes, decimal, flat_map, Result, OnOk, OnErr, ℤ}
+use Rattle.std.specs.Prelude.{ℕ, ◌+◌, ◌*◌, List, [], ◌∷◌, ◌++◌, codes, decimal, flat_map, ℤ}
 use Rattle.std.specs.Fmt.{signed_decimal}
 use Rattle.site_items.specs.declared.records.Tank.{Tank}
 
@@ -20,11 +20,6 @@ tank_line number = codes "tank " ++ decimal number ++ codes "\n"
 abbrev pub tank_text : Tank → List ℕ
 tank_text tank = tank_line tank.number ++ rows_from 0 tank.table
 
--- the texts of the tanks, one behind the other
+-- the texts of the tanks, one after another
 abbrev pub issued_text : List Tank → List ℕ
 issued_text tanks = flat_map tank_text tanks
-
--- the text was appended, or the call failed and the buffer still begins as it was
-pub record Lengthens {T E : Type 0} (old new text : List ℕ) (result : Result T E) : Type 0 where
-  pub ok : OnOk result (new ≡ old ++ text)
-  pub err : OnErr result (take (length old) new ≡ old)

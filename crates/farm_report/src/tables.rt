@@ -4,11 +4,12 @@ ghost use Rattle.std.specs.Prelude.{◌*◌, ◌≤◌, length, map, IsTrue};
 ghost use Rattle.farm_base.specs.Appended.{Appends};
 ghost use Rattle.site_items.specs.Tanks.{tank_number};
 ghost use Rattle.site_keys.specs.Lists.{rises};
-ghost use Rattle.farm_report.specs.Issued.{Lengthens, issued_text, row_line, rows_from, tank_line, tank_text};
+ghost use Rattle.text_pieces.specs.Pieces.{Lengthens};
+ghost use Rattle.farm_report.specs.Issued.{issued_text, row_line, rows_from, tank_line, tank_text};
 
 use farm_fixed::NoMemory;
 use farm_site::{Site, Tank};
-use itoa::Buffer;
+use text_pieces::{Piece, append};
 
 /// Appends the issued capacity tables of a site: for each tank, by rising number, `tank T` and a line `MM LITRES` for each row.
 ///
@@ -47,11 +48,14 @@ fn write_tank(tank: &Tank, out: &mut Vec<u8>) -> Result<(), NoMemory>
 fn write_tank_line(number: u16, out: &mut Vec<u8>) -> Result<(), NoMemory>
     ensures line { Lengthens out.old.items out.new.items (tank_line number) result }
 {
-    let mut digits = Buffer::new();
-    out.extend_from_slice(b"tank ")?;
-    out.extend_from_slice(digits.format(number).as_bytes())?;
-    out.extend_from_slice(b"\n")?;
-    Ok(())
+    append(
+        out,
+        &[
+            Piece::Text(b"tank "),
+            Piece::Number(u64::from(number)),
+            Piece::Text(b"\n"),
+        ],
+    )
 }
 
 // Appends the lines of rows.
@@ -65,14 +69,17 @@ fn write_rows(rows: &[i64], out: &mut Vec<u8>) -> Result<(), NoMemory>
     Ok(())
 }
 
-// Appends the line of a row. The digits are made on the stack, so that a line takes no memory of its own.
+// Appends the line of a row.
 fn write_row(mm: usize, litres: i64, out: &mut Vec<u8>) -> Result<(), NoMemory>
     ensures line { Lengthens out.old.items out.new.items (row_line mm litres) result }
 {
-    let mut digits = Buffer::new();
-    out.extend_from_slice(digits.format(mm).as_bytes())?;
-    out.extend_from_slice(b" ")?;
-    out.extend_from_slice(digits.format(litres).as_bytes())?;
-    out.extend_from_slice(b"\n")?;
-    Ok(())
+    append(
+        out,
+        &[
+            Piece::Number(mm as u64),
+            Piece::Text(b" "),
+            Piece::Signed(litres),
+            Piece::Text(b"\n"),
+        ],
+    )
 }

@@ -12,7 +12,7 @@ is_step n = n == 1 || n == 2 || n == 5 || n == 10 || n == 20 || n == 50 || n == 
 abbrev pub IsAllowedStep : ℤ → Type 0
 IsAllowedStep step = (pos 0 ≤ℤ step) × IsTrue (is_step (unsigned_abs step))
 
--- Whether what is left over so many whole steps makes one step more; whole is the step times d.
+-- Whether what is left over the whole steps makes one step more; whole is the step times d.
 abbrev pub rounds_up : Mode → ℕ → ℕ → ℕ → Bool
 rounds_up HalfAway steps left whole = nat_le whole (2 * left)
 rounds_up TowardZero steps left whole = false

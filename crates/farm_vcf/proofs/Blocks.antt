@@ -17,6 +17,7 @@ abbrev RisesFrom : ℤ → List ℤ → Type 0
 RisesFrom before [] = Unit {0}
 RisesFrom before (value ∷ values) = (before <ℤ value) × RisesFrom value values
 
+-- each of rising values is below the next
 steps_of : (before : ℤ) (values : List ℤ) → RisesFrom before values → (index : ℕ) → index + 1 < length (before ∷ values) → listed_at (before ∷ values) index <ℤ listed_at (before ∷ values) (index + 1)
 steps_of before [] up index within = absurd (omega arith)
 steps_of before (value ∷ values) up zero within = up.0
@@ -25,6 +26,7 @@ steps_of before (value ∷ values) up (suc index) within =
     let next : suc (index + 1) ≡ suc index + 1 = omega arith in
     subst P next (steps_of value values up.1 index (omega arith))
 
+-- so they rise as a list
 rises_of : (before : ℤ) (values : List ℤ) → RisesFrom before values → Rises (before ∷ values)
 rises_of before values up = record { steps = steps_of before values up }
 
@@ -38,14 +40,17 @@ temperatures_rise number before (row ∷ rows) none = by (int_lt before row.temp
     by true e found more = (grind (arith, ints), more (rw e at found))
     by false e found more = let bad : Some number ≡ None = (rw e at found) in cc
 
+-- the temperatures of a block rise where no row of it is reported
 block_rises : (rows : List Listed) → unrisen rows ≡ None → Rises (temperatures_of rows)
 block_rises [] none = record { steps = λ index within. absurd (omega arith) }
 block_rises (row ∷ rows) none = rises_of row.temperature (temperatures_of rows) (temperatures_rise 2 row.temperature rows none)
 
+-- the first of two tests that both hold
 pub and_first : (a b : Bool) → (a && b) ≡ true → a ≡ true
 and_first true b both = refl
 and_first false b both = both
 
+-- and the second
 pub and_second : (a b : Bool) → (a && b) ≡ true → b ≡ true
 and_second true b both = both
 and_second false b both = cc
@@ -61,15 +66,19 @@ goes_on temperatures number before column row rows none = by (continues (listed_
     by true e found = (e, rw e at found)
     by false e found = let bad : Some number ≡ None = (rw e at found) in cc
 
+-- a row that begins a block has a density above the one before
 pub begins : (temperature before : ℤ) (row : Listed) → continues temperature before 0 row ≡ true → before <ℤ row.density
 begins temperature before row on = let above : int_lt before row.density ≡ true = and_second (int_eq row.temperature temperature) (int_lt before row.density) on in grind (arith, ints)
 
+-- numbers that pass the test of equality are equal
 pub int_eq_same : (a b : ℤ) → int_eq a b ≡ true → a ≡ b
 int_eq_same a b same = grind (arith, ints, nat_tests)
 
+-- no later column is the first
 pub not_zero : (column : ℕ) → (suc column == 0) ≡ false
 not_zero column = grind (arith, nat_tests)
 
+-- a row within a block has its density
 pub stays : (temperature before : ℤ) (column : ℕ) (row : Listed) → continues temperature before (suc column) row ≡ true → row.density ≡ before
 stays temperature before column row on =
     let within = not_zero column in
@@ -93,6 +102,7 @@ abbrev pub begun : ℕ → ℕ
 begun zero = 0
 begun (suc column) = 1
 
+-- the next column is the first, after the last, or the one after this
 pub begun_in : (width column next : ℕ) → column < width → next ≡ next_column width column →
     ((next ≡ 0) × (column + 1 ≡ width)) ⊎ ((next ≡ column + 1) × (column + 1 < width))
 begun_in width column next within is = by (column + 1 == width) refl
@@ -101,9 +111,11 @@ begun_in width column next within is = by (column + 1 == width) refl
     by true e = inl (rw e at is, grind (arith, nat_tests))
     by false e = inr (rw e at is, grind (arith, nat_tests))
 
+-- a block is begun after any of its rows
 pub begun_next : (column : ℕ) → begun (column + 1) ≡ 1
 begun_next column = let P : ℕ → Type 0 = λ m. begun m ≡ 1 in let e : suc column ≡ column + 1 = omega arith in subst P e refl
 
+-- rows that end with no row reported end a block
 ends : (column number : ℕ) → (if column == 0 then None else Some number) ≡ None → column ≡ 0
 ends zero number none = refl
 ends (suc column) number none = let inside = not_zero column in let bad : Some number ≡ None = (rw inside at none) in cc
@@ -146,9 +158,11 @@ whole_blocks temperatures number before (suc column) (row ∷ rows) within none 
           rw inside (omega (arith, rest_is, t.0, t.1))
     ]
 
+-- the first block has as many temperatures as its width
 pub width_of_block : (width : ℕ) (rows : List Listed) → width ≤ length rows → length (temperatures_of (take width rows)) ≡ width
 width_of_block width rows within = simp (length-map, length-take) (omega arith)
 
+-- the rows are those of the first block and of the others
 count_all : (rows width blocks later : ℕ) → later ≡ rows - width → width ≤ rows → later + 0 ≡ (blocks + 0) * width → rows ≡ suc blocks * width
 count_all rows width blocks later cut within each = omega arith
 
@@ -183,6 +197,7 @@ pub not_risen : (width number : ℕ) (density : ℤ) (rows : List Listed) → un
 unfolding grid_in_blocks
 not_risen width number density rows found = rw found refl
 
+-- where a later row is reported, that is the answer
 pub not_continued : (width number : ℕ) (density : ℤ) (rows : List Listed) → width ≤ length rows → unrisen (take width rows) ≡ None →
     discontinued_from (temperatures_of (take width rows)) (length (temperatures_of (take width rows)) + 1) density 0 (drop width rows) ≡ Some number → grid_in_blocks width density rows ≡ Err (NotGrid number)
 unfolding grid_in_blocks
@@ -191,6 +206,7 @@ not_continued width number density rows within none found =
     let P : ℕ → Type 0 = λ m. discontinued_from (temperatures_of (take width rows)) (m + 1) density 0 (drop width rows) ≡ Some number in
     rw (none, subst P wide found) refl
 
+-- where none is reported, the answer is the grid of the blocks
 pub in_whole_blocks : (width : ℕ) (density : ℤ) (rows : List Listed) → width ≤ length rows → unrisen (take width rows) ≡ None →
     discontinued_from (temperatures_of (take width rows)) (length (temperatures_of (take width rows)) + 1) density 0 (drop width rows) ≡ None → grid_in_blocks width density rows ≡ Ok (grid_of_blocks width density rows)
 unfolding grid_in_blocks
@@ -199,14 +215,17 @@ in_whole_blocks width density rows within none found =
     let P : ℕ → Type 0 = λ m. discontinued_from (temperatures_of (take width rows)) (m + 1) density 0 (drop width rows) ≡ None in
     rw (none, subst P wide found) refl
 
+-- a number passes the test of equality with itself
 pub int_eq_itself : (a : ℤ) → int_eq a a ≡ true
 int_eq_itself a = grind (arith, ints, nat_tests)
 
+-- no rows are no grid, from the first on
 pub no_rows : (rows : List Listed) → length rows < 1 → grid_of_rows rows ≡ Err (NotGrid 1)
 unfolding grid_of_rows
 no_rows [] none = refl
 no_rows (row ∷ rows) none = absurd (omega arith)
 
+-- some rows are taken in blocks of the first density
 pub some_rows : (first : Listed) (rows : List Listed) → first ≡ get_or rows 0 first → 1 ≤ length rows → grid_of_rows rows ≡ grid_in_blocks (width_from first.density rows) first.density rows
 unfolding grid_of_rows
 some_rows first [] is some = absurd (omega arith)

@@ -20,6 +20,7 @@ pub record StandsAt (rows : List Listed) (index : ℕ) (row : Listed) (rest : Li
   pub temperature : temperature_of rows index ≡ row.temperature
   pub behind : drop (suc index) rows ≡ rest
 
+-- the first of the rows that are left stands at their index
 pub stands_at : (rows : List Listed) (index : ℕ) (row : Listed) (rest : List Listed) → drop index rows ≡ row ∷ rest → StandsAt rows index row rest
 stands_at [] zero row rest is = cc
 stands_at [] (suc index) row rest is = cc
@@ -47,6 +48,7 @@ abbrev pub Finds : ℕ → List Listed → ℕ → ℕ → Option ℕ → Type 0
 Finds width rows from end None = (index : ℕ) → from ≤ index → index < end → GoesOn width rows index
 Finds width rows from end (Some number) = (index : ℕ) × (number ≡ index + 1) × ((earlier : ℕ) → from ≤ earlier → earlier < index → GoesOn width rows earlier) × BreaksAt width rows index
 
+-- one row more that goes on
 one_more : (width : ℕ) (rows : List Listed) (from end : ℕ) → GoesOn width rows from → ((index : ℕ) → suc from ≤ index → index < end → GoesOn width rows index) → (index : ℕ) → from ≤ index → index < end → GoesOn width rows index
 one_more width rows from end here more index late early = by (from == index) refl
   where
@@ -54,6 +56,7 @@ one_more width rows from end here more index late early = by (from == index) ref
     by true e = let same : from ≡ index = grind (arith, nat_tests) in let P : ℕ → Type 0 = λ i. GoesOn width rows i in subst P same here
     by false e = more index (grind (arith, nat_tests)) early
 
+-- a search that finds a row from the next on finds it from here
 pub finds_more : (width : ℕ) (rows : List Listed) (from end : ℕ) (found : Option ℕ) → GoesOn width rows from → Finds width rows (suc from) end found → Finds width rows from end found
 finds_more width rows from end None here more = one_more width rows from end here more
 finds_more width rows from end (Some number) here more = (more.0, more.1, one_more width rows from more.0 here more.2, more.3)
@@ -103,13 +106,16 @@ pub record Stands (rows : List Listed) (temperatures : List ℤ) (left : List Li
   pub within : index ≤ length rows
   pub repeats : (other : ℕ) → other < length temperatures → listed_at temperatures other ≡ temperature_of rows other
 
+-- the column of a row is what is left over whole blocks
 column_of : (width index block column : ℕ) → index ≡ block * width + column → column < width → index % width ≡ column
 column_of width index block column place inside = ap (λ m. m % width) place ∙ mod-mul-add block width column inside
 
+-- two tests that both hold
 and_both : (a b : Bool) → a ≡ true → b ≡ true → (a && b) ≡ true
 and_both true b first second = second
 and_both false b first second = first
 
+-- equal numbers pass the test of equality
 int_eq_of : (a b : ℤ) → a ≡ b → int_eq a b ≡ true
 int_eq_of a b same = let P : ℤ → Type 0 = λ other. int_eq a other ≡ true in subst P same (int_eq_itself a)
 
@@ -118,10 +124,12 @@ begin_at : (temperature before : ℤ) (column : ℕ) (row : Listed) → column �
 begin_at temperature before zero row start on = begins temperature before row on
 begin_at temperature before (suc column) row start on = absurd (omega (arith, start))
 
+-- a row that is not the first of its block has the density before it
 stay_at : (temperature before : ℤ) (column : ℕ) (row : Listed) → (column ≡ 0 → ⊥) → continues temperature before column row ≡ true → row.density ≡ before
 stay_at temperature before zero row other on = absurd (other refl)
 stay_at temperature before (suc column) row other on = stays temperature before column row on
 
+-- a row with the words of the rule passes its test
 continues_if : (temperature before : ℤ) (column : ℕ) (row : Listed) → row.temperature ≡ temperature → (column ≡ 0 → before <ℤ row.density) → ((column ≡ 0 → ⊥) → row.density ≡ before) → continues temperature before column row ≡ true
 continues_if temperature before zero row warm begun kept =
     let above : before <ℤ row.density = begun refl in
@@ -168,6 +176,7 @@ later_step rows temperatures left number before column index row more at rest = 
       ),
     )
 
+-- after a row that goes on the next one stands there
 stands_next : (rows : List Listed) (temperatures : List ℤ) (left : List Listed) (number : ℕ) (before : ℤ) (column index : ℕ) (row : Listed) → Stands rows temperatures (row ∷ left) number before column index → StandsAt rows index row left →
     Stands rows temperatures left (number + 1) row.density (next_column (length temperatures) column) (suc index)
 stands_next rows temperatures left number before column index row at s =
@@ -198,6 +207,7 @@ stands_next rows temperatures left number before column index row at s =
       }
     ]
 
+-- rows that end within a block are no whole blocks
 not_whole : (rows : List Listed) (temperatures : List ℤ) (column index : ℕ) → (column ≡ 0 → ⊥) → index % length temperatures ≡ column → index ≡ length rows → AreWhole (length temperatures) rows → ⊥
 not_whole rows temperatures column index other place end whole = other (sym place ∙ ap (λ m. m % length temperatures) end ∙ whole.whole)
 

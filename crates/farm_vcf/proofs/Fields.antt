@@ -32,6 +32,7 @@ not_three (x ∷ y ∷ []) other = refl
 not_three (x ∷ y ∷ z ∷ []) other = absurd (other (omega arith))
 not_three (x ∷ y ∷ z ∷ w ∷ fields) other = refl
 
+-- a record has a field at each index below its length
 pub field_there : (fields : List (List ℕ)) (i : ℕ) → i < length fields → None ≡ field_at fields i → ⊥
 unfolding field_at
 field_there [] i within none = omega arith
@@ -58,11 +59,13 @@ pub even_records : (text : List ℕ) → equal_lengths (records_of text) ≡ tru
 unfolding grid_of_records
 even_records text even = rw even refl
 
+-- no records are no grid
 pub no_header : (records : List Row) → length records < 1 → grid_under_header (map fields_of records) ≡ Err (NotGrid 1)
 unfolding grid_under_header grid_of_rows
 no_header [] none = refl
 no_header (header ∷ records) none = absurd (omega arith)
 
+-- the records after the header are taken
 pub after_header : (records : List Row) → 1 ≤ length records → grid_under_header (map fields_of records) ≡ grid_of_few (rows_from 1 (map fields_of (take (length records - 1) (drop 1 records))))
 unfolding grid_under_header
 after_header [] some = absurd (omega arith)

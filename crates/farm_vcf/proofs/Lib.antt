@@ -6,3 +6,4 @@ pub mod Breaks
 pub mod ReadBack
 pub mod Meanings
 pub mod Fields
+pub mod Texts

@@ -4,14 +4,12 @@ use Rattle.std.proofs.Math.Nat.{mul-mod_left}
 use Rattle.std.proofs.lemmas.Bool.Decides.{nat_tests}
 use Rattle.std.specs.Ordering.{int_eq}
 use Rattle.std.specs.Prelude.{ℤ, IfSome, MatchResult, Result, Ok, Err}
-use Rattle.farm_csv.specs.Records.{equal_lengths, records_of}
 use Rattle.farm_base.specs.Steps.{IsRefusedAs}
 use Rattle.farm_vcf.specs.declared.fault.VcfFault.{VcfFault}
-use Rattle.farm_vcf.specs.Faults.{FactorFault, Csv, BadField, TooMany, NotGrid, reported}
+use Rattle.farm_vcf.specs.Faults.{FactorFault, reported}
 use Rattle.farm_vcf.specs.declared.rows.Listed.{Listed}
 use Rattle.farm_vcf.specs.Blocks.{AreWhole, BreaksAt, GoesOn, IsFaultOfRows, IsFirstBlock, IsFirstBreak, IsGridOf, density_of}
 use Rattle.farm_vcf.specs.Grid.{Grid}
-use Rattle.farm_vcf.specs.Records.{IsFaultOfText, IsGridOfText, grid_of_few, grid_of_records, grid_under_header, row_of, rows_below_header, rows_from, vcf_of, with_row}
 use Rattle.farm_vcf.specs.Rows.{densities_from, discontinued_from, grid_in_blocks, grid_of_blocks, grid_of_rows, temperatures_of, unless, unrisen, width_from}
 use Rattle.farm_vcf.proofs.Blocks.{int_eq_itself, int_eq_same, row_for_each, width_of_block}
 use Rattle.farm_vcf.proofs.Breaks.{Finds, block_finds, finds_more, later_finds, of_block}
@@ -24,6 +22,7 @@ record Leads (density : ℤ) (rows : List Listed) (width : ℕ) : Type 0 where
   same : (index : ℕ) → index < width → density_of rows index ≡ density
   another : width < length rows → ¬ (density_of rows width ≡ density)
 
+-- one leading row more
 lead_more : (density : ℤ) (row : Listed) (rows : List Listed) (width : ℕ) → row.density ≡ density → Leads density rows width → Leads density (row ∷ rows) (suc width)
 lead_more density row rows width here more = record {
   within = omega (arith, more.within);
@@ -35,6 +34,7 @@ lead_more density row rows width here more = record {
     along zero inside = here
     along (suc index) inside = more.same index (omega (arith, inside))
 
+-- no leading row
 lead_none : (density : ℤ) (row : Listed) (rows : List Listed) → int_eq row.density density ≡ false → Leads density (row ∷ rows) 0
 lead_none density row rows other = record {
   within = omega arith;
@@ -45,6 +45,7 @@ lead_none density row rows other = record {
     differ : row.density ≡ density → ⊥
     differ same = let P : ℤ → Type 0 = λ d. int_eq row.density d ≡ true in let e : int_eq row.density density ≡ true = subst P same (int_eq_itself row.density) in cc
 
+-- the width is that of the leading rows of a density
 width_leads : (density : ℤ) (rows : List Listed) → Leads density rows (width_from density rows)
 width_leads density [] = record { within = omega arith; same = λ index inside. absurd (omega (arith, inside)); another = λ left. absurd (omega (arith, left)) }
 width_leads density (row ∷ rows) = by (int_eq row.density density) refl (width_leads density rows)
@@ -56,14 +57,17 @@ width_leads density (row ∷ rows) = by (int_eq row.density density) refl (width
         rw e (subst P next (lead_more density row rows (width_from density rows) (int_eq_same row.density density e) more))
     by false e more = rw e (lead_none density row rows e)
 
+-- the leading rows of the first density are the first block
 first_block : (row : Listed) (rows : List Listed) → IsFirstBlock (width_from row.density (row ∷ rows)) (row ∷ rows)
 first_block row rows =
     let leads = width_leads row.density (row ∷ rows) in
     record { within = leads.within; one_density = leads.same; another = leads.another }
 
+-- the first block has a row
 some_first : (row : Listed) (rows : List Listed) → 0 < width_from row.density (row ∷ rows)
 some_first row rows = let e = int_eq_itself row.density in rw e (omega arith)
 
+-- the first row goes on
 start_goes_on : (width : ℕ) (rows : List Listed) → 0 < width → GoesOn width rows 0
 start_goes_on width rows some = record {
   risen = λ positive early. absurd (omega (arith, positive));
@@ -128,6 +132,7 @@ is_grid_of width density rows first some is on count =
 one_width : (rows : List Listed) (width other : ℕ) → IsFirstBlock width rows → IsFirstBlock other rows → width < other → ⊥
 one_width rows width other first second less = first.another (omega (arith, less, second.within)) (second.one_density width less)
 
+-- there is one first block
 same_width : (rows : List Listed) (width other : ℕ) → IsFirstBlock width rows → IsFirstBlock other rows → width ≡ other
 same_width rows width other first second = by (nat_lt width other) (nat_lt other width) refl refl
   where
@@ -147,6 +152,7 @@ no_grid width index rows first breaks grid is =
       | inr here ↦ here.1 (subst Whole same is.whole)
     ]
 
+-- the blocks break at a row, and then no grid has the rows
 break_at : (width index number : ℕ) (rows : List Listed) → number ≡ index + 1 → IsFirstBlock width rows → ((earlier : ℕ) → earlier < index → GoesOn width rows earlier) → BreaksAt width rows index → IsFirstBreak rows number
 break_at width index number rows counted first before breaks = record {
   width = width;
@@ -166,6 +172,7 @@ all_on width rows end first later index within = by (nat_lt index width) refl
     by true e = first index (omega arith) (grind (arith, nat_tests))
     by false e = later index (grind (arith, nat_tests)) within
 
+-- the grid in blocks in the words of the rule
 blocks_mean : (width : ℕ) (density : ℤ) (rows : List Listed) → IsFirstBlock width rows → 0 < width → density ≡ density_of rows 0 → MatchResult (grid_in_blocks width density rows) (IsGridOf rows) (IsFaultOfRows rows)
 unfolding grid_in_blocks
 blocks_mean width density rows first some is =
@@ -189,14 +196,14 @@ rows_mean [] = break_at 0 0 1 [] refl (record { within = omega arith; one_densit
 rows_mean (row ∷ rows) = blocks_mean (width_from row.density (row ∷ rows)) row.density (row ∷ rows) (first_block row rows) (some_first row rows) refl
 
 -- a fault that a call reports is right where the definition's is
-reported_right : (P : Grid → Type 0) (Q : FactorFault → Type 0) (answer : Result Grid FactorFault) (fault : Option FactorFault) →
+pub reported_right : (P : Grid → Type 0) (Q : FactorFault → Type 0) (answer : Result Grid FactorFault) (fault : Option FactorFault) →
     MatchResult answer P Q → IsRefusedAs fault answer → IfSome fault Q
 reported_right P Q answer None right is = tt
 reported_right P Q answer (Some fault) right is =
     let M : Result Grid FactorFault → Type 0 = λ a. MatchResult a P Q in subst M is right
 
 -- and a grid that a call answers
-answered_right : (P : Grid → Type 0) (Q : FactorFault → Type 0) (answer : Result Grid FactorFault) (grid : Grid) →
+pub answered_right : (P : Grid → Type 0) (Q : FactorFault → Type 0) (answer : Result Grid FactorFault) (grid : Grid) →
     MatchResult answer P Q → answer ≡ Ok grid → P grid
 answered_right P Q answer grid right is =
     let M : Result Grid FactorFault → Type 0 = λ a. MatchResult a P Q in subst M is right
@@ -206,44 +213,3 @@ pub answer_of_rows : (rows : List Listed) (answer : Result Grid VcfFault) → Ma
     MatchResult answer (IsGridOf rows) (λ fault. IfSome (reported fault) (IsFaultOfRows rows))
 answer_of_rows rows (Ok grid) is = answered_right (IsGridOf rows) (IsFaultOfRows rows) (grid_of_rows rows) grid (rows_mean rows) is
 answer_of_rows rows (Err fault) is = reported_right (IsGridOf rows) (IsFaultOfRows rows) (grid_of_rows rows) (reported fault) (rows_mean rows) is
-
--- rows that aren't read are refused by a record
-rows_not_read : (text : List ℕ) (number : ℕ) (records : List (List (List ℕ))) (fault : FactorFault) → rows_from number records ≡ Err fault → IsFaultOfText text fault
-rows_not_read text number [] fault is = cc
-rows_not_read text number (fields ∷ records) fault is = by (row_of fields) (rows_from (number + 1) records) is (rows_not_read text (number + 1) records fault)
-  where
-    by : (row : Option Listed) (rows : Result (List Listed) FactorFault) → with_row number row rows ≡ Err fault → (rows ≡ Err fault → IsFaultOfText text fault) → IsFaultOfText text fault
-    by None rows is more = let P : FactorFault → Type 0 = λ other. IsFaultOfText text other in let same : BadField number ≡ fault = cc in subst P same tt
-    by (Some row) (Err other) is more = more is
-    by (Some row) (Ok rows) is more = cc
-
-not_read : (text : List ℕ) (records : List (List (List ℕ))) (fault : FactorFault) → rows_below_header records ≡ Err fault → IsFaultOfText text fault
-not_read text [] fault is = cc
-not_read text (header ∷ records) fault is = rows_not_read text 1 records fault is
-
-few_mean : (text : List ℕ) (few : Result (List Listed) FactorFault) → rows_below_header (records_of text) ≡ few → MatchResult (grid_of_few few) (IsGridOfText text) (IsFaultOfText text)
-few_mean text (Err fault) is = not_read text (records_of text) fault is
-few_mean text (Ok rows) is = by (nat_lt 100000 (length rows)) (grid_of_rows rows) (rows_mean rows)
-  where
-    by : (many : Bool) (grid : Result Grid FactorFault) → MatchResult grid (IsGridOf rows) (IsFaultOfRows rows) → MatchResult (if many then Err TooMany else grid) (IsGridOfText text) (IsFaultOfText text)
-    by true grid mean = tt
-    by false (Ok grid) mean = record { rows = rows; read = is; grid_of = mean }
-    by false (Err (NotGrid number)) mean = record { rows = rows; read = is; breaks = mean }
-    by false (Err Csv) mean = tt
-    by false (Err (BadField number)) mean = tt
-    by false (Err TooMany) mean = tt
-
-text_means : (text : List ℕ) → MatchResult (vcf_of text) (IsGridOfText text) (IsFaultOfText text)
-unfolding grid_of_records grid_under_header
-text_means text = by (equal_lengths (records_of text)) (few_mean text (rows_below_header (records_of text)) refl)
-  where
-    by : (even : Bool) → MatchResult (grid_of_few (rows_below_header (records_of text))) (IsGridOfText text) (IsFaultOfText text) →
-        MatchResult (if even then grid_of_few (rows_below_header (records_of text)) else Err Csv) (IsGridOfText text) (IsFaultOfText text)
-    by true mean = mean
-    by false mean = tt
-
--- what a call answers for a text is right
-pub answer_of_text : (text : List ℕ) (answer : Result Grid VcfFault) → MatchResult answer (λ grid. vcf_of text ≡ Ok grid) (λ fault. IsRefusedAs (reported fault) (vcf_of text)) →
-    MatchResult answer (IsGridOfText text) (λ fault. IfSome (reported fault) (IsFaultOfText text))
-answer_of_text text (Ok grid) is = answered_right (IsGridOfText text) (IsFaultOfText text) (vcf_of text) grid (text_means text) is
-answer_of_text text (Err fault) is = reported_right (IsGridOfText text) (IsFaultOfText text) (vcf_of text) (reported fault) (text_means text) is

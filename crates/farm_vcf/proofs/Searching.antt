@@ -10,6 +10,7 @@ use Rattle.farm_rounding.specs.declared.mode.Mode.{Mode}
 use Rattle.farm_vcf.specs.Closest.{IsClosest, IsCovered, IsFirstNotBelow, IsTakenOver, Rises, closest, first_or_later, is_taken_over, listed_at}
 use Rattle.farm_vcf.proofs.Taking.{over_itself, over_on, over_tells, over_fails, over_both, over_above, over_below}
 
+-- of rising values each is below those after it
 rises_by : (listed : List ℤ) → Rises listed → (k i j : ℕ) → j ≡ i + k + 1 → j < length listed → listed_at listed i <ℤ listed_at listed j
 rises_by listed up zero i j far within =
     let P : ℕ → Type 0 = λ m. listed_at listed i <ℤ listed_at listed m in
@@ -26,6 +27,7 @@ rises_by listed up (suc k) i j far within =
 pub rises_later : (listed : List ℤ) → Rises listed → (i j : ℕ) → i < j → j < length listed → listed_at listed i <ℤ listed_at listed j
 rises_later listed up i j later within = rises_by listed up (j - i - 1) i j (omega arith) within
 
+-- and at most each from it on
 pub rises_on : (listed : List ℤ) → Rises listed → (i j : ℕ) → i ≤ j → j < length listed → listed_at listed i ≤ℤ listed_at listed j
 rises_on listed up i j later within = elim (leb_tells j i) [
   | inl t ↦
@@ -57,12 +59,14 @@ later_taken : (mode : Mode) (value first : ℤ) (rest : List ℤ) (later : ℕ) 
 later_taken mode value first rest later law over zero within = over
 later_taken mode value first rest later law over (suc other) within = law.taken other (omega arith)
 
+-- the one that is taken of a value and those after it
 taken_of : (mode : Mode) (value first next : ℤ) (rest : List ℤ) (later : ℕ) (b : Bool) → is_taken_over mode value first (listed_at (next ∷ rest) later) ≡ b → IsClosest mode value (next ∷ rest) later → IsClosest mode value (first ∷ next ∷ rest) (first_or_later mode value first (next ∷ rest) later)
 taken_of mode value first next rest later true e law =
     rw e (record { within = omega arith; taken = first_taken mode value first (next ∷ rest) later law (over_tells mode value _ _ e) })
 taken_of mode value first next rest later false e law =
     rw (e, add-one) (record { within = omega (arith, law.within); taken = later_taken mode value first (next ∷ rest) later law (over_fails mode value _ _ e) })
 
+-- a single listed value is taken
 only : (mode : Mode) (value first : ℤ) (other : ℕ) → other < length (first ∷ []) → IsTakenOver mode value first (listed_at (first ∷ []) other)
 only mode value first zero within = over_itself mode value first
 only mode value first (suc other) within = absurd (omega arith)
@@ -99,6 +103,7 @@ closest_below mode value listed index up found some within over = record {
   ];
 }
 
+-- a value in a list is the same for any default
 at_default : (listed : List ℤ) (i : ℕ) (d : ℤ) → i < length listed → get_or listed i d ≡ listed_at listed i
 at_default listed i d within = get_or_default listed i d (pos 0) within
 
@@ -142,6 +147,7 @@ searched_below mode value listed index low high up covered some found above low_
     let taken : IsTakenOver mode value (listed_at listed (index - 1)) (listed_at listed index) = over_tells mode value _ _ (rw (low_at, high_at) at over) in
     one_closest mode value listed up _ _ (closest_below mode value listed index up found above within taken) (closest_is mode value listed some)
 
+-- the answer where the search stops at the value that is taken
 pub searched_above : (mode : Mode) (value : ℤ) (listed : List ℤ) (index : ℕ) (low high : ℤ) → Rises listed → IsCovered value listed → 0 < length listed → IsFirstNotBelow value listed index → 0 < index →
     low ≡ get_or listed (index - 1) low → high ≡ get_or listed index high → is_taken_over mode value low high ≡ false → index ≡ closest mode value listed
 searched_above mode value listed index low high up covered some found above low_is high_is over =
@@ -151,6 +157,7 @@ searched_above mode value listed index low high up covered some found above low_
     let taken : IsTakenOver mode value (listed_at listed index) (listed_at listed (index - 1)) = over_fails mode value _ _ (rw (low_at, high_at) at over) in
     one_closest mode value listed up _ _ (closest_above mode value listed index up found within (λ some_below. taken)) (closest_is mode value listed some)
 
+-- and where it stops at the first value
 pub searched_first : (mode : Mode) (value : ℤ) (listed : List ℤ) (index : ℕ) → Rises listed → IsCovered value listed → 0 < length listed → IsFirstNotBelow value listed index → index ≤ 0 → index ≡ closest mode value listed
 searched_first mode value listed index up covered some found none =
     one_closest mode value listed up _ _ (closest_above mode value listed index up found (found_there value listed index covered some found) (λ some_below. absurd (omega arith))) (closest_is mode value listed some)

@@ -25,7 +25,7 @@ pub record IsFirstBlock (width : ℕ) (rows : List Listed) : Type 0 where
   pub another : width < length rows → ¬ (density_of rows width ≡ density_of rows 0)
 
 -- A row goes on with the blocks. In the first its temperature is above that of the row before. In a later one its temperature is
--- that of its place in the first; its density is above that of the row before where it begins the block, and else the same.
+-- that of its column in the first; its density is above that of the row before where it begins the block, and else the same.
 pub record GoesOn (width : ℕ) (rows : List Listed) (index : ℕ) : Type 0 where
   pub risen : 0 < index → index < width → temperature_of rows (index - 1) <ℤ temperature_of rows index
   pub repeated : width ≤ index → temperature_of rows index ≡ temperature_of rows (index % width)
@@ -52,7 +52,7 @@ pub record IsGridOf (rows : List Listed) (grid : Grid) : Type 0 where
   pub all : length rows ≡ length grid.densities * length grid.temperatures
   pub each : (block column : ℕ) → block < length grid.densities → column < length grid.temperatures → IsRowOf grid block column rows (block * length grid.temperatures + column)
 
--- the blocks break at an index: its row doesn't go on, or there is none and the last block is short, or no row at all
+-- the blocks break at an index: its row doesn't go on, or the rows end there with the last block short, or there are no rows
 abbrev pub BreaksAt : ℕ → List Listed → ℕ → Type 0
 BreaksAt width rows index = ((index < length rows) × ¬ (GoesOn width rows index)) ⊎ ((index ≡ length rows) × ¬ (AreWhole width rows))
 

@@ -41,6 +41,7 @@ wins_tie HalfAway taken other =
 wins_tie TowardZero taken other =
     nat_lt (unsigned_abs taken) (unsigned_abs other) || (unsigned_abs other == unsigned_abs taken && int_lt other taken)
 
+-- one listed value is taken and not another
 abbrev pub is_taken_over : Mode → ℤ → ℤ → ℤ → Bool
 is_taken_over mode value taken other =
     nat_lt (distance value taken) (distance value other) || (distance value other == distance value taken && wins_tie mode taken other)
@@ -61,6 +62,7 @@ pub record IsCovered (value : ℤ) (listed : List ℤ) : Type 0 where
   pub from_first : listed_at listed 0 ≤ℤ value
   pub to_last : value ≤ℤ listed_at listed (length listed - 1)
 
+-- the test of a covered value
 abbrev pub is_covered : ℤ → List ℤ → Bool
 is_covered value listed = not (int_lt value (listed_at listed 0)) && not (int_lt (listed_at listed (length listed - 1)) value)
 

@@ -1,9 +1,10 @@
 -- The records of a factor file: a header that isn't looked at, and then a density, a temperature and a factor each.
-use Rattle.std.specs.Prelude.{◌≡◌, ℕ, ◌+◌, nat_lt, if◌then◌else◌, List, [], ◌∷◌, length, Option, Some, None, Result, Ok, Err, ℤ, pos, negsuc}
+use Rattle.std.specs.Prelude.{◌≡◌, ℕ, ◌+◌, ◌<◌, ◌≤◌, ◌++◌, All, IsSome, IsTrue, nat_lt, if◌then◌else◌, List, [], ◌∷◌, length, Option, Some, None, Result, Ok, Err, ℤ, pos, negsuc}
 use Rattle.farm_fixed.specs.declared.fault.ReadFault.{ReadFault}
 use Rattle.farm_fixed.specs.Parsing.{quantity_of}
 use Rattle.farm_csv.specs.Blanks.{without_blanks}
 use Rattle.farm_csv.specs.Records.{equal_lengths, records_of}
+use Rattle.farm_vcf.specs.declared.grid.TheConstants.{MOST_FACTORS}
 use Rattle.farm_vcf.specs.declared.rows.Listed.{Listed}
 use Rattle.farm_vcf.specs.Faults.{FactorFault, Csv, BadField, TooMany, NotGrid}
 use Rattle.farm_vcf.specs.Grid.{Grid}
@@ -39,20 +40,24 @@ with_row number None rows = Err (BadField number)
 with_row number (Some row) (Err fault) = Err fault
 with_row number (Some row) (Ok rows) = Ok (row ∷ rows)
 
--- the rows of records, counted from a number, or the first record that is none
+-- the rows of records, counted from a number, or the first record that isn't one
 abbrev pub rows_from : ℕ → List (List (List ℕ)) → Result (List Listed) FactorFault
 rows_from number [] = Ok []
 rows_from number (fields ∷ records) = with_row number (row_of fields) (rows_from (number + 1) records)
 
--- the grid of rows, of which there may be so many
+-- the grid of rows, of which there may be at most 100,000
 abbrev pub grid_of_few : Result (List Listed) FactorFault → Result Grid FactorFault
 grid_of_few (Err fault) = Err fault
-grid_of_few (Ok rows) = if nat_lt 100000 (length rows) then Err TooMany else grid_of_rows rows
+grid_of_few (Ok rows) = if nat_lt MOST_FACTORS (length rows) then Err TooMany else grid_of_rows rows
 
--- the rows of the records below the header, none where there is no header
+-- the records below the header; no records where there is no header
+abbrev pub below_header : List (List (List ℕ)) → List (List (List ℕ))
+below_header [] = []
+below_header (header ∷ records) = records
+
+-- the rows of the records below the header
 abbrev pub rows_below_header : List (List (List ℕ)) → Result (List Listed) FactorFault
-rows_below_header [] = Ok []
-rows_below_header (header ∷ records) = rows_from 1 records
+rows_below_header records = rows_from 1 (below_header records)
 
 -- the grid of the records below the header
 unfoldable pub grid_under_header : List (List (List ℕ)) → Result Grid FactorFault
@@ -62,23 +67,57 @@ grid_under_header records = grid_of_few (rows_below_header records)
 unfoldable pub grid_of_records : List (List (List ℕ)) → Result Grid FactorFault
 grid_of_records records = if equal_lengths records then grid_under_header records else Err Csv
 
--- the grid of a text, or why it is none
+-- the grid of a text, or its fault
 abbrev pub vcf_of : List ℕ → Result Grid FactorFault
 vcf_of text = grid_of_records (records_of text)
 
--- a grid is that of a text: of the rows below its header
+-- rows are those of a text: its records have one number of fields, and each below the header is a row
+pub record AreRowsOf (text : List ℕ) (rows : List Listed) : Type 0 where
+  pub even : IsTrue (equal_lengths (records_of text))
+  pub read : rows_below_header (records_of text) ≡ Ok rows
+
+-- a grid is that of a text: of its rows, at most 100,000
 pub record IsGridOfText (text : List ℕ) (grid : Grid) : Type 0 where
   pub rows : List Listed
-  pub read : rows_below_header (records_of text) ≡ Ok rows
+  pub read : AreRowsOf text rows
+  pub few : length rows ≤ MOST_FACTORS
   pub grid_of : IsGridOf rows grid
 
--- a number is that of the first row below a text's header at which the blocks break
+-- some record has another number of fields than the header
+pub record IsUneven (records : List (List (List ℕ))) : Type 0 where
+  pub header : List (List ℕ)
+  pub front : List (List (List ℕ))
+  pub other : List (List ℕ)
+  pub back : List (List (List ℕ))
+  pub split : records ≡ header ∷ (front ++ (other ∷ back))
+  pub differs : ¬ (length other ≡ length header)
+
+-- record n of a list, counted from 1, is the first that isn't a density, a temperature and a factor
+pub record IsFirstBadRecord (records : List (List (List ℕ))) (n : ℕ) : Type 0 where
+  pub front : List (List (List ℕ))
+  pub bad : List (List ℕ)
+  pub back : List (List (List ℕ))
+  pub split : records ≡ front ++ (bad ∷ back)
+  pub counted : n ≡ length front + 1
+  pub rows_before : All (λ fields. IsSome (row_of fields)) front
+  pub no_row : row_of bad ≡ None
+
+-- a text has more than 100,000 rows
+pub record HasTooManyRows (text : List ℕ) : Type 0 where
+  pub rows : List Listed
+  pub read : AreRowsOf text rows
+  pub many : MOST_FACTORS < length rows
+
+-- a number is that of the first row of a text at which the blocks break
 pub record IsFirstBreakOfText (text : List ℕ) (number : ℕ) : Type 0 where
   pub rows : List Listed
-  pub read : rows_below_header (records_of text) ≡ Ok rows
+  pub read : AreRowsOf text rows
+  pub few : length rows ≤ MOST_FACTORS
   pub breaks : IsFirstBreak rows number
 
--- where a text is reported to be no grid, its rows break first there; of the other faults this says nothing
+-- a text has a fault, and none of a kind before it
 abbrev pub IsFaultOfText : List ℕ → FactorFault → Type 0
-IsFaultOfText text (NotGrid number) = IsFirstBreakOfText text number
-IsFaultOfText text fault = Unit {0}
+IsFaultOfText text Csv = IsUneven (records_of text)
+IsFaultOfText text (BadField n) = IsTrue (equal_lengths (records_of text)) × IsFirstBadRecord (below_header (records_of text)) n
+IsFaultOfText text TooMany = HasTooManyRows text
+IsFaultOfText text (NotGrid n) = IsFirstBreakOfText text n

@@ -76,7 +76,7 @@ grid_in_blocks width density rows =
     (unless (discontinued_from (temperatures_of (take width rows)) (width + 1) density 0 (drop width rows))
     (Ok (grid_of_blocks width density rows)))
 
--- the grid of rows, or the first row at which they are none
+-- the grid of rows, or the first row at which they are no grid
 unfoldable pub grid_of_rows : List Listed → Result Grid FactorFault
 grid_of_rows [] = Err (NotGrid 1)
 grid_of_rows (row ∷ rows) = grid_in_blocks (width_from row.density (row ∷ rows)) row.density (row ∷ rows)

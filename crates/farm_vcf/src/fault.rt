@@ -15,7 +15,7 @@ pub struct BadGrid;
 #[error("no factor is listed for the density and the temperature")]
 pub struct NoEntry;
 
-/// Why a text is no factor file. The first of the causes below, in their order, is told.
+/// Why a text is no factor file. The first of the causes below, in their order, is reported.
 ///
 /// Records are counted from 1 after the header.
 #[derive(Clone, Copy, Debug, PartialEq, Eq, Error)]
@@ -30,10 +30,10 @@ pub enum VcfFault {
     #[error("there are more than 100,000 records")]
     TooMany,
     /// This record is the first at which the records are no grid. It is one more than their number where the last density
-    /// has too few, or where there is none.
+    /// has too few, or where there are no records.
     #[error("the records are no grid at record {0}")]
     NotGrid(usize),
-    /// There was no memory for the work.
+    /// The call is out of memory.
     #[error("no memory")]
     NoMemory,
 }

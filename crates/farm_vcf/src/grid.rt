@@ -1,3 +1,5 @@
+//! A grid of factors, and the entry of a density and a temperature.
+
 ghost use Rattle.std.specs.Prelude.{◌≡◌, ◌≤◌, ◌*◌, ◌&&◌, ◌==◌, nat_le, IfSome, MatchResult, None, Ok, Some, IsTrue, length};
 ghost use Rattle.std.specs.Result.{OkIff};
 ghost use Rattle.farm_base.specs.Steps.{IsRefusedAs};
@@ -13,8 +15,8 @@ use farm_rounding::Mode;
 use std::alloc::Global;
 use std::marker::Model;
 
-/// The most factors that a grid may have.
-const MOST: usize = 100_000;
+/// The most factors of a grid, and the most records below the header of a file.
+pub const MOST_FACTORS: usize = 100_000;
 
 /// A grid of volume correction factors: one for each listed density and temperature.
 #[derive(Debug, Drop)]
@@ -123,5 +125,7 @@ pub fn assembled(densities: Vec<Dens>, temperatures: Vec<Centi>, factors: Vec<Fa
 fn is_full(densities: usize, temperatures: usize, factors: usize) -> bool
     ensures { result ≡ is_full densities temperatures factors }
 {
-    1 <= factors && factors <= MOST && factors as u128 == densities as u128 * temperatures as u128
+    1 <= factors
+        && factors <= MOST_FACTORS
+        && factors as u128 == densities as u128 * temperatures as u128
 }

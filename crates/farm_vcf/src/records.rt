@@ -6,15 +6,13 @@ ghost use Rattle.farm_base.specs.Steps.{IsRefusedAs};
 ghost use Rattle.farm_vcf.specs.Faults.{reported};
 ghost use Rattle.farm_vcf.specs.Records.{grid_of_few, grid_under_header, row_of, row_of_fields, rows_from, vcf_of};
 
+use crate::grid::MOST_FACTORS;
 use crate::rows::{Listed, grid_of_rows};
 use crate::{Vcf, VcfFault};
 use csv::ByteRecord;
 use farm_csv::{CsvFault, records_of, without_blanks};
 use farm_fixed::{Centi, Dens, Fac5};
 use std::alloc::Global;
-
-/// The most records of a file, the header aside.
-const MOST: usize = 100_000;
 
 /// The grid of a text.
 pub fn vcf_of(alloc: Global, text: &[u8]) -> Result<Vcf, VcfFault>
@@ -47,11 +45,11 @@ fn grid_of_body(alloc: Global, records: &[ByteRecord]) -> Result<Vcf, VcfFault>
     }
 }
 
-/// The grid of rows, of which there may be so many.
+/// The grid of rows, of which there may be at most 100,000.
 fn grid_of_few(alloc: Global, rows: &[Listed]) -> Result<Vcf, VcfFault>
     ensures { MatchResult result (λ grid. grid_of_few (Ok rows.now) ≡ Ok grid) (λ fault. IsRefusedAs (reported fault) (grid_of_few (Ok rows.now))) }
 {
-    if rows.len() > MOST {
+    if rows.len() > MOST_FACTORS {
         return Err(VcfFault::TooMany);
     }
     grid_of_rows(alloc, rows)
@@ -84,7 +82,7 @@ fn row_of(fields: &ByteRecord) -> Option<Listed>
     row_of_fields(density, temperature, factor)
 }
 
-/// The row of three fields, blanks at their ends dropped; none where one doesn't read as its quantity.
+/// The row of three fields, blanks at their ends dropped; `None` where one isn't the text of its quantity.
 pub fn row_of_fields(density: &[u8], temperature: &[u8], factor: &[u8]) -> Option<Listed>
     ensures { result ≡ row_of_fields density.now temperature.now factor.now }
 {

@@ -3,6 +3,7 @@
 ghost use Rattle.std.specs.Prelude.{◌≡◌, ◌≤◌, ◌<◌, ◌+◌, ◌∷◌, [], drop, length, take, IfSome, MatchResult, Ok};
 ghost use Rattle.farm_base.specs.Steps.{IsRefusedAs};
 ghost use Rattle.farm_vcf.specs.Faults.{reported};
+ghost use Rattle.farm_vcf.specs.declared.grid.TheConstants.{MOST_FACTORS};
 ghost use Rattle.farm_vcf.specs.Blocks.{IsFaultOfRows, IsGridOf};
 ghost use Rattle.farm_vcf.specs.Rows.{continues, densities_from, discontinued_from, factors_of, grid_in_blocks, grid_of_rows, next_column, temperatures_of, unrisen, unrisen_from, width_from};
 ghost use Rattle.farm_vcf.specs.declared.fault.VcfFault.TheVariants.{NoMemory};
@@ -23,11 +24,11 @@ pub struct Listed {
     pub factor: Fac5,
 }
 
-/// The grid of these rows, or the first row at which they are none, as `NotGrid`. Want of memory is `NoMemory`.
+/// The grid of these rows, or the first row at which they are no grid, as `NotGrid`. Out of memory is `NoMemory`.
 ///
 /// At most 100,000 rows are asked for. Whatever lists factors row by row is a grid by this one rule.
 pub fn grid_of_rows(alloc: Global, rows: &[Listed]) -> Result<Vcf, VcfFault>
-    requires { length rows.now ≤ 100000 }
+    requires { length rows.now ≤ MOST_FACTORS }
     ensures value { MatchResult result (λ grid. grid_of_rows rows.now ≡ Ok grid) (λ fault. IsRefusedAs (reported fault) (grid_of_rows rows.now)) }
     ensures meaning { MatchResult result (λ grid. IsGridOf rows.now grid) (λ fault. IfSome (reported fault) (IsFaultOfRows rows.now)) }
 {
@@ -46,7 +47,7 @@ fn grid_in_blocks(
 ) -> Result<Vcf, VcfFault>
     requires some { 0 < width }
     requires within { width ≤ length rows.now }
-    requires few { length rows.now ≤ 100000 }
+    requires few { length rows.now ≤ MOST_FACTORS }
     ensures { MatchResult result (λ grid. grid_in_blocks width density rows.now ≡ Ok grid) (λ fault. IsRefusedAs (reported fault) (grid_in_blocks width density rows.now)) }
 {
     if let Some(number) = unrisen(&rows[..width]) {
@@ -101,7 +102,7 @@ fn unrisen_after(first: Centi, rows: &[Listed]) -> Option<usize>
 /// The first row that doesn't go on with the first block, of this density and these temperatures. `rows` are those after it.
 fn discontinued(temperatures: &[Centi], density: Dens, rows: &[Listed]) -> Option<usize>
     requires some { 0 < length temperatures.now }
-    requires few { length temperatures.now + length rows.now ≤ 100000 }
+    requires few { length temperatures.now + length rows.now ≤ MOST_FACTORS }
     ensures { result ≡ discontinued_from temperatures.now (length temperatures.now + 1) density 0 rows.now }
 {
     let mut before = density;

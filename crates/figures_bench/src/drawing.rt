@@ -41,8 +41,8 @@ impl Draws {
     }
 }
 
-/// The figures of the next draw, none where they are refused.
-pub fn figures_of_draw(draws: &mut Draws, rounds: &RoundTable) -> Option<Quantities> {
+/// The figures of the next draw, `None` where they are refused.
+pub fn figures_of_draw(draws: &mut Draws, rounding: &RoundTable) -> Option<Quantities> {
     let tov = draws.volume(1_000_000_001);
     let fw = draws.volume(1_000_001);
     let shell = Shell {
@@ -59,7 +59,7 @@ pub fn figures_of_draw(draws: &mut Draws, rounds: &RoundTable) -> Option<Quantit
     };
     let vcf = Fac5::new(50_000 + draws.below(100_001)).ok()?;
     figures(
-        tov, fw, &shell, liquid, ambient, floating, &sample, vcf, rounds,
+        tov, fw, &shell, liquid, ambient, floating, &sample, vcf, rounding,
     )
     .ok()
 }

@@ -33,11 +33,11 @@ fn fold(number: i64, q: &Quantities) -> i64 {
 }
 
 fn main(rt: HostRuntime) -> io::Result<()> {
-    let rounds = RoundTable::usual();
+    let rounding = RoundTable::usual();
     let mut draws = Draws::new(1);
     let mut number = 0;
     for _ in 0..COUNT {
-        number = match figures_of_draw(&mut draws, &rounds) {
+        number = match figures_of_draw(&mut draws, &rounding) {
             Some(figures) => fold(number, &figures),
             None => number.wrapping_mul(31),
         };

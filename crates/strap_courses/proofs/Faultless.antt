@@ -10,14 +10,17 @@ pub no_first : (a b : Option TankFault) → or_else a b ≡ None → a ≡ None
 no_first None b none = refl
 no_first (Some fault) b none = cc
 
+-- and what comes second is none either
 pub no_second : (a b : Option TankFault) → or_else a b ≡ None → b ≡ None
 no_second None b none = none
 no_second (Some fault) b none = cc
 
+-- no fault at a number is no number
 no_number : (fault : ℕ → TankFault) (n : Option ℕ) → at_number fault n ≡ None → n ≡ None
 no_number fault None none = refl
 no_number fault (Some n) none = cc
 
+-- courses whose height is not wrong are at most 50,000 mm high
 low_enough : (top height : ℕ) → wrong_height top height ≡ None → height ≤ 50000
 low_enough top height none = grind (arith, nat_tests)
 
@@ -27,6 +30,7 @@ pub record Faultless (tank : StrappedTank) : Type 0 where
   pub points : bad_point tank.bottom ≡ None
   pub height : height_of tank.courses ≤ 50000
 
+-- what the causes come to where none is found
 pub faultless : (tank : StrappedTank) → first_fault tank ≡ None → Faultless tank
 unfolding first_fault
 faultless tank none =

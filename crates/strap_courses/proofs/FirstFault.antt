@@ -1,5 +1,5 @@
 -- The fault of parts in the words of the rule: the first of its kind, and none of a kind before it.
-use Rattle.std.proofs.Common.{◌≡◌, inl, inr, ℕ, zero, suc, ◌+◌, ◌-◌, ◌<◌, ◌&&◌, ◌||◌, Bool, true, false, if◌then◌else◌, Option, Some, None, List, [], ◌∷◌, ◌++◌, length, All, pos, nat_lt, refl, sym, ap, ◌∙◌, subst, arith}
+use Rattle.std.proofs.Common.{◌≡◌, ℕ, ◌+◌, ◌<◌, ◌||◌, Bool, true, false, if◌then◌else◌, Option, Some, None, List, [], ◌∷◌, ◌++◌, length, All, pos, nat_lt, refl, ap, ◌∙◌, subst, arith}
 use Rattle.std.proofs.lemmas.List.Elements.{All-cons, All-nil}
 use Rattle.std.proofs.lemmas.Bool.Decides.{nat_tests}
 use Rattle.std.proofs.lemmas.Int.{ints}
@@ -9,9 +9,10 @@ use Rattle.std.specs.Prelude.{IfSome}
 use Rattle.farm_base.specs.Steps.{or_else}
 use Rattle.strap_courses.specs.declared.parts.Course.{Course}
 use Rattle.strap_courses.specs.declared.parts.Deadwood.{Deadwood}
-use Rattle.strap_courses.specs.Courses.{Point, StrappedTank, bottom_height, height_of, scaled_circumference}
-use Rattle.strap_courses.specs.Faults.{AreCourses, BadBottom, BadCourse, BadDeadwood, Follows, GoesOn, HaveFault, IsBottom, IsCourse, IsDeadwood, IsFirstBad, IsFirstBadPoint, IsFirstPoint, IsHeight, IsTank, NoCourse, TankFault, TooTall, at_number, bad_course, bad_deadwood, bad_point, first_fault, follows, is_bad_course, is_bad_deadwood, is_bottom_volume, no_course, point_at, unfollowed, wrong_height}
-use Rattle.strap_courses.proofs.Points.{each_follows, follows_is, not_none}
+use Rattle.strap_courses.specs.Courses.{StrappedTank, bottom_height, height_of, scaled_circumference}
+use Rattle.strap_courses.specs.Faults.{AreCourses, BadBottom, BadCourse, BadDeadwood, HaveFault, IsCourse, IsDeadwood, IsFirstBad, IsHeight, IsTank, NoCourse, TankFault, TooTall, at_number, bad_course, bad_deadwood, bad_point, first_fault, is_bad_course, is_bad_deadwood, no_course, wrong_height}
+use Rattle.strap_courses.proofs.FirstPoint.{bad_point_is, bottom_is}
+use Rattle.strap_courses.proofs.Points.{not_none}
 
 -- item m, counted from number n, is the first of a list that isn't good
 record Found {A : Type 0} (Good : A → Type 0) (list : List A) (n m : ℕ) : Type 0 where
@@ -63,6 +64,7 @@ first_bad Good list m found = record {
 good_course : (course : Course) → is_bad_course course ≡ false → IsCourse course
 good_course course passes = record { high = λ none. grind (arith, ints, nat_tests); lower = grind (arith, ints); upper = grind (arith, ints); inside = grind (arith, ints) }
 
+-- a course that fails it is bad
 not_course : (course : Course) → is_bad_course course ≡ true → ¬ (IsCourse course)
 not_course course fails good =
     let high : int_eq course.height (pos 0) ≡ false = grind (arith, ints, nat_tests, good.high) in
@@ -96,6 +98,7 @@ all_courses n (course ∷ courses) none = by (is_bad_course course) refl none (a
 good_deadwood : (top : ℕ) (deadwood : Deadwood) → is_bad_deadwood top deadwood ≡ false → IsDeadwood top deadwood
 good_deadwood top deadwood passes = record { high = grind (arith, ints, nat_tests); above = grind (arith, ints, nat_tests); litres = grind (arith, ints, nat_tests) }
 
+-- a deadwood that fails it is bad
 not_deadwood : (top : ℕ) (deadwood : Deadwood) → is_bad_deadwood top deadwood ≡ true → ¬ (IsDeadwood top deadwood)
 not_deadwood top deadwood fails good = grind (arith, ints, nat_tests, good.high, good.above, good.litres)
 
@@ -119,114 +122,11 @@ all_deadwoods top n (deadwood ∷ deadwoods) none = by (is_bad_deadwood top dead
     by true e none later = absurd (not_none n (rw e at none))
     by false e none later = All-cons (IsDeadwood top) deadwood deadwoods (good_deadwood top deadwood e) (later (rw e at none))
 
--- the test of the first point
-first_point : (point : Point) → (int_eq point.0 (pos 0) && is_bottom_volume point) ≡ true → IsFirstPoint point
-first_point point passes = record {
-  height = grind (arith, ints, nat_tests);
-  volume = record { low = grind (arith, ints); high = grind (arith, ints) };
-}
-
-not_first_point : (point : Point) → (int_eq point.0 (pos 0) && is_bottom_volume point) ≡ false → ¬ (IsFirstPoint point)
-not_first_point point fails good = grind (arith, ints, nat_tests, good.height, good.volume.low, good.volume.high)
-
--- the test of a later point
-not_follows : (before point : Point) → follows before point ≡ false → ¬ (Follows before point)
-not_follows before point fails good = grind (arith, ints, good.higher, good.no_less, good.volume.low, good.volume.high)
-
--- point m, counted from number n, is the first that doesn't follow the one before it
-record FoundPoint (n : ℕ) (before : Point) (points : List Point) (m : ℕ) : Type 0 where
-  index : ℕ
-  counted : m ≡ n + index
-  within : index < length points
-  good_before : (earlier : ℕ) → earlier < index → Follows (point_at (before ∷ points) earlier) (point_at points earlier)
-  fails : ¬ (Follows (point_at (before ∷ points) index) (point_at points index))
-
--- the points before it follow, the first one among them
-follow_more : (before point : Point) (points : List Point) (index : ℕ) → Follows before point →
-    ((earlier : ℕ) → earlier < index → Follows (point_at (point ∷ points) earlier) (point_at points earlier)) →
-    (earlier : ℕ) → earlier < suc index → Follows (point_at (before ∷ point ∷ points) earlier) (point_at (point ∷ points) earlier)
-follow_more before point points index here rest zero early = here
-follow_more before point points index here rest (suc earlier) early = rest earlier (omega arith)
-
--- the point that the search finds
-found_point : (n : ℕ) (before : Point) (points : List Point) (m : ℕ) → unfollowed n before points ≡ Some m → FoundPoint n before points m
-found_point n before [] m some = cc
-found_point n before (point ∷ points) m some = by (follows before point) refl some (found_point (n + 1) point points m)
-  where
-    by : (b : Bool) → follows before point ≡ b → (if follows before point then unfollowed (n + 1) point points else Some n) ≡ Some m →
-        (unfollowed (n + 1) point points ≡ Some m → FoundPoint (n + 1) point points m) → FoundPoint n before (point ∷ points) m
-    by true e some later =
-        let rest = later (rw e at some) in
-        record {
-          index = suc rest.index;
-          counted = omega (arith, rest.counted);
-          within = omega (arith, rest.within);
-          good_before = follow_more before point points rest.index (follows_is before point e) rest.good_before;
-          fails = rest.fails;
-        }
-    by false e some later =
-        let here : Some n ≡ Some m = (rw e at some) in
-        let same : n ≡ m = cc in
-        record {
-          index = 0;
-          counted = omega (arith, same);
-          within = omega arith;
-          good_before = λ earlier early. absurd (omega (arith, early));
-          fails = not_follows before point e;
-        }
-
--- the points before a later bad one may stand where they do
-on_before : (point : Point) (points : List Point) (index : ℕ) → IsFirstPoint point →
-    ((earlier : ℕ) → earlier < index → Follows (point_at (point ∷ points) earlier) (point_at points earlier)) →
-    (earlier : ℕ) → earlier < suc index → GoesOn (point ∷ points) earlier
-on_before point points index first rest zero early = first
-on_before point points index first rest (suc earlier) early = rest earlier (omega arith)
-
--- the first bad point is the one that the search finds
-bad_point_is : (points : List Point) (m : ℕ) → bad_point points ≡ Some m → IsFirstBadPoint points m
-bad_point_is [] m some =
-    let same : 1 ≡ m = cc in
-    record { low = omega (arith, same); before = λ index early. absurd (omega (arith, same, early)); bad = inr (sym same, refl) }
-bad_point_is (point ∷ points) m some = by (int_eq point.0 (pos 0) && is_bottom_volume point) refl some
-  where
-    by : (b : Bool) → (int_eq point.0 (pos 0) && is_bottom_volume point) ≡ b →
-        (if int_eq point.0 (pos 0) && is_bottom_volume point then unfollowed 2 point points else Some 1) ≡ Some m → IsFirstBadPoint (point ∷ points) m
-    by true e some =
-        let found = found_point 2 point points m (rw e at some) in
-        let P : ℕ → Type 0 = λ index. ¬ (GoesOn (point ∷ points) index) in
-        record {
-          low = omega (arith, found.counted);
-          before = λ index early. on_before point points found.index (first_point point e) found.good_before index (omega (arith, found.counted, early));
-          bad = let at : suc found.index ≡ m - 1 = omega (arith, found.counted) in inl (omega (arith, found.counted, found.within), subst P at found.fails);
-        }
-    by false e some =
-        let here : Some 1 ≡ Some m = (rw e at some) in
-        let same : 1 ≡ m = cc in
-        let P : ℕ → Type 0 = λ index. ¬ (GoesOn (point ∷ points) index) in
-        record {
-          low = omega (arith, same);
-          before = λ index early. absurd (omega (arith, same, early));
-          bad = let first : 0 ≡ m - 1 = omega (arith, same) in inl (omega (arith, same), subst P first (not_first_point point e));
-        }
-
--- where it finds none, the points are a bottom
-bottom_is : (points : List Point) → bad_point points ≡ None → IsBottom points
-bottom_is [] none = cc
-bottom_is (point ∷ points) none = by (int_eq point.0 (pos 0) && is_bottom_volume point) refl none
-  where
-    on : IsFirstPoint point → unfollowed 2 point points ≡ None → (index : ℕ) → index < length (point ∷ points) → GoesOn (point ∷ points) index
-    on first rest zero within = first
-    on first rest (suc index) within = each_follows 2 point points (pos 0, pos 0) (pos 0, pos 0) index rest (omega arith)
-
-    by : (b : Bool) → (int_eq point.0 (pos 0) && is_bottom_volume point) ≡ b →
-        (if int_eq point.0 (pos 0) && is_bottom_volume point then unfollowed 2 point points else Some 1) ≡ None → IsBottom (point ∷ points)
-    by true e none = record { some = omega arith; each = on (first_point point e) (rw e at none) }
-    by false e none = absurd (not_none 1 (rw e at none))
-
 -- the test of the height of the courses
 height_is : (top height : ℕ) → wrong_height top height ≡ None → IsHeight top height
 height_is top height none = record { least = grind (arith, nat_tests); most = grind (arith, nat_tests); covers = grind (arith, nat_tests) }
 
+-- a height that fails it is wrong
 not_height : (top height : ℕ) (fault : TankFault) → wrong_height top height ≡ Some fault → (TooTall ≡ fault) × ¬ (IsHeight top height)
 not_height top height fault some = (same (nat_lt height 10) (nat_lt 50000 height) (nat_lt height top) some, λ good. grind (arith, nat_tests, good.least, good.most, good.covers))
   where

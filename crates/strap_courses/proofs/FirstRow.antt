@@ -21,12 +21,15 @@ record Before (rounding : List Row) (tank : StrappedTank) (i : ℕ) (before : �
 volume_is : (row : ℤ) → is_within (pos 0) (pos (10 ^ 9)) row ≡ true → IsVolume row
 volume_is row accepted = record { low = grind (arith, ints); high = grind (arith, ints) }
 
+-- a row outside its range has no volume of a table
 not_volume : (row : ℤ) → is_within (pos 0) (pos (10 ^ 9)) row ≡ false → ¬ (IsVolume row)
 not_volume row refused volume = grind (arith, ints, volume.low, volume.high)
 
+-- a row that falls is below the one before it
 below : (row before : ℤ) → int_lt row before ≡ true → row <ℤ before
 below row before falls = grind (arith, ints)
 
+-- and one that does not fall is not
 not_below : (row before : ℤ) → int_lt row before ≡ false → before ≤ℤ row
 not_below row before accepted = grind (arith, ints)
 

@@ -4,5 +4,6 @@ pub mod Points
 pub mod Segments
 pub mod Spans
 pub mod Table
+pub mod FirstPoint
 pub mod FirstFault
 pub mod FirstRow

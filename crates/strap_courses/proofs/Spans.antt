@@ -20,6 +20,7 @@ unfolding held_between
 held_more low high from courses course i short course_is =
     ap (λ cs. held_between low high from cs) (from_element courses course i short course_is)
 
+-- the height of one course more
 pub height_more : (courses : List Course) (course : Course) (i : ℕ) → i < length courses → course ≡ get_or courses i course →
     height_of (drop i courses) ≡ unsigned_abs course.height + height_of (drop (i + 1) courses)
 height_more courses course i short course_is = ap (λ cs. height_of cs) (from_element courses course i short course_is)

@@ -33,6 +33,7 @@ rows_more rounding tank i count short =
 within : (row : ℤ) → is_within (pos 0) (pos (10 ^ 9)) row ≡ true → IsWithin (pos 0) (pos (10 ^ 9)) row
 within row accepted = record { low = grind (arith, ints); high = grind (arith, ints) }
 
+-- a row that does not fall is not below the one before it
 not_below : (row before : ℤ) → int_lt row before ≡ false → before ≤ℤ row
 not_below row before accepted = grind (arith, ints)
 
@@ -45,16 +46,19 @@ record Right (before row : ℤ) : Type 0 where
   volume : IsWithin (pos 0) (pos (10 ^ 9)) row
   above : before ≤ℤ row
 
+-- a row that passes both tests is right
 right_by : (in_range falls : Bool) (i : ℕ) (before row : ℤ) → is_within (pos 0) (pos (10 ^ 9)) row ≡ in_range → int_lt row before ≡ falls →
     wrong_row i before row ≡ None → Right before row
 right_by false falls i before row range_test fall_test none = absurd (not_none (TooLarge i) (rw range_test at none))
 right_by true true i before row range_test fall_test none = absurd (not_none (NotRising i) (rw (range_test, fall_test) at none))
 right_by true false i before row range_test fall_test none = record { volume = within row range_test; above = not_below row before fall_test }
 
+-- the first of rows of which none is wrong is right
 right : (i : ℕ) (before row : ℤ) (rows : List ℤ) → first_wrong i before (row ∷ rows) ≡ None → Right before row
 right i before row rows none =
     right_by (is_within (pos 0) (pos (10 ^ 9)) row) (int_lt row before) i before row refl refl (no_first (wrong_row i before row) (first_wrong (i + 1) row rows) none)
 
+-- and none of the others is wrong
 rest : (i : ℕ) (before row : ℤ) (rows : List ℤ) → first_wrong i before (row ∷ rows) ≡ None → first_wrong (i + 1) row rows ≡ None
 rest i before row rows none = no_second (wrong_row i before row) (first_wrong (i + 1) row rows) none
 
@@ -70,6 +74,7 @@ each_rising i before [] k d none short = absurd (omega arith)
 each_rising i before (row ∷ rows) zero d none short = (right i before row rows none).above
 each_rising i before (row ∷ rows) (suc k) d none short = each_rising (i + 1) row rows k d (rest i before row rows none) (omega arith)
 
+-- so no row of a table is below the one before it
 rising_rows : (rows : List ℤ) (k : ℕ) (d : ℤ) → first_wrong 0 (pos 0) rows ≡ None → k + 1 < length rows → get_or rows k d ≤ℤ get_or rows (k + 1) d
 rising_rows rows k d none short =
     let P : ℕ → Type 0 = λ n. get_or rows k d ≤ℤ get_or rows n d in

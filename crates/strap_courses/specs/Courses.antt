@@ -20,6 +20,7 @@ pub record Fraction : Type 0 where
   pub num : ℤ
   pub den : ℕ
 
+-- a fraction of a litre by its two numbers
 abbrev pub over : ℤ → ℕ → Fraction
 over num den = record { num = num; den = den }
 
@@ -49,7 +50,7 @@ held_between low high from (course ∷ courses) =
     unsigned_abs (scaled_circumference course) ^ 2 * shared_height low high from (from + unsigned_abs course.height)
     + held_between low high (from + unsigned_abs course.height) courses
 
--- the last point of a bottom, at no height and volume where there is none
+-- the last point of a bottom, at no height and volume where there are no points
 abbrev pub last_point : List Point → Point
 last_point [] = (pos 0, pos 0)
 last_point (point ∷ []) = point

@@ -31,7 +31,7 @@ pub enum StrapFault {
     /// The first row below 0 or over 10^9 litres.
     #[error("row {0} is outside 0 to 1000000000 litres")]
     TooLarge(usize),
-    /// There was no memory for the rows.
+    /// The call is out of memory.
     #[error("no memory")]
     NoMemory,
 }

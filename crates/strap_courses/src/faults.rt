@@ -13,7 +13,7 @@ use farm_fixed::{MOST_HEIGHT, MOST_LITRES, Mm};
 /// The least height of the courses of a tank, in mm: that of one row.
 pub const LEAST_HEIGHT: u128 = 10;
 
-/// Why parts are no strapped tank, if they are none.
+/// Why parts are no strapped tank, if they aren't one.
 #[tactic(auto, unfolding(crate::specs::Faults::first_fault))]
 pub fn first_fault(
     courses: &[Course],

@@ -7,7 +7,7 @@ use Rattle.farm_rounding.specs.declared.mode.Mode.{Mode}
 use Rattle.farm_rounding.specs.Multiple.{nearest_multiple}
 use Rattle.strap_table.specs.declared.faults.TheConstants.{FEWEST_ROWS, MOST_ROWS}
 
--- row i; 0 where there is none
+-- row i; 0 after the last row
 abbrev pub row_at : List ℤ → ℕ → ℤ
 row_at rows i = slice_index_or rows i (pos 0)
 
@@ -22,7 +22,7 @@ pub record IsCapTable (rows : List ℤ) : Type 0 where
   pub volumes : (i : ℕ) → IsVolume (row_at rows i)
   pub rising : (i : ℕ) → i + 1 < length rows → row_at rows i ≤ℤ row_at rows (i + 1)
 
--- the volume so many mm above a row, in tenths of a litre: the row, and a tenth of the rise to the next for each mm
+-- the volume a number of mm above a row, in tenths of a litre: the row, and a tenth of the rise to the next for each mm
 abbrev pub tenths_between : ℤ → ℤ → ℤ → ℤ
 tenths_between row next over = pos 10 *ℤ row +ℤ (next -ℤ row) *ℤ over
 
@@ -32,7 +32,7 @@ volume_at mode step rows height =
     if height % 10 == 0 then nearest_multiple mode (row_at rows (height / 10)) 1 step
     else nearest_multiple mode (tenths_between (row_at rows (height / 10)) (row_at rows (height / 10 + 1)) (pos (height % 10))) 10 step
 
--- the volume at a level, of which there is none above the last row
+-- the volume at a level that isn't above the last row
 unfoldable pub table_volume : Mode → ℕ → List ℤ → ℤ → Option ℤ
 table_volume mode step rows level =
     if nat_lt (10 * (length rows - 1)) (unsigned_abs level) then None else Some (volume_at mode step rows (unsigned_abs level))

@@ -5,7 +5,7 @@ use thiserror::Error;
 #[error("the level is above the last row of the capacity table")]
 pub struct AboveTable;
 
-/// Why rows are no capacity table. The first of the causes below, in their order, is told; rows count from 0.
+/// Why rows are no capacity table. The first of the causes below, in their order, is reported; rows count from 0.
 #[derive(Clone, Copy, Debug, PartialEq, Eq, Error)]
 pub enum TableFault {
     /// There are fewer than two rows.

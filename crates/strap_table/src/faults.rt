@@ -12,7 +12,7 @@ pub const FEWEST_ROWS: usize = 2;
 /// The most rows of a table: one each 10 mm of the greatest height, and one at 0.
 pub const MOST_ROWS: usize = 5_001;
 
-/// Why the rows are no capacity table, if they are none.
+/// Why the rows are no capacity table, if they aren't one.
 #[tactic(auto, unfolding(crate::specs::Faults::first_fault))]
 pub fn first_fault(rows: &[i64]) -> Option<TableFault>
     ensures { result ≡ first_fault rows.now }

@@ -9,7 +9,7 @@ ghost use Rattle.strap_table.specs.Capacity.{IsVolume, tenths_between};
 use farm_fixed::Litres;
 use farm_rounding::{Mode, difference, nearest, product, sum};
 
-/// The volume so many mm above a row, in tenths of a litre.
+/// The volume a number of mm above a row, in tenths of a litre.
 pub fn between(row: i64, next: i64, over: i64) -> i64
     requires row { IsVolume row }
     requires next { IsVolume next }

@@ -13,7 +13,7 @@ fn top_is_read(rt: &impl Abort, site: &Site) {
     rounds[7] = (20, Mode::HalfAway);
     rounds[8] = (50, Mode::HalfAway);
     rounds[9] = (100, Mode::TowardZero);
-    assert_eq!(rt; site.name.get(), "Small site");
+    assert_eq!(rt; site.name.get(), b"Small site".as_slice());
     has_rounds(rt, &site.rounds, &rounds);
 }
 
@@ -22,7 +22,7 @@ fn products_are_read(rt: &impl Abort, products: &[Product]) {
     let wanted = [(11, "Kerosene", 1), (12, "Gas oil", 9)];
     assert_eq!(rt; products.len(), wanted.len());
     for (product, (number, name, factors)) in products.iter().zip(wanted) {
-        assert_eq!(rt; (product.number, product.name.get()), (number, name));
+        assert_eq!(rt; (product.number, product.name.get()), (number, name.as_bytes()));
         assert_eq!(rt; product.vcf.factors().len(), factors);
     }
 }
@@ -31,7 +31,7 @@ fn parties_are_read(rt: &impl Abort, parties: &[Party]) {
     let wanted = [(7, "Carrier"), (8, "Owner")];
     assert_eq!(rt; parties.len(), wanted.len());
     for (party, (number, name)) in parties.iter().zip(wanted) {
-        assert_eq!(rt; (party.number, party.name.get()), (number, name));
+        assert_eq!(rt; (party.number, party.name.get()), (number, name.as_bytes()));
     }
 }
 

@@ -1,6 +1,7 @@
 use Rattle.std.proofs.Common.{◌≡◌, ◌<◌, ◌+◌, ◌-◌, length, take, get_or, arith, rules, true, false, refl}
 use Rattle.std.proofs.lemmas.List.{length-take, take_all, take_more}
-use Rattle.farm_csv.specs.Blanks.{is_blank, length_before_blanks}
+use Rattle.farm_base.specs.Bytes.{is_blank}
+use Rattle.farm_csv.specs.Blanks.{length_before_blanks}
 use Rattle.farm_csv.proofs.Ends.{end_blank, end_other}
 use Rattle.farm_csv.proofs.blanks.length_before_blanks.Goals as goal
 
@@ -18,8 +19,8 @@ bytes-preserved c =
     let inv = rw (n, take_more f ((length f - k) - 1) 0 lt, end_blank (take ((length f - k) - 1) f) _ blank) at c.bytes.invariant in
     rw m inv
 
-pub returns-then-not-is_blank-clause-value : goal.returns-then-not-is_blank-clause-value
-returns-then-not-is_blank-clause-value c =
+pub returns-then-not-is_blank-clause-length : goal.returns-then-not-is_blank-clause-length
+returns-then-not-is_blank-clause-length c =
     let f = c.args.text.now in
     let k = c.bytes.index in
     let lt : (length f - k) - 1 < length f = omega (arith, c.bytes-test.true) in
@@ -29,8 +30,8 @@ returns-then-not-is_blank-clause-value c =
     let inv = rw (n, take_more f ((length f - k) - 1) 0 lt, end_other (take ((length f - k) - 1) f) _ other) at c.bytes.invariant in
     omega (arith, inv)
 
-pub returns-clause-value : goal.returns-clause-value
+pub returns-clause-length : goal.returns-clause-length
 unfolding length_before_blanks
-returns-clause-value c =
+returns-clause-length c =
     let z : length c.args.text.now - c.bytes.index ≡ 0 = omega (arith, c.bytes-test.false) in
     rw z at c.bytes.invariant

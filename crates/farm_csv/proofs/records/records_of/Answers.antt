@@ -50,7 +50,7 @@ loop-read-preserved c =
     )
 
 pub returns-in-Err-clause-uneven : goal.returns-in-Err-clause-uneven
-returns-in-Err-clause-uneven c = λ told.
+returns-in-Err-clause-uneven c = λ uneven.
     let inv = c.loop-read.invariant in
     let steps = c.next.ensures.steps inv.2 inv.0 in
     let why = rw (c.in-Some.is, c.in-Err.is) at (steps.0 inv.1) in

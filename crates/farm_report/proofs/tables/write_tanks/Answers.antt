@@ -1,5 +1,5 @@
 use Rattle.std.proofs.Common.{rules}
-use Rattle.farm_report.proofs.IssuedLaws.{begins_before}
+use Rattle.farm_report.proofs.Rows.{begins_before}
 use Rattle.farm_report.proofs.tables.write_tanks.Goals as goal
 
 pub returns-in_err-write_tank : goal.returns-in_err-write_tank

@@ -1,4 +1,4 @@
-use Rattle.farm_vcf.proofs.Meanings.{answer_of_text}
+use Rattle.farm_vcf.proofs.Texts.{answer_of_text}
 use Rattle.farm_vcf.proofs.grid.Vcf.read.Goals as goal
 
 pub returns-clause-meaning : goal.returns-clause-meaning

@@ -1,0 +1,15 @@
+pub mod Digits
+pub mod Parts
+pub mod VolumeRows
+pub mod FactorFronts
+pub mod TableRead
+pub mod UsedLines
+pub mod Answering
+pub mod DueBlanks
+pub mod DueVolumes
+pub mod DueFactors
+pub mod Judging
+pub mod VolumesForm
+pub mod TableLines
+pub mod TableForm
+pub mod RefusedLines

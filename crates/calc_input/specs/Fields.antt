@@ -1,0 +1,67 @@
+-- The words of an input line as what they stand for.
+use Rattle.std.specs.Prelude.{ℕ, ◌&&◌, Bool, true, false, if◌then◌else◌, List, [], length, Option, Some, None, codes, nat_le, nat_lt, slice_index_or, option_and_then, ℤ, pos, negsuc}
+use Rattle.std.specs.Int.RustNames.{unsigned_abs}
+use Rattle.std.specs.Result.{result_ok}
+use Rattle.std.specs.Str.{bytes_eq, all_ascii_digits}
+use Rattle.std.specs.Str.Parse.{digits_value}
+use Rattle.farm_fixed.specs.Range.{is_within}
+use Rattle.farm_fixed.specs.Parsing.{quantity_of}
+use Rattle.farm_fixed.specs.declared.limits.TheConstants.{MOST_COEFFICIENT, MOST_HEIGHT, MOST_LITRES, MOST_ROOF_MASS}
+
+infixl 10 ◌>>=◌
+-- the next step on what the first one gives, where it gives something
+abbrev pub ◌>>=◌ : {A B : Type 0} → Option A → (A → Option B) → Option B
+o >>= f = option_and_then f o
+
+-- a value that is there and in the range
+abbrev pub within : ℤ → ℤ → Option ℤ → Option ℤ
+within least most None = None
+within least most (Some value) = if is_within least most value then Some value else None
+
+-- a volume to calculate with: litres, up to 10^9
+unfoldable pub volume_of : List ℕ → Option ℤ
+volume_of word = within (pos 0) MOST_LITRES (result_ok (quantity_of 0 (negsuc 99999999999999999) (pos 100000000000000000) word))
+
+-- the mass of a floating roof: kilograms, up to 10^7
+unfoldable pub roof_of : List ℕ → Option ℤ
+roof_of word = within (pos 0) MOST_ROOF_MASS (result_ok (quantity_of 0 (negsuc 99999999999999999) (pos 100000000000000000) word))
+
+-- a temperature
+unfoldable pub temperature_of : List ℕ → Option ℤ
+temperature_of word = result_ok (quantity_of 2 (negsuc 9999) (pos 30000) word)
+
+-- a density
+unfoldable pub density_of : List ℕ → Option ℤ
+density_of word = result_ok (quantity_of 1 (pos 4000) (pos 12000) word)
+
+-- a volume correction factor
+unfoldable pub factor_of : List ℕ → Option ℤ
+factor_of word = result_ok (quantity_of 5 (pos 50000) (pos 150000) word)
+
+-- a share of sediment and water
+unfoldable pub share_of : List ℕ → Option ℤ
+share_of word = result_ok (quantity_of 3 (pos 0) (pos 100000) word)
+
+-- whether a shell is insulated
+unfoldable pub shell_of : List ℕ → Option Bool
+shell_of word =
+    if bytes_eq word (codes "bare") then Some false else (if bytes_eq word (codes "insulated") then Some true else None)
+
+-- a number that is written as 1 to 20 decimal digits
+unfoldable pub digits_of : List ℕ → Option ℕ
+digits_of word =
+    if nat_lt 0 (length word) && nat_le (length word) 20 && all_ascii_digits word then Some (digits_value 10 word) else None
+
+-- a shell's coefficient, up to 1,000 ten-millionths per C
+unfoldable pub coefficient_of : List ℕ → Option ℤ
+coefficient_of word = do
+  value ← digits_of word
+  if nat_le value (unsigned_abs MOST_COEFFICIENT) then Some (pos value) else None
+
+-- word n of a line, the first being 0
+abbrev pub word_at : List (List ℕ) → ℕ → List ℕ
+word_at words n = slice_index_or words n []
+
+-- a height
+unfoldable pub height_of : List ℕ → Option ℤ
+height_of word = result_ok (quantity_of 0 (pos 0) MOST_HEIGHT word)

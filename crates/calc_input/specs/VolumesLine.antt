@@ -1,0 +1,44 @@
+-- The form `volumes`: one line of observed volumes.
+use Rattle.std.specs.Prelude.{ℕ, ◌==◌, ◌&&◌, if◌then◌else◌, List, length, Option, Some, None, codes, pos}
+use Rattle.std.specs.Str.{bytes_eq}
+use Rattle.farm_fixed.specs.Range.{IsWithin}
+use Rattle.farm_fixed.specs.declared.limits.TheConstants.{MOST_COEFFICIENT, MOST_LITRES, MOST_ROOF_MASS}
+use Rattle.calc_input.specs.declared.volumes_line.Volumes.{Volumes}
+use Rattle.calc_input.specs.Fields.{◌>>=◌, word_at, volume_of, roof_of, temperature_of, density_of, factor_of, share_of, shell_of, coefficient_of}
+
+-- the eleven fields after the name of the form
+unfoldable pub fields_of : List (List ℕ) → Option Volumes
+fields_of words = do
+  tov ← volume_of (word_at words 1)
+  fw ← volume_of (word_at words 2)
+  insulated ← shell_of (word_at words 3)
+  liquid ← temperature_of (word_at words 4)
+  ambient ← temperature_of (word_at words 5)
+  reference ← temperature_of (word_at words 6)
+  coefficient ← coefficient_of (word_at words 7)
+  floating ← roof_of (word_at words 8)
+  density ← density_of (word_at words 9)
+  vcf ← factor_of (word_at words 10)
+  sw ← share_of (word_at words 11)
+  Some (record {
+    tov = tov;
+    fw = fw;
+    shell = record { insulated = insulated; coefficient = coefficient; reference = reference };
+    liquid = liquid;
+    ambient = ambient;
+    floating = floating;
+    sample = record { density = density; sw = sw };
+    vcf = vcf;
+  })
+
+-- what a line of observed volumes says: `volumes TOV FW SHELL TL TA TR A ROOF D VCF SW`
+unfoldable pub volumes_of : List (List ℕ) → Option Volumes
+volumes_of words =
+    if length words == 12 && bytes_eq (word_at words 0) (codes "volumes") then fields_of words else None
+
+-- volumes that can be calculated with: each figure in the range that the calculation asks
+pub record IsCalculable (v : Volumes) : Type 0 where
+  pub tov : IsWithin (pos 0) MOST_LITRES v.tov
+  pub fw : IsWithin (pos 0) MOST_LITRES v.fw
+  pub coefficient : IsWithin (pos 0) MOST_COEFFICIENT v.shell.coefficient
+  pub floating : IsWithin (pos 0) MOST_ROOF_MASS v.floating

@@ -1,0 +1,145 @@
+//! The words of an input line as what they stand for.
+
+ghost use Rattle.std.specs.Prelude.{◌≡◌, ◌<◌, ◌≤◌, IfSome, IsTrue, length, map, pos};
+ghost use Rattle.farm_fixed.specs.Range.{IsWithin};
+ghost use Rattle.std.specs.Str.{all_ascii_digits};
+ghost use Rattle.std.specs.Str.Parse.{digits_value};
+ghost use Rattle.calc_input.specs.Fields.{coefficient_of, density_of, digits_of, factor_of, roof_of, shell_of, share_of, temperature_of, volume_of, height_of, word_at};
+
+use farm_fixed::{
+    Centi, Dens, Fac5, Kg, Litres, MOST_COEFFICIENT, MOST_LITRES, MOST_ROOF_MASS, Mm, Permil5,
+};
+
+/// A volume to calculate with.
+#[tactic(auto, unfolding(crate::specs::Fields::volume_of))]
+pub fn volume_of(word: &[u8]) -> Option<Litres>
+    ensures value { result ≡ volume_of word.now }
+    ensures range { IfSome result (IsWithin (pos 0) MOST_LITRES) }
+{
+    let volume = Litres::read(word).ok()?;
+    if volume.get() < 0 || volume.get() > MOST_LITRES {
+        return None;
+    }
+    Some(volume)
+}
+
+/// The mass of a floating roof.
+#[tactic(auto, unfolding(crate::specs::Fields::roof_of))]
+pub fn roof_of(word: &[u8]) -> Option<Kg>
+    ensures value { result ≡ roof_of word.now }
+    ensures range { IfSome result (IsWithin (pos 0) MOST_ROOF_MASS) }
+{
+    let mass = Kg::read(word).ok()?;
+    if mass.get() < 0 || mass.get() > MOST_ROOF_MASS {
+        return None;
+    }
+    Some(mass)
+}
+
+/// A temperature.
+#[tactic(auto, unfolding(crate::specs::Fields::temperature_of))]
+pub fn temperature_of(word: &[u8]) -> Option<Centi>
+    ensures { result ≡ temperature_of word.now }
+{
+    Centi::read(word).ok()
+}
+
+/// A density.
+#[tactic(auto, unfolding(crate::specs::Fields::density_of))]
+pub fn density_of(word: &[u8]) -> Option<Dens>
+    ensures { result ≡ density_of word.now }
+{
+    Dens::read(word).ok()
+}
+
+/// A volume correction factor.
+#[tactic(auto, unfolding(crate::specs::Fields::factor_of))]
+pub fn factor_of(word: &[u8]) -> Option<Fac5>
+    ensures { result ≡ factor_of word.now }
+{
+    Fac5::read(word).ok()
+}
+
+/// A share of sediment and water.
+#[tactic(auto, unfolding(crate::specs::Fields::share_of))]
+pub fn share_of(word: &[u8]) -> Option<Permil5>
+    ensures { result ≡ share_of word.now }
+{
+    Permil5::read(word).ok()
+}
+
+/// Whether a shell is insulated.
+#[tactic(auto, unfolding(crate::specs::Fields::shell_of))]
+pub fn shell_of(word: &[u8]) -> Option<bool>
+    ensures { result ≡ shell_of word.now }
+{
+    if word == b"bare".as_slice() {
+        return Some(false);
+    }
+    (word == b"insulated".as_slice()).then_some(true)
+}
+
+/// A height.
+#[tactic(auto, unfolding(crate::specs::Fields::height_of))]
+pub fn height_of(word: &[u8]) -> Option<Mm>
+    ensures { result ≡ height_of word.now }
+{
+    Mm::read(word).ok()
+}
+
+/// The coefficient of a shell.
+#[tactic(auto, unfolding(crate::specs::Fields::coefficient_of))]
+pub fn coefficient_of(word: &[u8]) -> Option<i64>
+    ensures value { result ≡ coefficient_of word.now }
+    ensures range { IfSome result (IsWithin (pos 0) MOST_COEFFICIENT) }
+{
+    let coefficient = digits_of(word)?;
+    if coefficient > u128::from(MOST_COEFFICIENT.unsigned_abs()) {
+        return None;
+    }
+    Some(coefficient as i64)
+}
+
+/// A number that is written as 1 to 20 decimal digits.
+#[tactic(auto, unfolding(crate::specs::Fields::digits_of))]
+pub fn digits_of(word: &[u8]) -> Option<u128>
+    ensures { result ≡ digits_of word.now }
+{
+    if word.is_empty() || word.len() > 20 || !is_digits(word) {
+        return None;
+    }
+    Some(number_of(word))
+}
+
+// Whether each byte is a decimal digit.
+fn is_digits(word: &[u8]) -> bool
+    ensures { result ≡ all_ascii_digits word.now }
+{
+    for byte in word {
+        if !byte.is_ascii_digit() {
+            return false;
+        }
+    }
+    true
+}
+
+// The number that up to 20 decimal digits are.
+fn number_of(word: &[u8]) -> u128
+    requires length { length word.now ≤ 20 }
+    requires digits { IsTrue (all_ascii_digits word.now) }
+    ensures { result ≡ digits_value 10 word.now }
+{
+    let mut number = 0;
+    for byte in word {
+        number = 10 * number + u128::from(*byte - b'0');
+    }
+    number
+}
+
+/// A word of the line, the first being 0.
+pub fn word_at<'a>(words: &[&'a [u8]], n: usize) -> &'a [u8]
+    requires { n < length words.now }
+    ensures { result.now ≡ word_at (map (λ word. word.now) words.now) n }
+{
+    words[n]
+}

@@ -1,0 +1,89 @@
+//! Options among the arguments of a command.
+
+ghost use Rattle.std.specs.Prelude.{◌≡◌, ◌≤◌, IfSome, length, map, option_map, string_bytes};
+ghost use Rattle.command_line.specs.Options.{after_name, are_options, option_in, spelled_by, spelled_next, text_after, words_taken};
+
+/// An option that is spelled.
+#[derive(Clone, Copy)]
+pub struct SpelledOption<'a> {
+    /// Its value.
+    pub value: &'a str,
+    /// The number of words that it takes, 1 or 2.
+    pub words: usize,
+}
+
+/// Whether words are these options, each once and in any order, and nothing else.
+#[tactic(auto, unfolding(crate::specs::Options::are_options))]
+pub fn are_options(names: &[&str], words: &[String]) -> bool
+    requires { length names.now ≤ 8 }
+    ensures { result ≡ are_options (map (λ name. name.now) names.now) (map string_bytes words.now) }
+{
+    words_taken(names, words) == Some(words.len())
+}
+
+// The number of words that options take; `None` where one of them isn't there.
+fn words_taken(names: &[&str], words: &[String]) -> Option<usize>
+    requires { length names.now ≤ 8 }
+    ensures { result ≡ words_taken 0 (map (λ name. name.now) names.now) (map string_bytes words.now) }
+{
+    let mut taken = 0;
+    for name in names {
+        taken += option_in(name, words)?.words;
+    }
+    Some(taken)
+}
+
+/// The first option of this name among words.
+pub fn option_in<'a>(name: &str, words: &'a [String]) -> Option<SpelledOption<'a>>
+    ensures option { option_map (λ option. record { value = option.value.now; words = option.words }) result ≡ option_in name.now (map string_bytes words.now) }
+    ensures few { IfSome result (λ option. option.words ≤ 2) }
+{
+    for (index, word) in words.iter().enumerate() {
+        if let Some(rest) = after_name(name, word.as_str()) {
+            if rest.is_empty() {
+                return spelled_next(&words[index + 1..]);
+            }
+            if let Some(value) = text_after("=", rest) {
+                return spelled_by(1, value);
+            }
+        }
+    }
+    None
+}
+
+// A value that is the next word.
+fn spelled_next(words: &[String]) -> Option<SpelledOption<'_>>
+    ensures option { option_map (λ option. record { value = option.value.now; words = option.words }) result ≡ spelled_next (map string_bytes words.now) }
+    ensures few { IfSome result (λ option. option.words ≤ 2) }
+{
+    match words {
+        [value, ..] => spelled_by(2, value.as_str()),
+        [] => None,
+    }
+}
+
+// An option of this value: it isn't empty, and doesn't begin with a minus.
+fn spelled_by(words: usize, value: &str) -> Option<SpelledOption<'_>>
+    requires { words ≤ 2 }
+    ensures option { option_map (λ option. record { value = option.value.now; words = option.words }) result ≡ spelled_by words value.now }
+    ensures few { IfSome result (λ option. option.words ≤ 2) }
+{
+    match value.as_bytes() {
+        [] | [b'-', ..] => None,
+        _ => Some(SpelledOption { value, words }),
+    }
+}
+
+// What follows the name of an option in a word.
+fn after_name<'a>(name: &str, word: &'a str) -> Option<&'a str>
+    ensures { option_map (λ rest. rest.now) result ≡ after_name name.now word.now }
+{
+    text_after(name, text_after("--", word)?)
+}
+
+// What follows a front in a text.
+fn text_after<'a>(front: &str, text: &'a str) -> Option<&'a str>
+    ensures { option_map (λ rest. rest.now) result ≡ text_after front.now text.now }
+{
+    text.strip_prefix(front)
+}

@@ -1,6 +1,0 @@
-use Rattle.std.proofs.Common.{◌≡◌, drop}
-use Rattle.farm.specs.Lines.{is_blank_line}
-use Rattle.farm.proofs.lines.is_blank_line.Given as goal
-
-abbrev pub invariant-loop-byte : goal.invariant-loop-byte
-invariant-loop-byte l = is_blank_line (drop l.byte-index l.line) ≡ is_blank_line l.line

@@ -1,7 +1,0 @@
-use Rattle.farm.proofs.Answering.{refused_said}
-use Rattle.farm.proofs.Saying.{puts_from_put}
-use Rattle.farm.proofs.program.refuse.Goals as goal
-
-pub returns-in-Ok-clause-run : goal.returns-in-Ok-clause-run
-returns-in-Ok-clause-run g c =
-    rw (c.in-Ok.is, ← c.deref.ensures.value) (refused_said _ _ _ (puts_from_put _ _ _ _ _ c.put_all.result c.put_all.ensures.bytes c.put_all.ensures.cause))

@@ -1,6 +1,0 @@
-use Rattle.std.proofs.Common.{◌≡◌, drop}
-use Rattle.farm_csv.specs.Blanks.{drop_blanks}
-use Rattle.farm_csv.proofs.blanks.blanks.Given as goal
-
-abbrev pub invariant-bytes : goal.invariant-bytes
-invariant-bytes l = drop_blanks (drop l.index l.text) ≡ drop_blanks l.text

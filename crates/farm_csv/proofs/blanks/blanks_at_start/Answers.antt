@@ -1,0 +1,23 @@
+use Rattle.std.proofs.Common.{◌≡◌, ◌∙◌, length, get_or, sym, arith, rules, true, false}
+use Rattle.std.proofs.lemmas.List.{drop_all}
+use Rattle.farm_base.specs.Bytes.{is_blank}
+use Rattle.farm_csv.specs.Blanks.{drop_blanks}
+use Rattle.farm_csv.proofs.Ends.{start_blank, start_other}
+use Rattle.farm_csv.proofs.blanks.blanks_at_start.Goals as goal
+
+pub bytes-preserved : goal.bytes-preserved
+bytes-preserved c =
+    let blank : is_blank (get_or c.args.text.now c.bytes.index 0) ≡ true = search rules in
+    sym (start_blank c.args.text.now c.bytes.index c.bytes-test.true blank) ∙ c.bytes.invariant
+
+pub returns-then-not-is_blank-clause-rest : goal.returns-then-not-is_blank-clause-rest
+returns-then-not-is_blank-clause-rest c =
+    let other : is_blank (get_or c.args.text.now c.bytes.index 0) ≡ false = search rules in
+    sym (start_other c.args.text.now c.bytes.index c.bytes-test.true other) ∙ c.bytes.invariant
+
+pub returns-clause-rest : goal.returns-clause-rest
+unfolding drop_blanks
+returns-clause-rest c =
+    let all = drop_all c.bytes.index c.args.text.now c.bytes-test.false in
+    let none = drop_all (length c.args.text.now) c.args.text.now (omega arith) in
+    rw none (rw all at c.bytes.invariant)

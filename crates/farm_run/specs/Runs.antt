@@ -1,0 +1,129 @@
+-- What a run of the program does, by what its ports are known to hold and by the counts of their faults.
+use Rattle.std.specs.Prelude.{◌≡◌, ◌⊎◌, ℕ, ◌≤◌, Bool, true, false, length, take, List, [], ◌∷◌, ◌++◌, Option, Some, None, Result, Ok, Err}
+use Rattle.farm_base.specs.Counts.{Count, HasRisen, IsQuiet}
+use Rattle.farm_base.specs.Known.{WhereKnown, Stream, Adds, AddsAll, AddsWhole}
+use Rattle.farm_ports.specs.Folders.{File}
+use Rattle.command_line.specs.declared.commands.Subcommand.{Subcommand}
+use Rattle.command_line.specs.declared.commands.Subcommand.TheVariants.{Calc, Table}
+use Rattle.calc_input.specs.declared.refusal.Refused.{Refused}
+use Rattle.calc_input.specs.RefusedLine.{IsRefusal}
+use Rattle.farm_run.specs.Answers.{calc_of, table_of}
+use Rattle.farm_run.specs.Texts.{usage_line, no_memory, port_fault, refusal_text, site_refused_text}
+
+-- whether a command makes calls on the input
+abbrev pub uses_input : Option Subcommand → Bool
+uses_input None = false
+uses_input (Some Calc) = true
+uses_input (Some Table) = false
+
+-- whether a command makes calls on the folder
+abbrev pub uses_folder : Option Subcommand → Bool
+uses_folder None = false
+uses_folder (Some Calc) = false
+uses_folder (Some Table) = true
+
+-- what was left of an input as the run began, where it is still known at the end
+abbrev pub given : Option Stream → Option Stream → Option (List ℕ)
+given (Some old) (Some new) = Some old.left
+given old new = None
+
+-- an output: what it is known to hold as the run begins and at its end, and its count
+pub record Output : Type 0 where
+  pub old : Option (List ℕ)
+  pub new : Option (List ℕ)
+  pub count : Count
+
+-- a port's count before and after, by what the port counts
+abbrev pub count_of : {P : Type 0} → (P → ℕ) → P → P → Count
+count_of faults old new = record { before = faults old; now = faults new }
+
+-- an output before and after, by what it holds and counts
+abbrev pub output_of : {K : Type 0} → (K → Option (List ℕ)) → (K → ℕ) → K → K → Output
+output_of held faults old new = record { old = held old; new = held new; count = count_of faults old new }
+
+-- A front of the text was put, and all of it unless the output failed.
+pub record Puts (output : Output) (text : List ℕ) : Type 0 where
+  pub front : (n : ℕ) × (n ≤ length text) × Adds output.old output.new (take n text)
+  pub whole : ¬ (HasRisen output.count) → Adds output.old output.new text
+
+-- A front of each text was put, of the middle texts and of the last one; without a fault no middle text, and the last one whole.
+pub record Says (output : Output) (texts middle : List (List ℕ)) (last : List ℕ) : Type 0 where
+  pub front : AddsAll output.old output.new (texts ++ middle ++ last ∷ [])
+  pub whole : ¬ (HasRisen output.count) → AddsWhole output.old output.new texts last
+
+-- the bytes that were put end with a text, unless a put failed
+abbrev pub EndsWith : Output → List ℕ → Type 0
+EndsWith output text = ¬ (HasRisen output.count) → (front : List ℕ) × Adds output.old output.new (front ++ text)
+
+-- What an input has: a text to put, or a reason to refuse it; neither where the input can't be had.
+-- This is the text, nothing where there is no text.
+abbrev pub text_of : {Why : Type 0} → Option (Result (List ℕ) Why) → List ℕ
+text_of (Some (Ok text)) = text
+text_of (Some (Err why)) = []
+text_of None = []
+
+-- Arguments that are no command: the usage line and status 1.
+pub record UsageRun (output : Output) (status : ℕ) : Type 0 where
+  pub statuses : status ≡ 1
+  pub usage : Says output [] [] usage_line
+
+-- A command of one input and one answer, over a port that may fail. `refusal` is its status for a refusal, `says` the line of one,
+-- and `has` what an input has.
+pub record OneAnswerRun {Input Why : Type 0} (refusal : ℕ) (says : Why → List ℕ) (has : Input → Option (Result (List ℕ) Why))
+    (input : Option Input) (port : Count) (output : Output) (status : ℕ) : Type 0 where
+  pub statuses : (status ≡ 0) ⊎ (status ≡ refusal) ⊎ (status ≡ 6) ⊎ (status ≡ 7)
+  -- the text was put whole
+  pub done : status ≡ 0 → WhereKnown input (λ known. (text : List ℕ) × (has known ≡ Some (Ok text)) × Adds output.old output.new text)
+  -- the input was refused, and its line was put
+  pub refused : status ≡ refusal → WhereKnown input (λ known. (why : Why) × (has known ≡ Some (Err why)) × Says output [] [] (says why))
+  pub refused_ends : status ≡ refusal → (why : Why) × EndsWith output (says why)
+  -- an input that is to be refused is, unless its port failed or there was no memory
+  pub refused_only : WhereKnown input (λ known. (why : Why) → has known ≡ Some (Err why) → ¬ (HasRisen port) →
+      (status ≡ refusal) ⊎ (status ≡ 7) ⊎ ((status ≡ 6) × HasRisen output.count))
+  pub faulted : status ≡ 6 → (HasRisen port) ⊎ (HasRisen output.count)
+  pub fault_said : status ≡ 6 → WhereKnown input (λ known. Says output (text_of (has known) ∷ []) (no_memory ∷ []) port_fault)
+  pub fault_ends : status ≡ 6 → EndsWith output port_fault
+  -- a port that failed is never answered as out of memory
+  pub memory_only : status ≡ 7 → IsQuiet port × IsQuiet output.count
+  pub memory_said : status ≡ 7 → WhereKnown input (λ known. Says output (text_of (has known) ∷ []) [] no_memory)
+  pub memory_ends : status ≡ 7 → EndsWith output no_memory
+  -- a good input over good ports is answered, unless there was no memory
+  pub complete : WhereKnown input (λ known. (text : List ℕ) → has known ≡ Some (Ok text) → ¬ (HasRisen port) → ¬ (HasRisen output.count) →
+      (status ≡ 0) ⊎ (status ≡ 7))
+
+-- `calc` on what was left of the input. A refusal names the line that isn't what is due there.
+pub record CalcRun (input : Option (List ℕ)) (source : Count) (output : Output) (status : ℕ) : Type 0 where
+  pub answered : OneAnswerRun 4 refusal_text calc_of input source output status
+  pub refused_line : status ≡ 4 → WhereKnown input (λ bytes. (why : Refused) × Says output [] [] (refusal_text why) × IsRefusal bytes why.line why.cause)
+
+-- `table` on the files of the folder
+abbrev pub TableRun : Option (List File) → Count → Output → ℕ → Type 0
+TableRun files folder output status = OneAnswerRun 2 site_refused_text table_of files folder output status
+
+-- a port on which no call is made
+abbrev pub unused : Count
+unused = record { before = 0; now = 0 }
+
+-- what a command does with what its input has
+abbrev pub Answers : {Why : Type 0} → ℕ → (Why → List ℕ) → Option (Result (List ℕ) Why) → Output → ℕ → Type 0
+Answers refusal says has output status = OneAnswerRun refusal says (λ known. known) (Some has) unused output status
+
+-- An answer was put, or the output failed and that was reported.
+pub record Delivers (output : Output) (text : List ℕ) (status : ℕ) : Type 0 where
+  pub statuses : (status ≡ 0) ⊎ (status ≡ 6)
+  pub done : status ≡ 0 → Adds output.old output.new text
+  pub faulted : status ≡ 6 → HasRisen output.count
+  pub fault_said : status ≡ 6 → Says output (text ∷ []) (no_memory ∷ []) port_fault
+
+-- Out of memory was reported, or the output failed and that was reported; nothing else was put.
+pub record LacksMemory (output : Output) (status : ℕ) : Type 0 where
+  pub statuses : (status ≡ 6) ⊎ (status ≡ 7)
+  pub faulted : status ≡ 6 → HasRisen output.count
+  pub fault_said : status ≡ 6 → (text : List ℕ) → Says output (text ∷ []) (no_memory ∷ []) port_fault
+  pub memory_only : status ≡ 7 → IsQuiet output.count
+  pub memory_said : status ≡ 7 → (text : List ℕ) → Says output (text ∷ []) [] no_memory
+
+-- A refusal's line was put, or out of memory was reported.
+pub record Refuses (output : Output) (refusal : ℕ) (text : List ℕ) (status : ℕ) : Type 0 where
+  pub statuses : (status ≡ refusal) ⊎ LacksMemory output status
+  pub said : status ≡ refusal → Says output [] [] text

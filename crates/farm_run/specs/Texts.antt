@@ -1,0 +1,38 @@
+-- The lines that end a run with a status other than 0. Each text is a whole line.
+use Rattle.std.specs.Prelude.{ℕ, List, ◌++◌, codes, decimal}
+use Rattle.farm_fixed.specs.declared.records.ChainRule.TheVariants.{AboveTable, WaterAboveLevel, NoEntry, CriticalZone, Negative}
+use Rattle.calc_input.specs.declared.refusal.Cause.{Cause}
+use Rattle.calc_input.specs.declared.refusal.Cause.TheVariants.{Form, Chain}
+use Rattle.calc_input.specs.declared.refusal.Refused.{Refused}
+use Rattle.site_keys.specs.declared.fault.SiteFault.{SiteFault}
+
+-- 1: the arguments are no command
+abbrev pub usage_line : List ℕ
+usage_line = codes "usage: farm calc|init|table|batch|serve|report|drill\n"
+
+-- 7: out of memory
+abbrev pub no_memory : List ℕ
+no_memory = codes "no memory\n"
+
+-- 6: the input, the folder or the output failed
+abbrev pub port_fault : List ℕ
+port_fault = codes "port fault\n"
+
+-- the word for what is wrong with an input
+unfoldable pub cause_word : Cause → List ℕ
+cause_word Form = codes "form"
+cause_word (Chain AboveTable) = codes "AboveTable"
+cause_word (Chain WaterAboveLevel) = codes "WaterAboveLevel"
+cause_word (Chain NoEntry) = codes "NoEntry"
+cause_word (Chain CriticalZone) = codes "CriticalZone"
+cause_word (Chain Negative) = codes "Negative"
+
+-- 4: the input is refused at a line
+unfoldable pub refusal_text : Refused → List ℕ
+refusal_text why = codes "input refused at line " ++ (decimal why.line ++ (codes ": " ++ (cause_word why.cause ++ codes "\n")))
+
+-- 2: the folder describes no site
+unfoldable pub site_refused_text : SiteFault → List ℕ
+site_refused_text fault =
+    codes "site refused: code " ++ (decimal fault.code ++ (codes " item " ++ (decimal fault.item ++ (codes " detail " ++
+    (decimal fault.detail ++ codes "\n")))))

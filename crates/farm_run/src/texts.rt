@@ -1,0 +1,72 @@
+//! The lines that end a run with a status other than 0.
+
+ghost use Rattle.std.specs.Prelude.{◌≡◌, IfOk};
+ghost use Rattle.farm_run.specs.Texts.{cause_word, refusal_text, site_refused_text};
+
+use calc_input::{Cause, Refused};
+use farm_fixed::{ChainRule, NoMemory};
+use farm_site::SiteFault;
+use std::alloc::Global;
+use text_pieces::{Piece, append};
+
+/// The arguments are no command.
+pub const USAGE: &[u8] = b"usage: farm calc|init|table|batch|serve|report|drill\n";
+/// There was no memory.
+pub const NO_MEMORY: &[u8] = b"no memory\n";
+/// The input, the folder or the output failed.
+pub const PORT_FAULT: &[u8] = b"port fault\n";
+
+/// The line of a site that its folder doesn't describe.
+#[tactic(auto, unfolding(crate::specs::Texts::site_refused_text))]
+pub fn site_refused_text(alloc: Global, fault: SiteFault) -> Result<Vec<u8>, NoMemory>
+    ensures line { IfOk result (λ text. text.items ≡ site_refused_text fault) }
+{
+    let mut text = Vec::new(alloc);
+    append(
+        &mut text,
+        &[
+            Piece::Text(b"site refused: code "),
+            Piece::Number(u64::from(fault.code)),
+            Piece::Text(b" item "),
+            Piece::Number(u64::from(fault.item)),
+            Piece::Text(b" detail "),
+            Piece::Number(u64::from(fault.detail)),
+            Piece::Text(b"\n"),
+        ],
+    )?;
+    Ok(text)
+}
+
+/// The line of an input that is refused.
+#[tactic(auto, unfolding(crate::specs::Texts::refusal_text))]
+pub fn refusal_text(alloc: Global, why: Refused) -> Result<Vec<u8>, NoMemory>
+    ensures line { IfOk result (λ text. text.items ≡ refusal_text why) }
+{
+    let mut text = Vec::new(alloc);
+    append(
+        &mut text,
+        &[
+            Piece::Text(b"input refused at line "),
+            Piece::Number(why.line),
+            Piece::Text(b": "),
+            Piece::Text(cause_word(why.cause)),
+            Piece::Text(b"\n"),
+        ],
+    )?;
+    Ok(text)
+}
+
+// The word for what is wrong with an input.
+#[tactic(auto, unfolding(crate::specs::Texts::cause_word))]
+fn cause_word(cause: Cause) -> &'static [u8]
+    ensures word { result.now ≡ cause_word cause }
+{
+    match cause {
+        Cause::Form => b"form",
+        Cause::Chain(ChainRule::AboveTable) => b"AboveTable",
+        Cause::Chain(ChainRule::WaterAboveLevel) => b"WaterAboveLevel",
+        Cause::Chain(ChainRule::NoEntry) => b"NoEntry",
+        Cause::Chain(ChainRule::CriticalZone) => b"CriticalZone",
+        Cause::Chain(ChainRule::Negative) => b"Negative",
+    }
+}
