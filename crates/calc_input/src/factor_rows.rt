@@ -6,7 +6,7 @@ ghost use Rattle.calc_input.specs.FactorRows.{grid_from, listed_front, listed_of
 ghost use Rattle.calc_input.specs.Forms.{refused_line};
 
 use crate::fault::FormFault;
-use crate::lines::{first_part, line_at};
+use crate::lines::{first_field, line_at};
 use farm_vcf::{Listed, Vcf, VcfFault, grid_of_rows, row_of_fields};
 use std::alloc::Global;
 
@@ -61,9 +61,9 @@ fn listed_front(
 fn listed_of(line: &[u8]) -> Option<Listed>
     ensures { result ≡ listed_of line.now }
 {
-    let (density, rest) = first_part(line, b',')?;
-    let (temperature, factor) = first_part(rest, b',')?;
-    match first_part(factor, b',') {
+    let (density, rest) = first_field(line)?;
+    let (temperature, factor) = first_field(rest)?;
+    match first_field(factor) {
         Some(_) => None,
         None => row_of_fields(density, temperature, factor),
     }

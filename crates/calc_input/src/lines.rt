@@ -6,6 +6,7 @@ ghost use Rattle.farm_base.specs.Bytes.{is_blank, parts_at};
 ghost use Rattle.calc_input.specs.Lines.{is_blank_line, line_at, lines_of, words_of};
 
 use farm_base::is_blank;
+use memchr::memchr;
 use std::alloc::{AllocError, Global};
 
 /// The lines of an input, each without the line feed that ends it and a carriage return before that.
@@ -15,7 +16,7 @@ pub fn lines_of(alloc: Global, bytes: &[u8]) -> Result<Vec<&[u8]>, AllocError>
 {
     let mut lines = Vec::with_capacity(alloc, line_feeds(bytes) + 1)?;
     let mut rest = bytes;
-    while let Some((line, after)) = first_part(rest, b'\n') {
+    while let Some((line, after)) = first_line(rest) {
         lines.push(without_return(line))?;
         rest = after;
     }
@@ -40,23 +41,48 @@ pub fn words_of(alloc: Global, line: &[u8]) -> Result<Vec<&[u8]>, AllocError>
         .collect(alloc)
 }
 
-/// What stands before the first byte of one value and what stands after it; `None` where there is no such byte.
-pub fn first_part(bytes: &[u8], separator: u8) -> Option<(&[u8], &[u8])>
+/// What stands before the first comma and what stands after it; `None` where there is no comma. Fields are short, so that a
+/// search byte by byte is the quicker one.
+pub fn first_field(bytes: &[u8]) -> Option<(&[u8], &[u8])>
+    ensures parts { MatchOption result (parts_at 44 bytes.now ≡ bytes.now ∷ []) (λ parts. parts_at 44 bytes.now ≡ parts.0.now ∷ parts_at 44 parts.1.now) }
+    ensures shorter { IfSome result (λ parts. length parts.1.now < length bytes.now) }
+{
+    parts_around(bytes, b',', comma(bytes))
+}
+
+// What stands before the first line feed and what stands after it; `None` where there is no line feed.
+fn first_line(bytes: &[u8]) -> Option<(&[u8], &[u8])>
+    ensures parts { MatchOption result (parts_at 10 bytes.now ≡ bytes.now ∷ []) (λ parts. parts_at 10 bytes.now ≡ parts.0.now ∷ parts_at 10 parts.1.now) }
+    ensures shorter { IfSome result (λ parts. length parts.1.now < length bytes.now) }
+{
+    parts_around(bytes, b'\n', line_feed(bytes))
+}
+
+// The parts of a text around its first separator, by the offset of that.
+fn parts_around(bytes: &[u8], separator: u8, offset: Option<usize>) -> Option<(&[u8], &[u8])>
+    requires { offset ≡ position (λ byte. byte == separator) bytes.now }
     ensures parts { MatchOption result (parts_at separator bytes.now ≡ bytes.now ∷ [])
         (λ parts. parts_at separator bytes.now ≡ parts.0.now ∷ parts_at separator parts.1.now) }
     ensures shorter { IfSome result (λ parts. length parts.1.now < length bytes.now) }
 {
-    match offset_of(bytes, separator) {
+    match offset {
         Some(end) => Some((&bytes[..end], &bytes[end + 1..])),
         None => None,
     }
 }
 
-// The offset of the first byte of one value.
-fn offset_of(bytes: &[u8], separator: u8) -> Option<usize>
-    ensures { result ≡ position (λ byte. byte == separator) bytes.now }
+// The offset of the first comma.
+fn comma(bytes: &[u8]) -> Option<usize>
+    ensures { result ≡ position (λ byte. byte == 44) bytes.now }
 {
-    bytes.iter().position(|byte| *byte == separator)
+    bytes.iter().position(|byte| *byte == b',')
+}
+
+// The offset of the first line feed.
+fn line_feed(bytes: &[u8]) -> Option<usize>
+    ensures { result ≡ position (λ byte. byte == 10) bytes.now }
+{
+    memchr(b'\n', bytes)
 }
 
 /// The number of line feeds.
