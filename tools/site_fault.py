@@ -12,6 +12,7 @@ import os
 import re
 import sys
 
+sys.dont_write_bytecode = True
 from site_folder import FIELDS, KEYS, MOST_BYTES, Toml, records, tables
 
 LISTS = {"product": (1, 16), "party": (0, 256), "tank": (1, 64), "line": (0, 16)}
@@ -332,6 +333,9 @@ def main():
     said = sys.argv[2] if len(sys.argv) == 3 else sys.stdin.read()
     if said.startswith("port fault"):
         print("\n".join(f"{name}: isn't in {folder}" for name in missing(folder)) or "each file that site.toml names is there: look at their permissions, and at where the output goes")
+        return
+    if said.startswith("tank "):
+        print("not refused")
         return
     numbers = re.match(r"site refused: code (\d+) item (\d+) detail (\d+)", said)
     if not numbers:

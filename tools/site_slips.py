@@ -12,6 +12,7 @@ import os
 import re
 import sys
 
+sys.dont_write_bytecode = True
 from site_folder import FIELDS, KEYS, Toml, records, tables
 
 
