@@ -128,7 +128,7 @@ keys_mean files top site keys is =
     } in
     let same = same_answer made site (Ok made) refl lines.2 in
     let Means : Described → Type 0 = λ site. are_products site.products ≡ true → are_parties site.parties ≡ true →
-        are_tanks (map product_number site.products) site.tanks ≡ true → IsSiteOf files site in
+    are_tanks (map product_number site.products) site.tanks ≡ true → IsSiteOf files site in
     subst Means same (λ has_products has_parties has_tanks. record {
       top = top;
       keys = keys;

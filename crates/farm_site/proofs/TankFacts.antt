@@ -30,7 +30,7 @@ found_passes test number n [] item all found = cc
 found_passes test number n (first ∷ items) item all found =
     let parts = and_parts (test first) (list_all test items) all in
     passes_here test first item (item_numbered number n items) (number first == n) parts.0
-        (λ other. found_passes test number n items item parts.1 other) found
+    (λ other. found_passes test number n items item parts.1 other) found
 
 -- a tank that is found in a site is a tank of a site
 pub found_tank : (products : List ℕ) (tanks : List Tank) (n : ℕ) (tank : Tank) → are_tanks products tanks ≡ true →

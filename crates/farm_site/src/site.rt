@@ -68,13 +68,13 @@ impl Site {
             }))
             (λ fault. IsRefusedAs (refusal_of fault) (site_of_files files))) }
         ensures meaning { WhereKnown (F.files folder.new) (λ files. IfOk result (λ site. IsSiteOf files (record {
-              name = site.name;
-              rounds = site.rounds;
-              products = site.products;
-              parties = site.parties;
-              tanks = site.tanks;
-              lines = site.lines;
-            }))) }
+          name = site.name;
+          rounds = site.rounds;
+          products = site.products;
+          parties = site.parties;
+          tanks = site.tanks;
+          lines = site.lines;
+        }))) }
         ensures missing { WhereKnown (F.files folder.new) (λ files. IsMissing (site_of_files files) → IsStopped result) }
         ensures keeps { KeepsKnown (F.files folder.old) (F.files folder.new) (F.faults folder.old) (F.faults folder.new)
             SiteReadFault.Folder result }

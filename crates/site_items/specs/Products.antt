@@ -11,7 +11,7 @@ use Rattle.modbus_poll.specs.Maps.{is_between}
 use Rattle.site_keys.specs.declared.codes.TheConstants.{FACTORS, TEXT}
 use Rattle.site_keys.specs.declared.fault.SiteFault.{SiteFault}
 use Rattle.site_items.specs.declared.records.Product.{Product}
-use Rattle.site_keys.specs.Faults.{Refusal, bad, detail, found}
+use Rattle.site_keys.specs.Faults.{Refusal, detail, fault_at, found}
 use Rattle.site_keys.specs.Files.{content}
 use Rattle.site_keys.specs.Keys.{text_at}
 use Rattle.site_keys.specs.declared.lists.TheConstants.{GREATEST_NUMBER}
@@ -27,13 +27,17 @@ product_number product = product.number
 abbrev pub is_product : Product → Bool
 is_product product = is_between 1 GREATEST_NUMBER product.number && is_name product.name
 
--- why a factor file is none
+-- why a factor file is refused
+abbrev pub factors_fault : ℕ → FactorFault → SiteFault
+factors_fault item factors.Csv = fault_at TEXT item 0
+factors_fault item (factors.BadField row) = fault_at FACTORS item (detail row)
+factors_fault item factors.TooMany = fault_at FACTORS item 0
+factors_fault item (factors.NotGrid row) = fault_at FACTORS item (detail row)
+
+-- a grid, or why there is none
 abbrev pub factors_read : ℕ → Result Grid FactorFault → Result Grid SiteFault
 factors_read item (Ok grid) = Ok grid
-factors_read item (Err factors.Csv) = bad TEXT item 0
-factors_read item (Err (factors.BadField row)) = bad FACTORS item (detail row)
-factors_read item (Err factors.TooMany) = bad FACTORS item 0
-factors_read item (Err (factors.NotGrid row)) = bad FACTORS item (detail row)
+factors_read item (Err fault) = Err (factors_fault item fault)
 
 -- a product of a table, after others
 unfoldable pub product_of : List File → List Product → ℕ → Data → Result Product Refusal

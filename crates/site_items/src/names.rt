@@ -1,47 +1,20 @@
 //! Names of the site, of a product or of a party.
 
-ghost use Rattle.std.specs.Prelude.{◌≡◌, string_bytes, MatchResult, IfOk, IfErr, IsTrue, Ok};
+ghost use Rattle.std.specs.Prelude.{◌≡◌, MatchResult, IfOk, IfErr, IsTrue, Ok};
 ghost use Rattle.farm_base.specs.Steps.{IsRefusedAs};
 ghost use Rattle.toml.specs.View.{view};
 ghost use Rattle.site_keys.specs.Faults.{IsNotTheFolders, reported};
 ghost use Rattle.site_items.specs.Names.{is_name, name_at};
 
+use farm_base::Items;
 use site_keys::{Keys, RANGE, SiteReadFault, bad, is_text};
 use std::alloc::Global;
-use std::marker::Model;
 
 /// A name has at most this many bytes.
 pub const LONGEST_NAME: usize = 32;
 
-/// A name of the site, of a product or of a party. In a clause it is the list of its bytes.
-#[derive(Debug, Drop)]
-pub struct Name {
-    text: String,
-}
-
-impl Model for Name {
-    ghost use Rattle.std.specs.Prelude.{ℕ, List, string_bytes};
-
-    ghost Value = { List ℕ };
-
-    ghost view = { λ name. string_bytes name.text };
-}
-
-impl Name {
-    /// The name of this text. Takes no memory.
-    pub fn new(text: String) -> Name
-        ensures text { result ≡ string_bytes text }
-    {
-        Name { text }
-    }
-
-    /// The text.
-    pub fn get(&self) -> &str
-        ensures text { result.now ≡ self.now }
-    {
-        self.text.as_str()
-    }
-}
+/// A name of the site, of a product or of a party: its bytes. In a clause it is the list of them.
+pub type Name = Items<u8>;
 
 /// The name of an item: 1 to 32 printable ASCII characters.
 #[tactic(auto, unfolding(crate::specs::Names::name_at))]
@@ -55,5 +28,5 @@ pub fn name_at(alloc: Global, keys: &Keys<'_>) -> Result<Name, SiteReadFault>
     if !is_text(text.as_bytes(), LONGEST_NAME, b' ', b'~') {
         return Err(bad(RANGE, keys.item).into());
     }
-    Ok(Name::new(String::from_str(alloc, text)?))
+    Ok(Name::new(text.as_bytes().to_vec(alloc)?))
 }

@@ -1,15 +1,16 @@
 //! The products of a site.
 
-ghost use Rattle.std.specs.Prelude.{◌≡◌, ◌≤◌, [], length, List, map, MatchResult, IfOk, IsTrue, IsFalse, Ok, Err, Some, IfErr};
+ghost use Rattle.std.specs.Prelude.{◌≡◌, ◌≤◌, [], length, List, map, option_map, MatchResult, IfOk, IsTrue, IsFalse, Ok, Err, Some, IfErr};
 ghost use Rattle.toml.specs.View.{view};
 ghost use Rattle.farm_base.specs.Known.{KeepsKnown};
 ghost use Rattle.farm_base.specs.Steps.{IsRefusedAs};
 ghost use Rattle.farm_ports.specs.Folders.{File};
+ghost use Rattle.farm_vcf.specs.Faults as factors;
 ghost use Rattle.farm_vcf.specs.Records.{vcf_of};
 ghost use Rattle.site_items.specs.Facts.{are_products};
 ghost use Rattle.site_keys.specs.Faults.{IsNotTheFolders, refusal_of, reported};
 ghost use Rattle.site_keys.specs.Lists.{are_numbered, is_among, numbered_from};
-ghost use Rattle.site_items.specs.Products.{factors_read, is_product, product_number, product_of, products_of};
+ghost use Rattle.site_items.specs.Products.{factors_fault, factors_read, is_product, product_number, product_of, products_of};
 
 use crate::Product;
 use crate::names::name_at;
@@ -111,9 +112,19 @@ fn factors_of(alloc: Global, item: u32, bytes: &[u8]) -> Result<Vcf, SiteReadFau
 {
     match Vcf::read(alloc, bytes) {
         Ok(grid) => Ok(grid),
-        Err(VcfFault::Csv) => Err(bad(TEXT, item).into()),
-        Err(VcfFault::BadField(row) | VcfFault::NotGrid(row)) => Err(bad_at(FACTORS, item, row).into()),
-        Err(VcfFault::TooMany) => Err(bad(FACTORS, item).into()),
-        Err(VcfFault::NoMemory) => Err(SiteReadFault::NoMemory),
+        Err(fault) => Err(factors_refused(item, fault)),
+    }
+}
+
+// How the refusal of a factor file is reported.
+fn factors_refused(item: u32, fault: VcfFault) -> SiteReadFault
+    ensures fault { reported result ≡ option_map (factors_fault item) (factors.reported fault) }
+    ensures not_the_folders { IsNotTheFolders result }
+{
+    match fault {
+        VcfFault::Csv => bad(TEXT, item).into(),
+        VcfFault::BadField(row) | VcfFault::NotGrid(row) => bad_at(FACTORS, item, row).into(),
+        VcfFault::TooMany => bad(FACTORS, item).into(),
+        VcfFault::NoMemory => SiteReadFault::NoMemory,
     }
 }

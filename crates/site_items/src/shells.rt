@@ -6,9 +6,7 @@ ghost use Rattle.farm_fixed.specs.Range.{IsWithin};
 ghost use Rattle.site_items.specs.Shells.{floating_at, is_roof, is_spec, roof_at, roof_of_three, shell_at, shell_kind, spec_at};
 
 use crate::Format;
-use farm_fixed::{
-    HundredthDegree, Kg, MOST_COEFFICIENT, MOST_HEIGHT, MOST_ROOF_MASS, Mm, Shell,
-};
+use farm_fixed::{HundredthDegree, Kg, MOST_COEFFICIENT, MOST_HEIGHT, MOST_ROOF_MASS, Mm, Shell};
 use site_keys::{Keys, RANGE, SiteFault, bad};
 use strap_table::{Roof, TankSpec};
 

@@ -76,8 +76,7 @@ module _ {A E : Type 0} (number : A → ℕ) (read : List A → ℕ → Data →
       let next = went.0 in
       let rest = same_members (n + 1) (placed number next done) values items went.2 in
       let front = IsPermutation-append_left rest.0 (placed number next done) (next ∷ done) (placed_same number next done) in
-      let middle = IsPermutation-middle done next rest.0 in
-      (
+      let middle = IsPermutation-middle done next rest.0 in (
         next ∷ rest.0,
         (alone done n value next went.1, rest.1),
         IsPermutation-trans _ _ _ middle (IsPermutation-trans _ _ _ (IsPermutation-sym _ _ front) rest.2),

@@ -11,9 +11,7 @@ mod keys;
 mod lists;
 mod texts;
 
-pub use codes::{
-    FACTORS, FIELD, RANGE, REPEATED, STRAP, TABLE, TEXT, TOO_LONG, TOO_MANY, UNKNOWN,
-};
+pub use codes::{FACTORS, FIELD, RANGE, REPEATED, STRAP, TABLE, TEXT, TOO_LONG, TOO_MANY, UNKNOWN};
 pub use fault::{SiteFault, SiteReadFault, bad, bad_at};
 pub use files::{content, toml_of};
 pub use keys::Keys;

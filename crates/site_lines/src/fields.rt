@@ -29,11 +29,7 @@ pub fn field_at(quantity: u8, keys: &Keys<'_>, key: &str) -> Result<Field, SiteF
 
 /// A field that may be missing.
 #[tactic(auto, unfolding(crate::specs::Fields::field_or_none))]
-pub fn field_or_none(
-    quantity: u8,
-    keys: &Keys<'_>,
-    key: &str,
-) -> Result<Option<Field>, SiteFault>
+pub fn field_or_none(quantity: u8, keys: &Keys<'_>, key: &str) -> Result<Option<Field>, SiteFault>
     ensures field { result ≡ field_or_none quantity keys.now.item (view keys.now.table.now) key.now }
     ensures sound { IfOk result (λ field. IsTrue (is_field_or_none quantity field)) }
 {

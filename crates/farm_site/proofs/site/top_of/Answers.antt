@@ -11,7 +11,7 @@ unfolding top_of_files
 returns-in_err-bytes-clause-top g c = λ files known.
     let answer : c.from_residual.result ≡ Err c.in_err-bytes.field-0.0 = search rules in
     rw answer (refused_first (content files 0 (codes "site.toml")) (λ bytes. found (toml_of 0 bytes)) (refusal_of c.in_err-bytes.field-0.0)
-        (c.in_err-bytes.ensures.content files known))
+    (c.in_err-bytes.ensures.content files known))
 
 pub returns-clause-top : goal.returns-clause-top
 unfolding top_of_files

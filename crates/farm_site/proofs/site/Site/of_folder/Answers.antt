@@ -8,5 +8,5 @@ pub returns-clause-site : goal.returns-clause-site
 unfolding site_of_files
 returns-clause-site g c = λ files known.
     let top : top_of_files files ≡ Ok (view c.in_ok-top.top) =
-        c.in_ok-top.ensures.top files (known_before (g.F.Folder.files c.top_of.new.folder) (g.F.Folder.files c.of_keys.new.folder) files c.of_keys.ensures.keeps.stays known) in
+    c.in_ok-top.ensures.top files (known_before (g.F.Folder.files c.top_of.new.folder) (g.F.Folder.files c.of_keys.new.folder) files c.of_keys.ensures.keeps.stays known) in
     rw top (c.of_keys.ensures.site files known)

@@ -16,22 +16,22 @@ pub returns-clause-coefficient : goal.returns-clause-coefficient
 returns-clause-coefficient c =
     let products = map product_number c.args.self.now.products in
     some_tank (λ (tank : Tank). IsWithin (pos 0) MOST_COEFFICIENT tank.spec.shell.coefficient) c.item_numbered.result (λ tank. tank.now)
-        (item_numbered tank_number c.args.number c.get.result.now) c.item_numbered.ensures.item
-        (λ tank found. coefficient_within products tank
-            (found_tank products c.args.self.now.tanks c.args.number tank c.args.self.now.has_tanks (rw c.get.ensures.items at found)))
+    (item_numbered tank_number c.args.number c.get.result.now) c.item_numbered.ensures.item
+    (λ tank found. coefficient_within products tank
+    (found_tank products c.args.self.now.tanks c.args.number tank c.args.self.now.has_tanks (rw c.get.ensures.items at found)))
 
 pub returns-clause-roof : goal.returns-clause-roof
 returns-clause-roof c =
     let products = map product_number c.args.self.now.products in
     some_tank (λ (tank : Tank). IfSome tank.spec.roof IsFloatingRoof) c.item_numbered.result (λ tank. tank.now)
-        (item_numbered tank_number c.args.number c.get.result.now) c.item_numbered.ensures.item
-        (λ tank found. may_float tank.spec.roof (roof_is products tank
-            (found_tank products c.args.self.now.tanks c.args.number tank c.args.self.now.has_tanks (rw c.get.ensures.items at found))))
+    (item_numbered tank_number c.args.number c.get.result.now) c.item_numbered.ensures.item
+    (λ tank found. may_float tank.spec.roof (roof_is products tank
+    (found_tank products c.args.self.now.tanks c.args.number tank c.args.self.now.has_tanks (rw c.get.ensures.items at found))))
 
 pub returns-clause-product : goal.returns-clause-product
 returns-clause-product c =
     let products = map product_number c.args.self.now.products in
     some_tank (λ (tank : Tank). IsTrue (is_among tank.product products)) c.item_numbered.result (λ tank. tank.now)
-        (item_numbered tank_number c.args.number c.get.result.now) c.item_numbered.ensures.item
-        (λ tank found. product_there products tank
-            (found_tank products c.args.self.now.tanks c.args.number tank c.args.self.now.has_tanks (rw c.get.ensures.items at found)))
+    (item_numbered tank_number c.args.number c.get.result.now) c.item_numbered.ensures.item
+    (λ tank found. product_there products tank
+    (found_tank products c.args.self.now.tanks c.args.number tank c.args.self.now.has_tanks (rw c.get.ensures.items at found)))
