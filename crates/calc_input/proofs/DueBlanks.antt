@@ -70,7 +70,7 @@ used_after_form lines last number is =
       here = sym (ap is_blank_line (line_after lines last number late)) ∙ used.here;
     }
 
--- where there is none, each line after them is blank
+-- where there isn't one, each line after them is blank
 pub blank_after_form : (lines : List (List ℕ)) (last : ℕ) → first_used (last + 1) (drop last lines) ≡ None →
     (number : ℕ) → last < number → is_blank_line (line_numbered lines number) ≡ true
 blank_after_form lines last none number late =

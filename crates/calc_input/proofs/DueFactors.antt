@@ -42,7 +42,7 @@ rows_on_lines (suc count) n lines index within = by (listed_of (line_at lines n)
         let P : ℕ → Type 0 = λ k. IsSome (listed_of (line_at lines k)) in
         subst P there (after i (omega arith))
 
--- the line at which the rows end early is none
+-- the line at which the rows end early isn't a row
 pub no_row_after : (count n : ℕ) (lines : List (List ℕ)) → length (listed_front count n lines) < count →
     listed_of (line_at lines (n + length (listed_front count n lines))) ≡ None
 unfolding listed_front

@@ -131,7 +131,7 @@ volumes_more lines n least row count is (Err number) found =
     before zero within = at_first lines n least row is
     before (suc earlier) within = at_later lines n least row earlier (row_known least row (line_at lines n) is).0 (found.3 earlier (omega arith))
 
--- the first line is none
+-- the first line isn't a volume that is due
 volumes_stop : (lines : List (List ℕ)) (n : ℕ) (least : ℤ) (count : ℕ) → row_of least (line_at lines n) ≡ None → FindsVolumes lines n least (suc count) (Err (n + 1))
 volumes_stop lines n least count is = (
   zero,

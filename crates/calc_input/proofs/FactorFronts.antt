@@ -20,7 +20,7 @@ one_row_more count first i row rows lines within is_row =
     let next : first + i + 1 ≡ first + (i + 1) = omega arith in
     subst P left (subst Q next (more_by (count - (i + 1)) (first + i) row rows lines is_row))
 
--- the line that is read is none
+-- the line that is read isn't a row
 stop_by : (count n : ℕ) (rows : List Listed) (lines : List (List ℕ)) → listed_of (line_at lines n) ≡ None → rows ++ listed_front (suc count) n lines ≡ rows
 unfolding listed_front
 stop_by count n rows lines no_row = ap (λ r. rows ++ listed_then r (listed_front count (n + 1) lines)) no_row ∙ append-nil rows

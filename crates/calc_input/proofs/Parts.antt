@@ -16,7 +16,7 @@ lt_from n m test = grind (arith, nat_tests)
 not_lt : (n m : ℕ) → nat_lt n m ≡ false → m ≤ n
 not_lt n m test = grind (arith, nat_tests)
 
--- the first line feed is within, or there is none
+-- the first line feed is within, where there is one
 found_within : (n m : ℕ) (b : Bool) (end : ℕ) → nat_lt n m ≡ b → cond b (Some n) None ≡ Some end → (n ≡ end) × (n < m)
 found_within n m true end test found = let same : n ≡ end = cc in (same, lt_from n m test)
 found_within n m false end test found = cc

@@ -35,7 +35,7 @@ abbrev pub rows_then : Option ℤ → ℕ → (ℤ → Result (List ℤ) ℕ) �
 rows_then None n more = Err (n + 1)
 rows_then (Some row) n more = with_row row (more row)
 
--- so many rows from line n on, or the number of the first line that is none
+-- the rows of count lines from line n on, or the number of the first line that isn't a row
 unfoldable pub rows_from : ℕ → ℕ → ℤ → List (List ℕ) → Result (List ℤ) ℕ
 rows_from zero n before lines = Ok []
 rows_from (suc count) n before lines = rows_then (row_of before (line_at lines n)) n (λ row. rows_from count (n + 1) row lines)

@@ -70,7 +70,7 @@ pub fn run<S: Source, K: Sink, F: Folder>(
     }
 }
 
-// Arguments that are no command. A failing output changes nothing: they are none all the same.
+// Arguments that are no command. A failing output changes nothing: they are no command all the same.
 fn print_usage<K: Sink>(output: &mut K) -> u8
     ensures usage_run { UsageRun (output_of K.held K.faults output.old output.new) result }
     ensures never_falls { K.faults output.old ≤ K.faults output.new }

@@ -1,0 +1,61 @@
+#!/usr/bin/env python3
+"""Tries site_fault.py on each case of crates/farm_cases/data that ends in a refused site or in a port fault.
+
+Use: tools/try_cases.py
+It prints how many cases there are, and each one whose fault isn't found. It ends with 1 where one isn't.
+"""
+import glob
+import os
+import shutil
+import subprocess
+import sys
+import tempfile
+import tomllib
+
+TOP = os.path.dirname(os.path.dirname(os.path.abspath(__file__)))
+DATA = os.path.join(TOP, "crates", "farm_cases", "data")
+
+
+def make_folder(case, folder):
+    """The folder of a case: a known site, files in their place, texts replaced, files dropped."""
+    if "site" in case:
+        shutil.copytree(os.path.join(DATA, case["site"]), folder)
+    else:
+        os.makedirs(folder)
+    for name, content in case.get("files", {}).items():
+        with open(os.path.join(folder, name), "w") as file:
+            file.write(content)
+    for name, old, new in case.get("replace", []):
+        with open(os.path.join(folder, name)) as file:
+            content = file.read()
+        with open(os.path.join(folder, name), "w") as file:
+            file.write(content.replace(old, new, 1))
+    for name in case.get("drop", []):
+        os.remove(os.path.join(folder, name))
+
+
+def is_found(case):
+    """Whether the script names one place for what the program prints of the case."""
+    with tempfile.TemporaryDirectory() as top:
+        folder = os.path.join(top, "site")
+        make_folder(case, folder)
+        words = [sys.executable, os.path.join(TOP, "tools", "site_fault.py"), folder, case["output"]]
+        run = subprocess.run(words, capture_output=True, text=True)
+    return run.returncode == 0 and run.stdout and not run.stdout.startswith(("maybe:", "nothing"))
+
+
+def main():
+    tried, missed = 0, []
+    for path in sorted(glob.glob(os.path.join(DATA, "*.toml"))):
+        with open(path, "rb") as file:
+            cases = tomllib.load(file)["case"]
+        for case in cases:
+            if str(case.get("output", "")).startswith(("site refused", "port fault")) and case["words"][:1] == ["table"]:
+                tried += 1
+                if not is_found(case):
+                    missed.append(f"{os.path.basename(path)}: {case['name']}")
+    print("\n".join(missed + [f"{tried} cases, {len(missed)} not found"]))
+    sys.exit(1 if missed else 0)
+
+
+main()
