@@ -1,12 +1,12 @@
 -- A site that files describe is one in the words of the rule.
-use Rattle.std.proofs.Common.{◌≡◌, ℕ, true, ◌&&◌, List, [], map, length, codes, nat_le, Option, Some, None, Ok, Err, refl, sym, ap, ◌∙◌, subst}
-use Rattle.std.specs.Prelude.{Result, MatchResult, IfOk, ◌⊎◌}
+use Rattle.std.proofs.Common.{◌≡◌, ℕ, true, List, [], map, length, codes, nat_le, Option, Some, None, Ok, Err, refl, subst}
+use Rattle.std.specs.Prelude.{Result, MatchResult, IfOk}
 use Rattle.std.specs.List.{list_all}
 use Rattle.std.proofs.Common.{inl, inr}
 use Rattle.std.proofs.lemmas.Bool.{and_parts}
 use Rattle.toml.specs.Data.{Data}
 use Rattle.farm_base.specs.Known.{WhereKnown}
-use Rattle.farm_base.specs.Steps.{◌>>=◌, IsRefusedAs}
+use Rattle.farm_base.specs.Steps.{IsRefusedAs}
 use Rattle.farm_ports.specs.Folders.{File}
 use Rattle.farm_rounding.specs.Table.{Row}
 use Rattle.modbus_poll.specs.Maps.{is_between}
@@ -14,9 +14,8 @@ use Rattle.site_keys.specs.declared.fault.SiteFault.{SiteFault}
 use Rattle.site_keys.specs.declared.fault.SiteReadFault.{SiteReadFault}
 use Rattle.site_keys.specs.declared.fault.SiteReadFault.TheVariants.{NoMemory, Folder, Bad}
 use Rattle.site_keys.specs.Faults.{Refusal, Faulty, Missing, found, refusal_of}
-use Rattle.site_keys.specs.Files.{content, toml_of}
-use Rattle.site_keys.specs.Keys.{array_or_none, text_at}
-use Rattle.site_keys.specs.Lists.{AreItemsAt, are_numbered, list_at, numbered_from, own_number, reference_at, rises}
+use Rattle.site_keys.specs.Files.{content}
+use Rattle.site_keys.specs.Lists.{AreItemsAt, are_numbered, list_at, own_number, rises}
 use Rattle.site_keys.proofs.ListMembers.{both_went, found_there, listed_there, own_alone, same_members}
 use Rattle.site_items.specs.declared.formats.Format.{Format}
 use Rattle.site_items.specs.declared.parties.TheConstants.{MOST_PARTIES}
@@ -29,8 +28,7 @@ use Rattle.site_items.specs.Facts.{are_parties, are_products, are_tanks}
 use Rattle.site_items.specs.Formats.{format_at}
 use Rattle.site_items.specs.Names.{name_at}
 use Rattle.site_items.specs.Parties.{is_party, parties_of, party_number, party_of}
-use Rattle.site_items.specs.Products.{factors_read, is_product, product_number, product_of, products_of}
-use Rattle.site_items.specs.Shells.{spec_at}
+use Rattle.site_items.specs.Products.{is_product, product_number, product_of, products_of}
 use Rattle.site_items.specs.Tanks.{is_tank, tank_number, tank_of, tanks_of}
 use Rattle.site_lines.specs.Lines.{lines_of}
 use Rattle.farm_site.specs.declared.site.Site.{Site}

@@ -1,16 +1,16 @@
 -- What the facts of a site say of one of its tanks: what a calculation asks of it, and that its product is there.
-use Rattle.std.proofs.Common.{◌≡◌, ℕ, Bool, true, false, not, ◌&&◌, ◌==◌, List, [], ◌∷◌, map, Option, Some, None, pos, int_lt, refl, sym, option_map, rules, arith}
+use Rattle.std.proofs.Common.{◌≡◌, ℕ, Bool, true, false, not, ◌==◌, List, [], ◌∷◌, map, Option, Some, None, pos, int_lt, sym, option_map, rules}
 use Rattle.std.specs.Prelude.{IfSome, if◌then◌else◌, length}
 use Rattle.std.specs.List.{list_all}
 use Rattle.std.proofs.lemmas.Bool.{and_parts, not-true}
 use Rattle.farm_base.proofs.BoolTests.{int_lt-false}
 use Rattle.farm_chain.specs.Reading.{IsFloatingRoof}
 use Rattle.farm_fixed.specs.declared.limits.TheConstants.{MOST_ROOF_MASS}
-use Rattle.farm_fixed.specs.Range.{IsWithin, is_within}
+use Rattle.farm_fixed.specs.Range.{is_within}
 use Rattle.farm_fixed.proofs.ParsingLaws.{is_within-true}
 use Rattle.modbus_poll.specs.Maps.{is_between}
 use Rattle.strap_table.specs.declared.tank.Roof.{Roof}
-use Rattle.site_keys.specs.Lists.{are_numbered, is_among, item_numbered, rises}
+use Rattle.site_keys.specs.Lists.{are_numbered, item_numbered, rises}
 use Rattle.site_items.specs.declared.records.Tank.{Tank}
 use Rattle.site_items.specs.declared.tanks.TheConstants.{MOST_TANKS}
 use Rattle.site_items.specs.Facts.{are_tanks}

@@ -1,6 +1,6 @@
 -- A site in the words of the rule: each of its lists has what the tables of the site file read as, each item once, in rising
 -- order of number.
-use Rattle.std.specs.Prelude.{◌≡◌, ℕ, List, [], map, codes, Result, Ok, Err, ◌⊎◌}
+use Rattle.std.specs.Prelude.{◌≡◌, List, [], map, codes, Result, Ok, Err, ◌⊎◌}
 use Rattle.toml.specs.Data.{Data}
 use Rattle.farm_ports.specs.Folders.{File}
 use Rattle.site_keys.specs.declared.fault.SiteReadFault.{SiteReadFault}

@@ -1,8 +1,8 @@
 -- The parts of what holds of a tank.
-use Rattle.std.proofs.Common.{◌≡◌, ℕ, true, not, ◌&&◌, List, Option, Some, None, pos, int_lt}
+use Rattle.std.proofs.Common.{◌≡◌, ℕ, true, ◌&&◌, List, pos}
 use Rattle.std.specs.Prelude.{IsTrue}
 use Rattle.std.proofs.lemmas.Bool.{and_parts}
-use Rattle.farm_fixed.specs.declared.limits.TheConstants.{MOST_COEFFICIENT, MOST_HEIGHT, MOST_ROOF_MASS}
+use Rattle.farm_fixed.specs.declared.limits.TheConstants.{MOST_COEFFICIENT, MOST_HEIGHT}
 use Rattle.farm_fixed.specs.Range.{IsWithin, is_within}
 use Rattle.farm_fixed.proofs.ParsingLaws.{is_within-true}
 use Rattle.modbus_poll.specs.Maps.{is_between}

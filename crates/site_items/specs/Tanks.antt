@@ -1,5 +1,5 @@
 -- The tanks of a site, each with its capacity table.
-use Rattle.std.specs.Prelude.{ℕ, ◌&&◌, Bool, true, false, List, [], map, codes, Result, Ok, ℤ, pos, neg_ℤ}
+use Rattle.std.specs.Prelude.{ℕ, ◌&&◌, Bool, true, false, List, [], map, codes, Result, Ok, ℤ, neg_ℤ}
 use Rattle.toml.specs.Data.{Data}
 use Rattle.farm_base.specs.Steps.{◌>>=◌}
 use Rattle.farm_fixed.specs.Range.{is_within}

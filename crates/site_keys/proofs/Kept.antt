@@ -1,5 +1,5 @@
 -- What is known of a folder, from one call to the next.
-use Rattle.std.proofs.Common.{◌≡◌, ℕ, ◌≤◌, Option, Some, None, refl, ◌∙◌, sym, subst, arith}
+use Rattle.std.proofs.Common.{◌≡◌, ℕ, Option, Some, None, refl, ◌∙◌, subst, arith}
 use Rattle.std.specs.Prelude.{Result, Err}
 use Rattle.farm_base.specs.Counts.{Rose}
 use Rattle.farm_base.specs.Known.{KeepsKnown, Stays}

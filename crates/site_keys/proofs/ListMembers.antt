@@ -1,6 +1,6 @@
 -- The items of a list, in their own order, are what its values read as.
 use Rattle.std.proofs.Common.{◌≡◌, ℕ, ◌+◌, List, [], ◌∷◌, ◌++◌, length, map, take, drop, true, Ok, Err, refl, sym, subst, ap, ◌∙◌}
-use Rattle.std.specs.Prelude.{Result, IsTrue, if◌then◌else◌, Bool, false, codes}
+use Rattle.std.specs.Prelude.{Result, if◌then◌else◌, Bool, false, codes}
 use Rattle.std.specs.List.Sorted.{IsPermutation}
 use Rattle.std.proofs.lemmas.List.{take-append-drop, append-nil}
 use Rattle.std.proofs.lemmas.List.Sorted.{IsPermutation-refl, IsPermutation-sym, IsPermutation-trans, IsPermutation-middle, IsPermutation-append_left}
@@ -9,10 +9,10 @@ use Rattle.toml.specs.Data.{Data}
 use Rattle.farm_base.specs.Steps.{◌>>=◌}
 use Rattle.site_keys.specs.declared.codes.TheConstants.{REPEATED, TOO_MANY}
 use Rattle.site_keys.specs.declared.fault.SiteFault.{SiteFault}
-use Rattle.site_keys.specs.Faults.{Refusal, bad, found}
+use Rattle.site_keys.specs.Faults.{bad, found}
 use Rattle.site_keys.specs.declared.lists.TheConstants.{GREATEST_NUMBER}
 use Rattle.site_keys.specs.Keys.{array_or_none, natural_at}
-use Rattle.site_keys.specs.Lists.{AreItemsAt, EachReadsAs, list_at, numbered_from, own_number, is_among, place_among, placed, rises}
+use Rattle.site_keys.specs.Lists.{EachReadsAs, list_at, numbered_from, own_number, is_among, place_among, placed}
 
 -- the first of two steps went well, and the second on what it gave
 pub both_went : {A B E : Type 0} (first : Result A E) (next : A → Result B E) (b : B) → (first >>= next) ≡ Ok b →

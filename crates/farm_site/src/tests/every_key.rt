@@ -22,7 +22,10 @@ fn products_are_read(rt: &impl Abort, products: &[Product]) {
     let wanted = [(11, "Kerosene", 1), (12, "Gas oil", 9)];
     assert_eq!(rt; products.len(), wanted.len());
     for (product, (number, name, factors)) in products.iter().zip(wanted) {
-        assert_eq!(rt; (product.number, product.name.get()), (number, name.as_bytes()));
+        assert_eq!(rt;
+            (product.number, product.name.get()),
+            (number, name.as_bytes())
+        );
         assert_eq!(rt; product.vcf.factors().len(), factors);
     }
 }

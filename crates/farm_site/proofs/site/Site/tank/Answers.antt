@@ -1,5 +1,5 @@
 -- What holds of a tank that is found, since it holds of each tank of a site.
-use Rattle.std.proofs.Common.{◌≡◌, List, map, pos, Some}
+use Rattle.std.proofs.Common.{map, pos}
 use Rattle.std.specs.Prelude.{IfSome, IsTrue}
 use Rattle.farm_chain.specs.Reading.{IsFloatingRoof}
 use Rattle.farm_fixed.specs.Range.{IsWithin}
