@@ -196,7 +196,7 @@ from_new places least most number v (Ok x) small fits is within =
     ap Ok within.1 ∙ sym (from_cut_within places least most number v small fits is within.0)
 from_new places least most number v (Err e) small fits is outside = sym (from_cut_outside places least most number v small fits is outside)
 
--- the same once the error is told as a fault of reading
+-- the same once the error is reported as a fault of parsing
 pub from_mapped : {E : Type 0} (places : ℕ) (least most : ℤ) (number : Number) (new : Result ℤ E) (answer : Result ℤ ReadFault) (post : E → ReadFault → Type 0) →
     ((e : E) (fault : ReadFault) → post e fault → fault ≡ OutOfRange) →
     MatchResult new (λ x. Answered places least most number (Ok x)) (λ _. Answered places least most number (Err OutOfRange)) →

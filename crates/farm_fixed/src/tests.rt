@@ -18,7 +18,7 @@ fn text_of<U: Unit>(alloc: Global, units: i64) -> Result<Vec<u8>, NoMemory> {
     Ok(text)
 }
 
-/// Whether so many units write this text and read from it.
+/// Whether this number of units writes this text and is read from it.
 fn has_text<U: Unit>(alloc: Global, units: i64, text: &str) -> Result<bool, NoMemory> {
     let written = text_of::<U>(alloc, units)?;
     Ok(written.as_slice() == text.as_bytes() && read_units::<U>(text) == Ok(units))

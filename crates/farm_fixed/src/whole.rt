@@ -6,7 +6,7 @@ ghost use Rattle.farm_fixed.specs.Whole.{are_digits, whole_number};
 
 use crate::parsing::{is_negative, unsigned_text, value_after, with_sign};
 
-/// So many digits write at most 10^18 - 1.
+/// This number of digits writes at most 10^18 - 1.
 const MOST_DIGITS: usize = 18;
 
 /// The whole number that a text writes: an optional minus and 1 to 18 digits. Zeros in front are read.

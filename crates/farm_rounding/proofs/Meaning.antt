@@ -46,11 +46,11 @@ distance_above n d x =
     let P : ℕ → Type 0 = λ m. apart m (unsigned_abs n) ≤ distance n d x in
     subst P (unsigned_abs-mul x (pos d)) (apart_below (x *ℤ pos d) n)
 
--- a multiple's magnitude is so many steps
+-- a multiple's magnitude is a number of steps
 abs_multiple : (step : ℕ) (m : ℤ) → (multiple : IsMultiple step m) → unsigned_abs m ≡ unsigned_abs multiple.0 * step
 abs_multiple step m multiple = ap unsigned_abs multiple.1 ∙ unsigned_abs-mul multiple.0 (pos step)
 
--- so many steps with the sign of n are a multiple
+-- a number of steps with the sign of n is a multiple
 multiple_with_sign : (n : ℤ) (k step : ℕ) → IsMultiple step (with_sign_of n (k * step))
 multiple_with_sign n k step = (with_sign_of n k, sym (sign_times n k step))
 
@@ -76,7 +76,7 @@ between_with_sign (negsuc n) d m within =
     let P : ℤ → Type 0 = λ x. negsuc n ≤ℤ x in
     inr (subst P (sym (minus_times m d)) high, low)
 
--- so many steps at d are so many wholes
+-- a number of steps at d is as many wholes
 wholes : (k step d : ℕ) → k * step * d ≡ k * (step * d)
 wholes k step d = mul_assoc k step d
 

@@ -65,7 +65,7 @@ pub truncated_steps : (n w : ℕ) → steps_to TowardZero n w * w ≤ n
 unfolding steps_to
 truncated_steps n w = omega (arith, div-add-mod' n w)
 
--- and there is none of more wholes
+-- and no multiple has more wholes
 pub greatest_steps : (n w j : ℕ) → 0 < w → j * w ≤ n → j ≤ steps_to TowardZero n w
 unfolding steps_to
 greatest_steps n w j positive within = omega (arith, le-div j n w positive within)

@@ -70,7 +70,7 @@ rows_after format done (value ∷ values) = do
 abbrev pub twelve_rows : Format → List Data → Result (List Row) SiteFault
 twelve_rows format values = if length values == ROWS then rows_after format [] values else bad FIELD 0 0
 
--- the rounding table: twelve rows, or the usual ones where there is none
+-- the rounding table: twelve rows, or the usual ones where the list is missing
 unfoldable pub rounds_at : Format → Data → Result (List Row) SiteFault
 rounds_at format top =
     if has top (codes "rounding") then (do

@@ -14,7 +14,7 @@ use toml::Value;
 /// How many rows a rounding table has.
 const ROWS: usize = 12;
 
-/// How the site rounds: the twelve rows of a list, or the usual ones where there is none.
+/// How the site rounds: the twelve rows of a list, or the usual ones where the list is missing.
 #[tactic(auto, unfolding(crate::specs::Rounds::rounds_at))]
 pub fn rounds_at(format: Format, top: &Keys<'_>) -> Result<RoundTable, SiteFault>
     requires { top.now.item ≡ 0 }

@@ -45,7 +45,7 @@ fn has_rounds(rt: &impl Abort, rounds: &RoundTable, wanted: &[(i64, Mode); 12]) 
     }
 }
 
-// A capacity table has so many rows, and some of these litres.
+// A capacity table has this number of rows, and some of these litres.
 fn has_litres(rt: &impl Abort, rows: &[i64], length: usize, wanted: &[(usize, i64)]) {
     assert_eq!(rt; rows.len(), length);
     for (row, want) in wanted {

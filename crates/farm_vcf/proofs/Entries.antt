@@ -15,7 +15,7 @@ unfolding grid_factor
 is_entry mode grid density liquid factor row column high warm row_is column_is listed =
     rw (high, warm, ← row_is, ← column_is, ← listed) refl
 
--- there is none for a density that is not covered
+-- a density that is not covered has no entry
 pub no_density : (mode : Mode) (grid : Grid) (density liquid : ℤ) → is_covered density grid.densities ≡ false → grid_factor mode grid density liquid ≡ None
 unfolding grid_factor
 no_density mode grid density liquid low = rw low refl

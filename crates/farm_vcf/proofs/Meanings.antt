@@ -16,7 +16,7 @@ use Rattle.farm_vcf.proofs.Breaks.{Finds, block_finds, finds_more, later_finds, 
 use Rattle.farm_vcf.proofs.Entries.{place_within}
 use Rattle.farm_vcf.proofs.ReadBack.{density_along, density_read, temperature_along}
 
--- rows lead with so many of a density
+-- rows lead with this number of a density
 record Leads (density : ℤ) (rows : List Listed) (width : ℕ) : Type 0 where
   within : width ≤ length rows
   same : (index : ℕ) → index < width → density_of rows index ≡ density

@@ -34,7 +34,7 @@ factors_fault item (factors.BadField row) = fault_at FACTORS item (detail row)
 factors_fault item factors.TooMany = fault_at FACTORS item 0
 factors_fault item (factors.NotGrid row) = fault_at FACTORS item (detail row)
 
--- a grid, or why there is none
+-- a grid, or why a file is no grid
 abbrev pub factors_read : ℕ → Result Grid FactorFault → Result Grid SiteFault
 factors_read item (Ok grid) = Ok grid
 factors_read item (Err fault) = Err (factors_fault item fault)

@@ -30,7 +30,7 @@ abbrev pub ranged : {A : Type 0} → ℕ → Bool → A → Result A SiteFault
 ranged item true value = Ok value
 ranged item false value = bad RANGE item 0
 
--- a record, row or number as a detail, which has at most 32 bits; no file within the limit has so many
+-- a record, row or number as a detail, which has at most 32 bits; no file within the limit has more
 abbrev pub detail : ℕ → ℕ
 detail n = min n 4294967295
 

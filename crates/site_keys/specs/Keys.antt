@@ -52,7 +52,7 @@ decimal_read item (Err reading.Empty) = bad FIELD item 0
 decimal_read item (Err (reading.BadByte offset)) = bad FIELD item 0
 decimal_read item (Err reading.TooFine) = bad FIELD item 0
 
--- a quantity of so many decimals and this range
+-- a quantity of this number of decimals and this range
 unfoldable pub quantity_at : ℕ → ℤ → ℤ → ℕ → Data → List ℕ → Result ℤ SiteFault
 quantity_at places least most item keys key = do
   text ← text_at item keys key

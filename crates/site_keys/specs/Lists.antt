@@ -13,7 +13,7 @@ use Rattle.site_keys.specs.declared.lists.TheConstants.{GREATEST_NUMBER}
 use Rattle.site_keys.specs.Faults.{bad}
 use Rattle.site_keys.specs.Keys.{array_or_none, integer_at, natural_at}
 
--- the values of a list of the site file, of which there are at least and at most so many; none where the list is missing
+-- the values of a list of the site file, of which there are at least and at most these numbers; no values where the list is missing
 unfoldable pub list_at : ℕ → ℕ → ℕ → Data → List ℕ → Result (List Data) SiteFault
 list_at least most item keys key = do
   values ← array_or_none item keys key

@@ -77,7 +77,7 @@ pub fn bad(code: u8, item: u32) -> SiteFault
 
 /// A fault of an item, with the record, row or number that it names.
 ///
-/// A detail has at most 32 bits. No file within the limit has so many records.
+/// A detail has at most 32 bits. No file within the limit has more records.
 pub fn bad_at(code: u8, item: u32, number: usize) -> SiteFault
     ensures fault { result ≡ fault_at code item (detail number) }
 {

@@ -92,7 +92,7 @@ fn known<T: Numbered>(item: u32, items: &[T], value: i64) -> Result<u16, SiteFau
     Err(bad(UNKNOWN, item))
 }
 
-/// The item with a number. `None` exactly where there is none.
+/// The item with a number. `None` exactly where no item has it.
 pub fn item_numbered<T: Numbered>(number: u16, items: &[T]) -> Option<&T>
     ensures item { option_map (λ item. item.now) result ≡ item_numbered T.numbered number items.now }
     ensures number { IfSome result (λ item. T.numbered item.now ≡ number) }

@@ -27,7 +27,7 @@ unfoldable pub signed_at : ℕ → Data → Result Bool SiteFault
 signed_at item keys =
     if has keys (codes "signed") then needed item (option_and_then as_bool (get (codes "signed") keys)) else Ok false
 
--- a field among so many registers
+-- a field among this number of registers
 unfoldable pub field_of : ℕ → ℕ → Data → Result Field SiteFault
 field_of quantity item keys = do
   offset ← natural_at item keys (codes "offset") 0 124
@@ -52,7 +52,7 @@ field_or_none quantity item keys key =
       field ← field_at quantity item keys key
       Ok (Some field)) else Ok None
 
--- a bit among so many registers
+-- a bit among this number of registers
 unfoldable pub valid_of : ℕ → ℕ → Data → Result Valid SiteFault
 valid_of quantity item keys = do
   offset ← natural_at item keys (codes "offset") 0 124

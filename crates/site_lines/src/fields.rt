@@ -39,7 +39,7 @@ pub fn field_or_none(quantity: u8, keys: &Keys<'_>, key: &str) -> Result<Option<
     Ok(Some(field_at(quantity, keys, key)?))
 }
 
-// A field among so many registers.
+// A field among this number of registers.
 #[tactic(auto, unfolding(crate::specs::Fields::field_of))]
 fn field_of(quantity: u8, keys: &Keys<'_>) -> Result<Field, SiteFault>
     ensures field { result ≡ field_of quantity keys.now.item (view keys.now.table.now) }
@@ -110,7 +110,7 @@ pub fn valid_or_none(quantity: u8, keys: &Keys<'_>) -> Result<Option<Valid>, Sit
     }
 }
 
-// A bit among so many registers.
+// A bit among this number of registers.
 #[tactic(auto, unfolding(crate::specs::Fields::valid_of))]
 fn valid_of(quantity: u8, keys: &Keys<'_>) -> Result<Valid, SiteFault>
     ensures valid { result ≡ valid_of quantity keys.now.item (view keys.now.table.now) }

@@ -79,7 +79,7 @@ point_of item value = do
   pair ← needed item (as_array value)
   point_of_pair item (values_of pair)
 
--- the bottom: the points of an array, or a flat one where there is none
+-- the bottom: the points of an array, or a flat one where the array is missing
 unfoldable pub bottom_at : ℕ → Data → Result (List Point) SiteFault
 bottom_at item keys =
     if has keys (codes "bottom") then (do
@@ -121,7 +121,7 @@ abbrev pub rows_read : ℕ → Result (List ℤ) TankFault → Result (List ℤ)
 rows_read item (Ok rows) = table_of_rows item rows
 rows_read item (Err fault) = Err (strap_fault item fault)
 
--- the capacity table of a strapped tank, or why there is none
+-- the capacity table of a strapped tank, or why its strapping is refused
 abbrev pub judged : ℕ → List Row → StrappedTank → Option TankFault → Result (List ℤ) SiteFault
 judged item rounds tank (Some fault) = Err (strap_fault item fault)
 judged item rounds tank None = rows_read item (strapped_rows rounds tank)

@@ -131,7 +131,7 @@ fn deadwoods_at(alloc: Global, keys: &Keys<'_>) -> Result<Vec<Deadwood>, SiteRea
     Ok(deadwoods)
 }
 
-// The bottom: a flat one where there is none.
+// The bottom: a flat one where the array is missing.
 #[tactic(auto, unfolding(crate::specs::Strappings::bottom_at))]
 fn bottom_at(alloc: Global, keys: &Keys<'_>) -> Result<Vec<(Mm, i64)>, SiteReadFault>
     ensures points { MatchResult result (λ list. bottom_at keys.now.item (view keys.now.table.now) ≡ Ok list.items)

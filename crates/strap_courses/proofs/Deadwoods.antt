@@ -12,7 +12,7 @@ use Rattle.strap_courses.specs.Faults.{bad_deadwood, is_bad_deadwood}
 use Rattle.strap_courses.specs.Rows.{deadwood_parts, rounded_litres}
 use Rattle.strap_courses.proofs.Spans.{from_element}
 
--- up to the low end there is none
+-- up to the low end nothing is taken
 pub none_below : (deadwood : Deadwood) (height : ℕ) → height ≤ unsigned_abs deadwood.low → deadwood_part deadwood height ≡ over (pos 0) 1
 unfolding deadwood_part
 none_below deadwood height below =

@@ -10,7 +10,7 @@ pub no_first : (a b : Option TankFault) → or_else a b ≡ None → a ≡ None
 no_first None b none = refl
 no_first (Some fault) b none = cc
 
--- and what comes second is none either
+-- and what comes second is missing too
 pub no_second : (a b : Option TankFault) → or_else a b ≡ None → b ≡ None
 no_second None b none = none
 no_second (Some fault) b none = cc

@@ -32,7 +32,7 @@ fewer_wholes s q w positive below = elim (either_side s q) [
   | inr many ↦ let more : (q + 1) * w ≤ s * w = mul-le-mul_right w many in absurd (omega arith)
 ]
 
--- a magnitude of at most so many wholes is rounded to no more of them
+-- a magnitude of at most a number of wholes is rounded to no more of them
 steps_at_most : (mode : Mode) (n w q : ℕ) → 0 < w → n ≤ q * w → steps_to mode n w ≤ q
 unfolding steps_to
 steps_at_most mode n w q positive below =
@@ -51,7 +51,7 @@ steps_at_most mode n w q positive below =
 whole_of : (step : ℕ) → IsTrue (is_step step) → 10 ^ 9 % step ≡ 0
 whole_of step allowed = grind (arith, nat_tests)
 
--- from zero to so many steps, a number is rounded to no more of them
+-- from zero to a number of steps, a value is rounded to no more of them
 nearest_at_most : (mode : Mode) (n : ℤ) (d step q : ℕ) → 0 < d → 0 < step → pos 0 ≤ℤ n → n ≤ℤ pos (d * (q * step)) →
     IsWithin (pos 0) (pos (q * step)) (nearest_multiple mode n d step)
 unfolding nearest_multiple

@@ -7,7 +7,7 @@ fn shared<T: Send + Sync>(value: T) -> T {
     value
 }
 
-// The volume at so many mm, to the litre.
+// The volume at a number of mm, to the litre.
 fn litres_at(
     table: &CapTable,
     millimetres: i64,

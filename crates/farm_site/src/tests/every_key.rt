@@ -143,7 +143,7 @@ fn lines_are_read(rt: &impl Abort, lines: &[LineMap]) {
     }
 }
 
-// The tank of a number has so many rows, and some of these litres.
+// The tank of a number has this number of rows, and some of these litres.
 fn tank_has_litres(
     rt: &impl Abort,
     site: &Site,
