@@ -1,4 +1,4 @@
-"""Writes the greatest input of `calc` from levels and a factor file of 100,000 records into a folder."""
+"""Writes two inputs of `calc` from levels, the greatest one and one of 100,000 short factor lines, and a factor file into a folder."""
 
 import pathlib
 import sys
@@ -10,8 +10,8 @@ TEMPERATURES = 100
 def factors(count, first):
     """Lines of a grid: densities from `first` tenths of a kg/m3 on, each with the same hundred temperatures."""
     for index in range(count):
-        block, place = divmod(index, TEMPERATURES)
-        density, temperature, factor = first + block, 100 + 25 * place, 100_000 - 37 * place - block
+        block, column = divmod(index, TEMPERATURES)
+        density, temperature, factor = first + block, 100 + 25 * column, 100_000 - 37 * column - block
         yield (
             f"{density // 10}.{density % 10},{temperature // 100}.{temperature % 100:02},"
             f"{factor // 100_000}.{factor % 100_000:05}\n"
@@ -27,6 +27,14 @@ def levels():
     return text + "\n" * (LIMIT - len(text))
 
 
+def short_levels():
+    """A table of 5,001 rows, 100,000 factor lines as short as they can be, and levels."""
+    rows = "".join(f"{2 * index * index}\n" for index in range(5_001))
+    lines = "".join(f"{400 + block},{temperature},1\n" for block in range(800) for temperature in range(125))
+    return f"table 5001\n{rows}factors 100000\n{lines}levels 43217 13 bare 20.25 31.00 15.00 112 85000 1000 1500 405.3 0.125\n"
+
+
 folder = pathlib.Path(sys.argv[1])
 (folder / "levels.txt").write_text(levels())
+(folder / "short_levels.txt").write_text(short_levels())
 (folder / "factors.csv").write_text("density,temperature,factor\n" + "".join(factors(100_000, 4_000)))

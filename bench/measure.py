@@ -1,5 +1,6 @@
 """Times the built programs beside others that do the same; `run` builds them and hands over the two folders."""
 
+import os
 import subprocess
 import sys
 import time
@@ -10,6 +11,7 @@ FARM = [PROGRAM, "calc"]
 TABLE = [PROGRAM, "table", "--site"]
 LINE = f"{TOP}/examples/calc/observed.txt"
 LEVELS = f"{WORK}/levels.txt"
+SHORT_LEVELS = f"{WORK}/short_levels.txt"
 FACTORS = f"{WORK}/factors.csv"
 
 
@@ -46,6 +48,7 @@ def compare(name, ours, theirs, runs, path="/dev/null", alike=True):
 compare("a million figures, C", [f"{TOP}/crates/figures_bench/out/figures_bench"], [f"{WORK}/figures"], 9)
 compare("one line of calc, Rust that prints a line", FARM, [f"{WORK}/line"], 300, LINE, alike=False)
 compare("the greatest input of calc, Rust", FARM, [f"{WORK}/levels"], 40, LEVELS)
+compare("100,000 short factor lines of calc, Rust", FARM, [f"{WORK}/levels"], 40, SHORT_LEVELS)
 compare(
     "100,000 factors, Python's csv",
     [f"{TOP}/crates/factors_bench/out/factors_bench"],
@@ -54,6 +57,11 @@ compare(
     FACTORS,
 )
 print(f"memory of one line: {kilobytes(FARM, LINE)} KB, of the greatest input: {kilobytes(FARM, LEVELS)} KB")
+# Plain Rust with the `csv`, `toml` and `itoa` crates, where cargo has them.
+tables = f"{WORK}/tables-target/release/tables"
+if os.path.exists(tables):
+    compare("the issued tables of 64 table files, Rust", [*TABLE, f"{WORK}/tables"], [tables, f"{WORK}/tables"], 20)
+    compare("a site with every list at its limit, Rust", [*TABLE, f"{WORK}/limits"], [tables, f"{WORK}/limits"], 3)
 compare("the issued tables of 64 table files, awk", [*TABLE, f"{WORK}/tables"], ["awk", "-f", f"{TOP}/bench/rows.awk"], 40)
 compare("the issued tables of 64 strapping files, C", [*TABLE, f"{WORK}/strappings"], [f"{WORK}/strapped"], 40)
 print(f"a site with every list at its limit: {least([*TABLE, f'{WORK}/limits'], 3):.0f} ms, {kilobytes([*TABLE, f'{WORK}/limits'], '/dev/null')} KB")
