@@ -44,7 +44,7 @@ impl Trial {
 
     /// Whether what came is what is wanted: the same status and the same bytes.
     pub fn agrees(&self) -> bool
-        ensures { IsTrue result ↔ ((self.now.came.status ≡ self.now.wanted.status) × (self.now.came.output.items ≡ self.now.wanted.output.items)) }
+        ensures agrees { IsTrue result ↔ ((self.now.came.status ≡ self.now.wanted.status) × (self.now.came.output.items ≡ self.now.wanted.output.items)) }
     {
         self.came.status == self.wanted.status && self.came.output == self.wanted.output
     }
@@ -52,15 +52,18 @@ impl Trial {
 
 impl fmt::Display for Trial {
     fn fmt<W: fmt::Write>(&self, f: &mut fmt::Formatter<W>) -> fmt::Result {
-        let at = same_lines(&self.wanted.output, &self.came.output);
-        let number = at.saturating_add(1);
+        let (wanted, came) = (&self.wanted, &self.came);
+        write!(f, "wanted status {}, came {}", wanted.status, came.status)?;
+        if wanted.output == came.output {
+            return Ok(());
+        }
+        let same = same_lines(&wanted.output, &came.output);
         write!(
             f,
-            "wanted status {} and in line {number} `{}`, came status {} and `{}`",
-            self.wanted.status,
-            line(&self.wanted.output, at).escape_ascii(),
-            self.came.status,
-            line(&self.came.output, at).escape_ascii(),
+            "; in line {} wanted `{}`, came `{}`",
+            same.saturating_add(1),
+            line(&wanted.output, same).escape_ascii(),
+            line(&came.output, same).escape_ascii(),
         )
     }
 }
