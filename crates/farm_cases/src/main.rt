@@ -11,11 +11,13 @@ mod data;
 mod fault;
 mod folder;
 mod input;
+mod row;
 mod text;
 
 use crate::answer::Trial;
 use crate::case::{Case, CaseFile, Listing, Sites};
 use crate::data::read_form;
+use crate::row::has_row_site;
 use farm_ports::{DirFolder, Folder};
 use std::alloc::Global;
 use std::rt::Env;
@@ -38,7 +40,10 @@ fn main(rt: HostRuntime) -> anyhow::Result<()> {
             &listing.sites,
             files,
         )?,
-        _ => run_files(&rt, rt.alloc(), &mut data, &listing.sites, &listing.files)?,
+        _ => {
+            run_files(&rt, rt.alloc(), &mut data, &listing.sites, &listing.files)?;
+            compare_row_site(&rt, rt.alloc(), &mut data)?;
+        }
     }
     Ok(())
 }
@@ -111,4 +116,13 @@ fn run_case<F: Folder>(
         Err(fault) => println!(rt; "{file}: {}: {fault}", case.name)?,
     }
     Ok(false)
+}
+
+// Compares the site `row` with the site of the worked rows, and prints how that went.
+fn compare_row_site<F: Folder>(rt: &impl Print, alloc: Global, data: &mut F) -> io::Result<()> {
+    match has_row_site(alloc, data) {
+        Ok(true) => println!(rt; "row: the files of the worked rows"),
+        Ok(false) => println!(rt; "row: not the files of the worked rows"),
+        Err(fault) => println!(rt; "row: {fault}"),
+    }
 }

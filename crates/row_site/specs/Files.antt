@@ -8,7 +8,7 @@ abbrev pub table_line : ℕ → List ℕ
 table_line row = decimal (10 * row) ++ codes "," ++ decimal (10000 * row) ++ codes "\n"
 
 -- the lines of the first rows
-abbrev pub table_lines : ℕ → List ℕ
+unfoldable pub table_lines : ℕ → List ℕ
 table_lines zero = []
 table_lines (suc rows) = table_lines rows ++ table_line rows
 

@@ -107,6 +107,7 @@ pub const FACTORS: &str =
     "density,temperature,factor\n840.0,15.00,1.00000\n840.0,20.00,0.99570\n840.0,25.00,0.99140\n850.0,15.00,1.00000\n850.0,20.00,0.99580\n850.0,25.00,0.99150\n860.0,15.00,1.00000\n860.0,20.00,0.99590\n860.0,25.00,0.99160\n";
 
 /// The files, by their names: `site.toml`, `factors.csv` and `table.csv`.
+#[tactic(auto, unfolding(crate::specs::Files::row_files))]
 pub fn row_files(alloc: Global) -> Result<Vec<(String, Vec<u8>)>, NoMemory>
     ensures files { IfOk result (λ files. files_of files.items ≡ row_files) }
 {

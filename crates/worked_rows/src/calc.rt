@@ -17,6 +17,8 @@ const WATER_ALONE: &str =
 const FROM_LEVELS: &str =
     "TOV 1600\nFW 0\nCTSH 1.00000\nVCF 1.00000\nFRA 0\nGOV 1600\nGSV 1600\nNSV 1600\nSWV 0\nMASS 1360\n";
 
+const FORM: &str = "input refused at line 1: form\n";
+
 #[test]
 fn calc_observed_volumes(rt: HostRuntime) -> Result<(), Fail> {
     let (status, bytes) = calc_answer(rt.alloc(), OBSERVED)?;
@@ -52,7 +54,7 @@ fn calc_roof_and_refusals(rt: HostRuntime) -> Result<(), Fail> {
     }
     let (status, bytes) = calc_answer(rt.alloc(), "")?;
     assert_eq!(rt; status, 4);
-    assert_eq!(rt; bytes.as_slice(), b"input refused at line 1: form\n");
+    assert_eq!(rt; bytes.as_slice(), FORM.as_bytes());
     Ok(())
 }
 

@@ -7,15 +7,14 @@ use farm_run::report_no_memory;
 use std::alloc::Global;
 use std::test::Fail;
 
+const USAGE: &str = "usage: farm calc|init|table|batch|serve|report|drill\n";
+
 #[test]
 fn usage_line(rt: HostRuntime) -> Result<(), Fail> {
     let mut folder = row_site::row_folder(rt.alloc())?;
     let (status, bytes) = answer(rt.alloc(), &[], "", &mut folder)?;
     assert_eq!(rt; status, 1);
-    assert_eq!(rt;
-        bytes.as_slice(),
-        b"usage: farm calc|init|table|batch|serve|report|drill\n"
-    );
+    assert_eq!(rt; bytes.as_slice(), USAGE.as_bytes());
     Ok(())
 }
 
