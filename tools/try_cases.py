@@ -1,5 +1,5 @@
 #!/usr/bin/env python3
-"""Tries site_fault.py on each case of crates/farm_cases/data that ends in a refused site or in a port fault.
+"""Tries site_fault.py on each case of crates/farm_cases/data that ends in a refused site, or in a port fault without a failing call.
 
 Use: tools/try_cases.py
 It prints how many cases there are, and each one whose fault isn't found. It ends with 1 where one isn't.
@@ -48,9 +48,11 @@ def main():
     tried, missed = 0, []
     for path in sorted(glob.glob(os.path.join(DATA, "*.toml"))):
         with open(path, "rb") as file:
-            cases = tomllib.load(file)["case"]
+            cases = tomllib.load(file).get("case", [])
         for case in cases:
-            if str(case.get("output", "")).startswith(("site refused", "port fault")) and case["words"][:1] == ["table"]:
+            fails = any(key.endswith("_fails") for key in case)
+            refused = str(case.get("output", "")).startswith(("site refused", "port fault"))
+            if refused and not fails and case["words"][:1] == ["table"]:
                 tried += 1
                 if not is_found(case):
                     missed.append(f"{os.path.basename(path)}: {case['name']}")

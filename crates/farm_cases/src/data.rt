@@ -1,0 +1,28 @@
+//! Reading the files of the folder of the cases.
+
+use crate::fault::CaseFault;
+use farm_ports::{Folder, PortFault};
+use serde::de::DeserializeOwned;
+use std::alloc::Global;
+
+/// A file of the folder of the cases has at most this many bytes that are read.
+const LONGEST_FILE: usize = 16_777_216;
+
+/// The bytes of a file.
+pub fn read_file<F: Folder>(alloc: Global, data: &mut F, name: &str) -> Result<Vec<u8>, CaseFault> {
+    match data.read(alloc, name, LONGEST_FILE) {
+        Ok(bytes) => Ok(bytes),
+        Err(PortFault::Failed) => Err(CaseFault::Unread(String::from_str(alloc, name)?)),
+        Err(PortFault::NoMemory) => Err(CaseFault::Memory),
+    }
+}
+
+/// What a TOML file has, in the form of a type.
+pub fn read_form<T: DeserializeOwned, F: Folder>(
+    alloc: Global,
+    data: &mut F,
+    name: &str,
+) -> Result<T, CaseFault> {
+    let bytes = read_file(alloc, data, name)?;
+    toml::from_slice(alloc, &bytes).map_err(CaseFault::Form)
+}

@@ -1,0 +1,46 @@
+//! Why a case can't be run.
+
+use farm_base::NoMemory;
+use std::alloc::{AllocError, AllocFailed};
+use thiserror::Error;
+
+/// Why a case can't be run. It says what to mend in the file of cases.
+#[derive(Debug, Drop, Error)]
+pub enum CaseFault {
+    /// A file of the folder of the cases can't be read.
+    #[error("the file {0} can't be read")]
+    Unread(String),
+    /// The file isn't TOML in the form of cases.
+    #[error("{0}")]
+    Form(toml::de::Error),
+    /// The case names a site that the list of sites hasn't.
+    #[error("there is no site {0}")]
+    NoSite(String),
+    /// The case drops, or replaces a text in, a file that its folder hasn't.
+    #[error("there is no file {0}")]
+    NoFile(String),
+    /// A text to be replaced doesn't stand once in its file.
+    #[error("the text to be replaced doesn't stand once in its file: {0:?}")]
+    NotOnce(String),
+    /// There was no memory.
+    #[error("no memory")]
+    Memory,
+}
+
+impl From<NoMemory> for CaseFault {
+    fn from(_: NoMemory) -> Self {
+        CaseFault::Memory
+    }
+}
+
+impl From<AllocError> for CaseFault {
+    fn from(_: AllocError) -> Self {
+        CaseFault::Memory
+    }
+}
+
+impl<T: Drop> From<AllocFailed<T>> for CaseFault {
+    fn from(_: AllocFailed<T>) -> Self {
+        CaseFault::Memory
+    }
+}
