@@ -19,7 +19,7 @@ use Rattle.farm_turn.specs.Views.{all_known, one, spent, joined, every, turns, e
 use Rattle.farm_turn.specs.Turning.{IsHome, IsOne, IsTurn, KeepsTurn}
 use Rattle.farm_turn.specs.Steps.{took, counted, gave, Precedes, TakesTurn, CountsEntry, GivesTurnBack, EnrolsPass}
 use Rattle.farm_turn.proofs.Lists.{All-middle, All-three, sum_by-three}
-use Rattle.farm_turn.proofs.Places.{Placed, place, all_known-push}
+use Rattle.farm_turn.proofs.Positions.{Positioned, position, all_known-push}
 use Rattle.farm_turn.proofs.Keeps.{take_keeps, count_keeps, give_keeps, enrol_keeps, split_keeps, order_keeps, one_has}
 
 module _ {V E R : Type 0} (f : Features V E R) (opening : V) where
@@ -40,8 +40,8 @@ module _ {V E R : Type 0} (f : Features V E R) (opening : V) where
       → Allows (KeepsTurn f opening) 1 id (one k, []) 0 (λ n. either (n == 0) 1 n) (TakesTurn f (Some (f.root opening)) (step 0 0 0 0 none) (one k, []))
   takes_turn id k numbered s h deep at small = cases (slice_index s.words 0) refl
     where
-      p : Placed s.views id (one k)
-      p = place s.views id (one k) at
+      p : Positioned s.views id (one k)
+      p = position s.views id (one k) at
 
       h' : IsTurn f opening s.words s.homes (p.before ++ k ∷ p.after)
       h' = moved refl refl (sym p.here) h
@@ -75,7 +75,7 @@ module _ {V E R : Type 0} (f : Features V E R) (opening : V) where
       → k.holds ≡ true → k.number ≡ Some n → GrowsBy f.caller_of n k.seen new → length k.seen + count ≡ length new → length new < 2 ^ 63 → k.mark ≤ mark
       → Allows (KeepsTurn f opening) 1 id (one k, held) 1 (λ m. (m + count) % 2 ^ 64) (CountsEntry new raised mark (step 0 0 0 0 none) (one k, held))
   counts_entry id k held new raised mark n count holds number grows total room up s h deep at small =
-      let p = place s.views id (one k) at in
+      let p = position s.views id (one k) at in
       let h' : IsTurn f opening s.words s.homes (p.before ++ k ∷ p.after) = moved refl refl (sym p.here) h in
       let one' = (one_has f opening s.words s.homes p.before k p.after h' holds).2 in
       let mine = All-middle (IsOne f opening h'.past h'.tally h'.mark) p.before k p.after h'.each in
@@ -100,7 +100,7 @@ module _ {V E R : Type 0} (f : Features V E R) (opening : V) where
       → k.holds ≡ true → f.past value ≡ k.seen → Some (f.root value) ≡ k.root → f.tally value ≡ k.level → f.mark value ≡ k.mark
       → Allows (KeepsTurn f opening) 1 id (one k, (0, Some value) ∷ []) 0 (λ _. 0) (GivesTurnBack (step 0 0 0 0 none) (one k, (0, Some value) ∷ []))
   gives_turn id k value holds past_is root_is tally_is mark_is s h deep at small =
-      let p = place s.views id (one k) at in
+      let p = position s.views id (one k) at in
       let h' : IsTurn f opening s.words s.homes (p.before ++ k ∷ p.after) = moved refl refl (sym p.here) h in
       let one' = (one_has f opening s.words s.homes p.before k p.after h' holds).2 in
       let w : View E R = one (gave k) in (
@@ -116,7 +116,7 @@ module _ {V E R : Type 0} (f : Features V E R) (opening : V) where
   pub enrols_pass : (id : ℕ) (k : Known E R) → k.holds ≡ false → k.number ≡ None → k.next < k.end
       → Allows (KeepsTurn f opening) 1 id (one k, []) 0 (λ n. n) (EnrolsPass (step 0 0 0 0 none) (one k, []))
   enrols_pass id k idle none' left s h deep at small =
-      let p = place s.views id (one k) at in
+      let p = position s.views id (one k) at in
       let h' : IsTurn f opening s.words s.homes (p.before ++ k ∷ p.after) = moved refl refl (sym p.here) h in
       let w : View E R = one (enrolled k) in (
         w,
@@ -129,7 +129,7 @@ module _ {V E R : Type 0} (f : Features V E R) (opening : V) where
   -- a seat is split
   pub splits_pass : (id : ℕ) (k : Known E R) → k.holds ≡ false → k.next + 1 < k.end → Splits (KeepsTurn f opening) id (one k) (one (without_least k)) (one (split_off k))
   splits_pass id k idle left s h at =
-      let p = place s.views id (one k) at in
+      let p = position s.views id (one k) at in
       let h' : IsTurn f opening s.words s.homes (p.before ++ k ∷ p.after) = moved refl refl (sym p.here) h in
       let w : View E R = one (without_least k) in
       moved refl refl (all_known-push (set s.views id w) (one (split_off k)) ∙ ap (λ l. l ++ split_off k ∷ []) (p.changed w)) (split_keeps f opening s.words s.homes p.before k p.after h' idle left)
@@ -137,12 +137,12 @@ module _ {V E R : Type 0} (f : Features V E R) (opening : V) where
   -- a seat takes in another: the rule speaks of the same passes in another order
   pub joins_pass : (id : ℕ) (v : View E R) (other : ℕ) (w : View E R) → Joins (KeepsTurn f opening) id v other w (joined v w) spent
   joins_pass id v other w s h at apart there =
-      let p = place s.views id v at in
+      let p = position s.views id v at in
       let both : View E R = joined v w in
-      let q = place (set s.views id both) other w there in
+      let q = position (set s.views id both) other w there in
       let middle : q.before ++ (w.known ++ q.after) ≡ p.before ++ ((v.known ++ w.known) ++ p.after) = sym q.here ∙ p.changed both in
       let theirs : get_elem? s.views other ≡ some w = sym (set_else s.views id other both apart) ∙ there in
-      let r = place s.views other w theirs in
+      let r = position s.views other w theirs in
       order_keeps f opening s.words s.homes (all_known s.views) (all_known (set (set s.views id both) other spent)) h
       (λ g.
       let new = ap (sum_by g) (q.changed spent) ∙ sum_by-append g q.before q.after in

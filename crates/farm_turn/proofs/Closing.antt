@@ -1,6 +1,9 @@
 -- The value at the end, where all passes came back.
-use Rattle.std.proofs.Common.{◌≡◌, ℕ, ◌+◌, ◌<◌, ◌≤◌, false, List, [], ◌∷◌, ◌++◌, map, refl, sym, ap, ◌∙◌, subst, arith, append-nil}
-use Rattle.std.specs.Prelude.{All, sum_by, Option, Some}
+use Rattle.std.proofs.Common.{◌≡◌, ℕ, suc, ◌+◌, ◌<◌, ◌≤◌, ◌==◌, ◌⊎◌, inl, inr, ⊎_elim, false, List, [], ◌∷◌, ◌++◌, map, refl, sym, ap, ◌∙◌, subst, arith, append-nil}
+use Rattle.std.proofs.lemmas.Bool.Decides.{nat_tests}
+use mathlib.Core.Logic.{dite}
+use native.Mathlib.Decide.{ℕ_discrete}
+use Rattle.std.specs.Prelude.{All, Any, sum_by, Option, Some, None}
 use Rattle.std.proofs.lemmas.List.Sums.{sum_by-cons}
 use Rattle.std.proofs.lemmas.List.Elements.{All-cons, All-nil, All-head, All-tail, All-weaker}
 use mathlib.Core.Option as maybe
@@ -11,11 +14,11 @@ use Rattle.atomic_table.specs.Table.{Final, Seen}
 use Rattle.farm_turn.specs.declared.views.Known.{Known}
 use Rattle.farm_turn.specs.declared.views.View.{View}
 use Rattle.farm_turn.specs.Chronicles.{Features, since, entries_of}
-use Rattle.farm_turn.specs.Views.{PassView, together, number_limit, turns, owns, has, numbers_of}
+use Rattle.farm_turn.specs.Views.{PassView, together, number_limit, turns, number_is, owns, has, numbers_of}
 use Rattle.farm_turn.specs.Turning.{IsOne, IsTurn, KeepsTurn}
 use Rattle.farm_turn.specs.Sharing.{IsClosed}
 use Rattle.farm_turn.proofs.Lists.{no_elements, All-three, sum_by-three}
-use Rattle.farm_turn.proofs.Places.{place}
+use Rattle.farm_turn.proofs.Positions.{position}
 use Rattle.farm_turn.proofs.Numbers.{turns_false}
 
 -- a sum over what the elements give
@@ -27,6 +30,23 @@ sum_by-map g h (x ∷ xs) = omega (arith, sum_by-cons g (h x) (map h xs), sum_by
 All-mapped : {X Y : Type 0} (P : Y → Type 0) (h : X → Y) (xs : List X) → All P (map h xs) → All (λ x. P (h x)) xs
 All-mapped P h [] all = All-nil (λ x. P (h x))
 All-mapped P h (x ∷ xs) all = All-cons (λ x. P (h x)) x xs (All-head P (h x) (map h xs) all) (All-mapped P h xs (All-tail P (h x) (map h xs) all))
+
+any_more : {X : Type 0} (P : X → Type 0) (x : X) (xs : List X) → Any P xs → Any P (x ∷ xs)
+any_more P x xs h = (suc h.0, h.1, (let lt = h.2 in omega arith), h.3, h.4)
+
+-- a number counts for nothing where it isn't this one
+number_cases : (n : ℕ) (o : Option ℕ) → (number_is n o ≡ 0) ⊎ (o ≡ Some n)
+number_cases n None = inl refl
+number_cases n (Some m) = dite (ℕ_discrete m n) (λ e. inr (ap Some e)) (λ ne. inl (let t : (m == n) ≡ false = grind (arith, nat_tests) in rw t refl))
+
+-- where a number counts, some element has it
+owner : {X : Type 0} (h : X → Option ℕ) (n : ℕ) (xs : List X) → 0 < sum_by (λ x. number_is n (h x)) xs → Any (λ x. h x ≡ Some n) xs
+owner h n [] pos = absurd (omega arith)
+owner h n (x ∷ xs) pos =
+    ⊎_elim
+    (λ (zero' : number_is n (h x) ≡ 0). any_more (λ y. h y ≡ Some n) x xs (owner h n xs (let s = sum_by-cons (λ y. number_is n (h y)) x xs in omega arith)))
+    (λ (is : h x ≡ Some n). (0, x, omega arith, refl, is))
+    (number_cases n (h x))
 
 module _ {E R : Type 0} where
   -- passes none of which has the turn
@@ -64,10 +84,11 @@ module _ {V E R : Type 0} (f : Features V E R) (opening : V) where
         marks = All-weaker P (λ p. p.known.mark ≤ f.mark home.value) (λ p o. subst (λ m. p.known.mark ≤ m) (sym home.mark_is) o.mark_seen) passes each;
         tally = home.tally_is ∙ (h.tallies ∙ ap (λ n. f.tally opening + n) (sum_by-map (λ k. k.tally) known passes));
         numbers = λ x. sym (sum_by-map (has x) known passes) ∙ h.numbers x;
-        own = All-weaker P (λ p. p.known.own ≡ entries_of f.caller_of p.known.number (since (f.past opening) (f.past home.value)))
-            (λ p o. o.own ∙ ap (λ l. entries_of f.caller_of p.known.number (since (f.past opening) l)) (sym home.past_is)) passes each;
-        callers = subst (λ l. All (λ e. 0 < sum_by (λ p. owns (f.caller_of e) p.known) passes) (since (f.past opening) l)) (sym home.past_is)
-            (All-weaker (λ e. 0 < sum_by (owns (f.caller_of e)) (map known passes)) (λ e. 0 < sum_by (λ p. owns (f.caller_of e) p.known) passes) (λ e o. let m = sum_by-map (owns (f.caller_of e)) known passes in omega arith)
+        own_entries = All-weaker P (λ p. p.known.own ≡ entries_of f.caller_of p.known.number (since (f.past opening) (f.past home.value)))
+            (λ p o. o.own_entries ∙ ap (λ l. entries_of f.caller_of p.known.number (since (f.past opening) l)) (sym home.past_is)) passes each;
+        callers = subst (λ l. All (λ e. Any (λ p. p.known.number ≡ Some (f.caller_of e)) passes) (since (f.past opening) l)) (sym home.past_is)
+            (All-weaker (λ e. 0 < sum_by (owns (f.caller_of e)) (map known passes)) (λ e. Any (λ p. p.known.number ≡ Some (f.caller_of e)) passes)
+            (λ e o. owner (λ (p : PassView E R). p.known.number) (f.caller_of e) passes (let m = sum_by-map (owns (f.caller_of e)) known passes in omega arith))
             (since (f.past opening) h.past) h.callers);
       }
 
@@ -83,9 +104,9 @@ module _ {V E R : Type 0} (f : Features V E R) (opening : V) where
   ends passes v words slots id found all free is last at =
       let s = last.0 in
       let ks = map (λ (p : PassView E R). p.known) passes in
-      let p = place s.views id (together passes) (last.1.1 ∙ ap some is) in
-      let placed : IsTurn f opening s.words s.homes (p.before ++ (ks ++ p.after)) = subst (IsTurn f opening s.words s.homes) p.here last.1.0 in
-      let whole : IsTurn f opening s.words s.homes ks = subst (IsTurn f opening s.words s.homes) (only_these s.words s.homes p.before ks p.after placed (sum_by-map numbers_of (λ q. q.known) passes ∙ all)) placed in
+      let p = position s.views id (together passes) (last.1.1 ∙ ap some is) in
+      let standing : IsTurn f opening s.words s.homes (p.before ++ (ks ++ p.after)) = subst (IsTurn f opening s.words s.homes) p.here last.1.0 in
+      let whole : IsTurn f opening s.words s.homes ks = subst (IsTurn f opening s.words s.homes) (only_these s.words s.homes p.before ks p.after standing (sum_by-map numbers_of (λ q. q.known) passes ∙ all)) standing in
       let idle = all_idle passes free in
       let home = whole.at_home idle in
       let here : get_elem? slots 0 ≡ some (Some home.value) = last.4 0 (Some home.value) (ap (λ hs. get_elem? hs 0) home.home) in

@@ -1,4 +1,4 @@
--- Each step of a turn keeps the rule, at the place of the pass that makes it.
+-- Each step of a turn keeps the rule, at the position of the pass that makes it.
 use Rattle.std.proofs.Common.{◌≡◌, ℕ, ◌+◌, ◌<◌, ◌≤◌, true, false, List, [], ◌∷◌, ◌++◌, length, refl, sym, ap, ◌∙◌, subst, arith, le_trans, true≢false}
 use Rattle.std.specs.Prelude.{All, sum_by, Option, Some, None, IsSome}
 use Rattle.std.proofs.lemmas.List.Elements.{All-append, All-cons, All-nil}
@@ -44,7 +44,7 @@ module _ {V E R : Type 0} (f : Features V E R) (opening : V) where
               root_is = mine.root_is;
               mark_seen = omega (arith, home.mark_is);
               numbered = mine.numbered;
-              own = mine.own;
+              own_entries = mine.own_entries;
               holder = λ _. record { enrolled = numbered; seen = home.past_is; level = home.tally_is; mark_is = home.mark_is };
             });
         tallies = h.tallies ∙ ap (λ n. f.tally opening + n) (sym (same (λ x. x.tally) refl));
@@ -107,7 +107,7 @@ module _ {V E R : Type 0} (f : Features V E R) (opening : V) where
               root_is = p.root_is;
               mark_seen = le_trans p.mark_seen rises;
               numbered = p.numbered;
-              own = p.own ∙ sym (other_entries f.caller_of n z.number (f.past opening) h.past new h.begins grew (number_is-apart n z.number (let e = o.apart in omega arith)));
+              own_entries = p.own_entries ∙ sym (other_entries f.caller_of n z.number (f.past opening) h.past new h.begins grew (number_is-apart n z.number (let e = o.apart in omega arith)));
               holder = λ t. absurd (holds_false z o.idle t);
             })
             (others n a idle.0 apart.0)
@@ -118,7 +118,7 @@ module _ {V E R : Type 0} (f : Features V E R) (opening : V) where
               root_is = mine.root_is;
               mark_seen = omega arith;
               numbered = mine.numbered;
-              own = ap (λ l. l ++ since k.seen new) (mine.own ∙ ap (λ o. entries_of f.caller_of o (since (f.past opening) h.past)) number)
+              own_entries = ap (λ l. l ++ since k.seen new) (mine.own_entries ∙ ap (λ o. entries_of f.caller_of o (since (f.past opening) h.past)) number)
                   ∙ (ap (λ l. entries_of f.caller_of (Some n) (since (f.past opening) h.past) ++ since l new) holder.seen
                   ∙ (sym (own_entries f.caller_of n (f.past opening) h.past new h.begins grew) ∙ ap (λ o. entries_of f.caller_of o (since (f.past opening) new)) (sym number)));
               holder = λ _. record { enrolled = holder.enrolled; seen = refl; level = ap (λ m. m + raised) holder.level; mark_is = refl };
@@ -156,7 +156,7 @@ module _ {V E R : Type 0} (f : Features V E R) (opening : V) where
         one_turn = omega arith;
         begins = h.begins;
         each = All-same_others P a k k' b h.each
-            (record { seen = mine.seen; root_is = mine.root_is; mark_seen = mine.mark_seen; numbered = mine.numbered; own = mine.own; holder = λ t. absurd (true≢false (sym t)) });
+            (record { seen = mine.seen; root_is = mine.root_is; mark_seen = mine.mark_seen; numbered = mine.numbered; own_entries = mine.own_entries; holder = λ t. absurd (true≢false (sym t)) });
         tallies = h.tallies ∙ ap (λ n. f.tally opening + n) (sym (same (λ x. x.tally) refl));
         numbers = λ x. same (has x) refl ∙ h.numbers x;
         count = same numbers_of refl ∙ h.count;
@@ -208,7 +208,7 @@ module _ {V E R : Type 0} (f : Features V E R) (opening : V) where
               root_is = mine.root_is;
               mark_seen = mine.mark_seen;
               numbered = let n = numbers_of_enrolled k none' left in let o = mine.numbered in omega arith;
-              own = mine.own ∙ (ap (λ o. entries_of f.caller_of o (since (f.past opening) h.past)) none'
+              own_entries = mine.own_entries ∙ (ap (λ o. entries_of f.caller_of o (since (f.past opening) h.past)) none'
                   ∙ sym (no_entries f.caller_of k.next (since (f.past opening) h.past) (λ i d lt same'. let p = h.callers i d lt in let q = ap (λ m. sum_by (owns m) (a ++ k ∷ b)) same' in omega arith)));
               holder = λ t. absurd (true≢false (sym t ∙ idle));
             });
@@ -249,11 +249,11 @@ module _ {V E R : Type 0} (f : Features V E R) (opening : V) where
               root_is = mine.root_is;
               mark_seen = mine.mark_seen;
               numbered = omega arith;
-              own = mine.own;
+              own_entries = mine.own_entries;
               holder = λ t. absurd (true≢false (sym t ∙ idle));
             }))
             (All-cons P new []
-            (record { seen = mine.seen; root_is = mine.root_is; mark_seen = mine.mark_seen; numbered = omega arith; own = refl; holder = λ t. absurd (true≢false (sym t)) })
+            (record { seen = mine.seen; root_is = mine.root_is; mark_seen = mine.mark_seen; numbered = omega arith; own_entries = refl; holder = λ t. absurd (true≢false (sym t)) })
             (All-nil P));
         tallies = h.tallies ∙ ap (λ n. f.tally opening + n) (sym (sums (λ x. x.tally) (omega arith)));
         numbers = λ x. sums (has x) (has_split x k less) ∙ h.numbers x;

@@ -1,5 +1,5 @@
 pub mod Lists
-pub mod Places
+pub mod Positions
 pub mod Entries
 pub mod Numbers
 pub mod Keeps

@@ -1,12 +1,12 @@
 -- What the calls of a turn promise.
-use Rattle.std.specs.Prelude.{◌≡◌, ℕ, ◌+◌, ◌<◌, ◌≤◌, List, [], ◌∷◌, ◌++◌, All, sum_by, Some}
+use Rattle.std.specs.Prelude.{◌≡◌, ℕ, ◌+◌, ◌≤◌, List, [], ◌∷◌, ◌++◌, All, Any, sum_by, Some}
 use mathlib.Core.List.{IsPrefix}
 use Rattle.atomic_table.specs.Table.{Me}
 use Rattle.atomic_table.specs.Seated.{TableId}
 use Rattle.farm_turn.specs.Chronicles.{Features, GrowsBy, since, entries_of}
 use Rattle.farm_turn.specs.declared.views.Known.{Known}
 use Rattle.farm_turn.specs.declared.views.View.{View}
-use Rattle.farm_turn.specs.Views.{PassView, known_of, owns, has, is_number}
+use Rattle.farm_turn.specs.Views.{PassView, known_of, has, is_number}
 
 -- a table of a turn has two words and one slot
 abbrev pub IsSized : TableId → Type 0
@@ -39,7 +39,7 @@ module _ {V E R : Type 0} (f : Features V E R) where
     pub mark_seen : old.mark ≤ f.mark before
     pub seen : new.seen ≡ f.past after
     pub mark_is : new.mark ≡ f.mark after
-    pub own : new.own ≡ old.own ++ since (f.past before) (f.past after)
+    pub own_entries : new.own ≡ old.own ++ since (f.past before) (f.past after)
     pub tally : new.tally + f.tally before ≡ old.tally + f.tally after
 
   -- the value at the end, of the passes that were handed in
@@ -50,5 +50,5 @@ module _ {V E R : Type 0} (f : Features V E R) where
     pub marks : All (λ p. p.known.mark ≤ f.mark value) passes
     pub tally : f.tally value ≡ f.tally opening + sum_by (λ p. p.known.tally) passes
     pub numbers : (x : ℕ) → sum_by (λ p. has x p.known) passes ≡ is_number x
-    pub own : All (λ p. p.known.own ≡ entries_of f.caller_of p.known.number (since (f.past opening) (f.past value))) passes
-    pub callers : All (λ entry. 0 < sum_by (λ p. owns (f.caller_of entry) p.known) passes) (since (f.past opening) (f.past value))
+    pub own_entries : All (λ p. p.known.own ≡ entries_of f.caller_of p.known.number (since (f.past opening) (f.past value))) passes
+    pub callers : All (λ entry. Any (λ p. p.known.number ≡ Some (f.caller_of entry)) passes) (since (f.past opening) (f.past value))

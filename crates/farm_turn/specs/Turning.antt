@@ -32,7 +32,7 @@ module _ {V E R : Type 0} (f : Features V E R) where
     pub root_is : k.root ≡ Some (f.root opening)
     pub mark_seen : k.mark ≤ mark
     pub numbered : 0 < numbers_of k
-    pub own : k.own ≡ entries_of f.caller_of k.number (since (f.past opening) past)
+    pub own_entries : k.own ≡ entries_of f.caller_of k.number (since (f.past opening) past)
     pub holder : k.holds ≡ true → IsHolder past tally mark k
 
   -- the rule, of the words, of the slot, and of what all passes know

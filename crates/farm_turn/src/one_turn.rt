@@ -48,7 +48,7 @@ fn take_value<V: Chronicle>(shared: &SharedOf<V>, seat: &mut SeatOf<V>) -> V
     requires fits { seat.old.table_id ≡ shared.now.table_id }
     requires held { (value : V) × (seat.old.me ≡ (seat.old.me.0, (0, Some value) ∷ [])) }
     ensures seat { (seat.new.table_id ≡ seat.old.table_id) × (seat.new.id ≡ seat.old.id) }
-    ensures value { seat.old.me ≡ (seat.old.me.0, (0, Some result) ∷ []) }
+    ensures found { seat.old.me ≡ (seat.old.me.0, (0, Some result) ∷ []) }
     ensures out { seat.new.me ≡ (seat.old.me.0, (0, None) ∷ []) }
 {
     let found = shared.exchange(seat, 0, None);

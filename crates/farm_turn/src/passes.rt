@@ -9,6 +9,8 @@ use atomic_table::{Badge, Seat};
 use std::marker::Model;
 
 /// What one caller takes its turns with. A contract sees the turn that it is of, and what it knows.
+///
+/// It is `Send`, and has the bytes of its numbers alone.
 #[derive(Drop)]
 pub struct Pass<E, R> {
     pub(crate) badge: Badge<View<E, R>>,
@@ -47,7 +49,7 @@ impl<E, R> Pass<E, R> {
         requires numbers { ((only seat.me).number ≡ number) × ((only seat.me).next ≡ next) × ((only seat.me).end ≡ end) }
         requires free { (only seat.me).holds ≡ false }
         requires order { next ≤ end }
-        ensures turn { result.turn ≡ seat.table_id }
+        ensures same_turn { result.turn ≡ seat.table_id }
         ensures known { result.known ≡ only seat.me }
     {
         Pass {
@@ -60,7 +62,7 @@ impl<E, R> Pass<E, R> {
 
     /// The seat of the pass.
     pub(crate) fn into_seat<S>(self) -> Seat<S, View<E, R>>
-        ensures turn { result.table_id ≡ self.turn }
+        ensures same_turn { result.table_id ≡ self.turn }
         ensures one { result.me ≡ (one self.known, []) }
         ensures free { self.known.holds ≡ false }
     {

@@ -22,6 +22,8 @@ use std::sync::atomic::AtomicU64;
 pub type PassOf<V> = Pass<<V as Chronicle>::Entry, <V as Chronicle>::Root>;
 
 /// One value that many callers share, each of which waits for its turn. A contract sees the value that it was opened with.
+///
+/// It is `Send` and `Sync` where the value is `Send`.
 #[derive(Drop)]
 pub struct Turn<V: Chronicle> {
     table: Table<Option<V>, ViewOf<V>, Snapshot<V>, TurnRule, Global>,
@@ -93,7 +95,7 @@ impl<V: Chronicle> Turn<V> {
     /// Out of memory is the one refusal; it hands the value back.
     pub fn new(alloc: Global, value: V) -> Result<(Turn<V>, PassOf<V>), (V, NoMemory)>
         ensures opening { IfOk result (λ made. made.0.opening ≡ value) }
-        ensures pass { IfOk result (λ made. made.1.turn ≡ made.0.turn) }
+        ensures of_the_turn { IfOk result (λ made. made.1.turn ≡ made.0.turn) }
         ensures known { IfOk result (λ made. made.1.known ≡ first_known (features V.past V.caller_of V.root V.tally V.mark) value) }
         ensures numbers_in_all { IfOk result (λ made. numbers_of made.1.known ≡ number_limit) }
         ensures handed_back { IfErr result (λ back. back.0 ≡ value) }
@@ -125,7 +127,7 @@ impl<V: Chronicle> Turn<V> {
     pub fn split(&self, pass: &mut PassOf<V>) -> Result<PassOf<V>, NoMemory>
         requires of_this_turn { pass.old.turn ≡ self.now.turn }
         requires two_left { 2 ≤ left_of pass.old.known }
-        ensures turn { (pass.new.turn ≡ pass.old.turn) × IfOk result (λ new. new.turn ≡ pass.old.turn) }
+        ensures same_turn { (pass.new.turn ≡ pass.old.turn) × IfOk result (λ new. new.turn ≡ pass.old.turn) }
         ensures new { IfOk result (λ new. new.known ≡ split_off pass.old.known) }
         ensures kept { OnOk result (pass.new.known ≡ without_least pass.old.known) }
         ensures numbers_in_all { IfOk result (λ new. numbers_of new.known + numbers_of pass.new.known ≡ numbers_of pass.old.known) }
@@ -148,7 +150,7 @@ impl<V: Chronicle> Turn<V> {
         ensures number { result ≡ pass.old.known.next }
         ensures known { pass.new.known ≡ enrolled pass.old.known }
         ensures numbers_in_all { numbers_of pass.new.known ≡ numbers_of pass.old.known }
-        ensures turn { pass.new.turn ≡ pass.old.turn }
+        ensures same_turn { pass.new.turn ≡ pass.old.turn }
     {
         let mut seat = mem::replace(&mut pass.badge, Badge::blank()).into_seat();
         self.table.shared.load::<EnrolPass>(&mut seat, 0);
@@ -168,7 +170,7 @@ impl<V: Chronicle> Turn<V> {
         ensures turned { Turned (features V.past V.caller_of V.root V.tally V.mark) J.does self.now.opening job.old job.new pass.old.known pass.new.known }
         ensures numbers { KeepsNumbers pass.old.known pass.new.known }
         ensures numbers_in_all { numbers_of pass.new.known ≡ numbers_of pass.old.known }
-        ensures turn { pass.new.turn ≡ pass.old.turn }
+        ensures same_turn { pass.new.turn ≡ pass.old.turn }
     {
         let Some(caller) = pass.number else {
             unreachable!()

@@ -10,7 +10,7 @@ join_seat-requires g c =
     let t = g.V.Chronicle in
     let i = c.loop-pass.invariant in
     let turn = All-pop (λ p. p.turn ≡ c.args.shared.now.table_id) c.loop-pass.passes.items c.pop-in-loop-pass.new.self.items (Some c.in-Some.pass) c.in-Some.ensures.items i.5 in (
-      c.into_seat-front.ensures.turn ∙ turn.1,
+      c.into_seat-front.ensures.same_turn ∙ turn.1,
       i.2,
       ap (λ me. me.1) i.3,
       omega (arith, c.requires.sized.0),
@@ -26,7 +26,7 @@ loop-pass-preserved g c =
     let j = c.join_seat.ensures in (
       c.in-Some.pass ∷ i.0,
       sym (append_assoc left (c.in-Some.pass ∷ []) i.0) ∙ (ap (λ l. l ++ i.0) (sym items) ∙ i.1),
-      j.0 ∙ (c.into_seat-front.ensures.turn ∙ turn.1),
+      j.0 ∙ (c.into_seat-front.ensures.same_turn ∙ turn.1),
       j.2 ∙ ap₂ (λ a b. (joined a.0 b.0, a.1)) c.into_seat-front.ensures.one i.3,
       All-cons (λ p. p.known.holds ≡ false) c.in-Some.pass i.0 c.into_seat-front.ensures.free i.4,
       turn.0,

@@ -13,8 +13,8 @@ loop-preserved g c =
     let e = c.turn.ensures in
     let t = e.turned in
     let more = length_since (λ x. x) t.caller t.before.callers.items t.after.callers.items t.grows in
-    let own = ap length t.own ∙ length-append c.loop.pass.known.own (since t.before.callers.items t.after.callers.items) in (
-      e.turn ∙ i.0,
+    let own = ap length t.own_entries ∙ length-append c.loop.pass.known.own (since t.before.callers.items t.after.callers.items) in (
+      e.same_turn ∙ i.0,
       e.numbers.number ∙ i.1,
       e.numbers_in_all ∙ i.2,
       omega (arith, t.ran),

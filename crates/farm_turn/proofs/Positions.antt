@@ -9,17 +9,17 @@ use Rattle.farm_turn.specs.Views.{all_known}
 
 module _ {E R : Type 0} where
   -- what the passes of one seat know stands between what those before and those after it know
-  pub record Placed (views : List (View E R)) (id : ℕ) (v : View E R) : Type 0 where
+  pub record Positioned (views : List (View E R)) (id : ℕ) (v : View E R) : Type 0 where
     pub before : List (Known E R)
     pub after : List (Known E R)
     pub here : all_known views ≡ before ++ (v.known ++ after)
     pub changed : (w : View E R) → all_known (set views id w) ≡ before ++ (w.known ++ after)
 
-  pub place : (views : List (View E R)) (id : ℕ) (v : View E R) → get_elem? views id ≡ some v → Placed views id v
-  place [] id v e = absurd (some-ne-none v (sym e))
-  place (x ∷ xs) zero v e = record { before = []; after = all_known xs; here = ap (λ u. u.known ++ all_known xs) (some-injective x v e); changed = λ w. refl }
-  place (x ∷ xs) (suc id) v e =
-      let p = place xs id v e in
+  pub position : (views : List (View E R)) (id : ℕ) (v : View E R) → get_elem? views id ≡ some v → Positioned views id v
+  position [] id v e = absurd (some-ne-none v (sym e))
+  position (x ∷ xs) zero v e = record { before = []; after = all_known xs; here = ap (λ u. u.known ++ all_known xs) (some-injective x v e); changed = λ w. refl }
+  position (x ∷ xs) (suc id) v e =
+      let p = position xs id v e in
       record {
         before = x.known ++ p.before;
         after = p.after;
