@@ -35,6 +35,8 @@ module _ {V E R : Type 0} (f : Features V E R) where
     pub grows : GrowsBy f.caller_of caller (f.past before) (f.past after)
     pub root_before : f.root before ≡ f.root opening
     pub root_after : f.root after ≡ f.root opening
+    pub tally_rises : f.tally before ≤ f.tally after
+    pub mark_rises : f.mark before ≤ f.mark after
     pub begins : IsPrefix old.seen (f.past before)
     pub mark_seen : old.mark ≤ f.mark before
     pub seen : new.seen ≡ f.past after

@@ -176,6 +176,7 @@ fn run_job<V: Chronicle, J: Job<V>>(
     ensures past { GrowsBy V.caller_of caller (V.past value.old) (V.past value.new) }
     ensures root { V.root value.new ≡ V.root value.old }
     ensures tally { V.tally value.old ≤ V.tally value.new }
+    ensures mark { V.mark value.old ≤ V.mark value.new }
     ensures counted { seat.new.me ≡ (one (counted (V.past value.new) (V.tally value.new - V.tally value.old) (V.mark value.new) (only seat.old.me)), (0, None) ∷ []) }
 {
     let before = value.len();
