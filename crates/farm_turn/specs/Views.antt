@@ -1,5 +1,5 @@
 -- What the passes of one turn know: what each has seen, its caller numbers, and what its jobs did.
-use Rattle.std.specs.Prelude.{ℕ, ◌+◌, ◌-◌, ◌==◌, nat_le, nat_lt, ◌&&◌, if◌then◌else◌, false, List, [], ◌∷◌, ◌++◌, map, Option, Some, None}
+use Rattle.std.specs.Prelude.{◌≡◌, ℕ, ◌+◌, ◌-◌, ◌≤◌, ◌==◌, nat_le, nat_lt, ◌&&◌, if◌then◌else◌, false, List, [], ◌∷◌, ◌++◌, map, Option, Some, None}
 pub use Rattle.atomic_table.specs.Seated.{TableId}
 use Rattle.farm_turn.specs.declared.views.Known.{Known}
 use Rattle.farm_turn.specs.declared.views.View.{View}
@@ -64,6 +64,11 @@ leaves x k = if nat_le k.next x && nat_lt x k.end then 1 else 0
 -- 1 where x is a number of the pass, its own or left
 abbrev pub has : {E R : Type 0} → ℕ → Known E R → ℕ
 has x k = owns x k + leaves x k
+
+-- x is among the numbers that the pass has left, and none of these is less
+pub record IsLeastLeft {E R : Type 0} (x : ℕ) (k : Known E R) : Type 0 where
+  pub is_left : leaves x k ≡ 1
+  pub least : (y : ℕ) → leaves y k ≡ 1 → x ≤ y
 
 -- how many numbers a pass has left
 abbrev pub left_of : {E R : Type 0} → Known E R → ℕ

@@ -2,7 +2,7 @@
 
 ghost use Rattle.std.specs.Prelude.{◌≡◌, ◌+◌, ◌<◌, ◌≤◌, None, Some, IsSome, IsOk, IfOk, IfErr, IfSome, IfNone, false, OnOk, OnErr, All, sum_by, [], ◌∷◌, map};
 ghost use Rattle.farm_turn.specs.Chronicles.{features};
-ghost use Rattle.farm_turn.specs.Views.{number_limit, first_known, left_of, enrolled, without_least, split_off, numbers_of, together};
+ghost use Rattle.farm_turn.specs.Views.{number_limit, first_known, left_of, IsLeastLeft, enrolled, without_least, split_off, numbers_of, together};
 ghost use Rattle.farm_turn.specs.Sharing.{Turned, KeepsNumbers, IsClosed, IsSized};
 
 use crate::chronicles::{Chronicle, Job};
@@ -129,6 +129,7 @@ impl<V: Chronicle> Turn<V> {
         requires two_left { 2 ≤ left_of pass.old.known }
         ensures same_turn { (pass.new.turn ≡ pass.old.turn) × IfOk result (λ new. new.turn ≡ pass.old.turn) }
         ensures new { IfOk result (λ new. new.known ≡ split_off pass.old.known) }
+        ensures least { IfOk result (λ new. IsLeastLeft new.known.next pass.old.known × (left_of new.known ≡ 1)) }
         ensures kept { OnOk result (pass.new.known ≡ without_least pass.old.known) }
         ensures numbers_in_all { IfOk result (λ new. numbers_of new.known + numbers_of pass.new.known ≡ numbers_of pass.old.known) }
         ensures as_before { OnErr result (pass.new ≡ pass.old) }
@@ -148,6 +149,7 @@ impl<V: Chronicle> Turn<V> {
         requires not_enrolled { pass.old.known.number ≡ None }
         requires one_left { 1 ≤ left_of pass.old.known }
         ensures number { result ≡ pass.old.known.next }
+        ensures least { IsLeastLeft result pass.old.known }
         ensures known { pass.new.known ≡ enrolled pass.old.known }
         ensures numbers_in_all { numbers_of pass.new.known ≡ numbers_of pass.old.known }
         ensures same_turn { pass.new.turn ≡ pass.old.turn }
