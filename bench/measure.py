@@ -65,3 +65,7 @@ if os.path.exists(tables):
 compare("the issued tables of 64 table files, awk", [*TABLE, f"{WORK}/tables"], ["awk", "-f", f"{TOP}/bench/rows.awk"], 40)
 compare("the issued tables of 64 strapping files, C", [*TABLE, f"{WORK}/strappings"], [f"{WORK}/strapped"], 40)
 print(f"a site with every list at its limit: {least([*TABLE, f'{WORK}/limits'], 3):.0f} ms, {kilobytes([*TABLE, f'{WORK}/limits'], '/dev/null')} KB")
+LOG = f"{TOP}/crates/shared_log/out/shared_log"
+for callers, turns in ((1, 200_000), (4, 50_000)):
+    words = [str(callers), str(turns), "500"]
+    compare(f"200,000 turns of a microsecond, {callers} thread(s), a Mutex", [LOG, *words], [f"{WORK}/turns", *words], 9)

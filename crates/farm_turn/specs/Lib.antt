@@ -1,0 +1,5 @@
+pub mod Chronicles
+pub mod Views
+pub mod Turning
+pub mod Steps
+pub mod Sharing
