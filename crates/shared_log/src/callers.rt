@@ -39,7 +39,7 @@ pub fn append_all<R: Wait>(rt: &R, turn: &Turn<Log>, pass: &mut LogPass, shift: 
     job.appended
 }
 
-/// Lets each pass take the turns of a shift, by at most so many threads.
+/// Lets each pass take the turns of a shift, by at most `threads` threads.
 pub fn all_append<R: Threads + Wait + Sync>(
     rt: &R,
     turn: &Turn<Log>,
@@ -62,7 +62,7 @@ pub fn all_append<R: Threads + Wait + Sync>(
     );
 }
 
-/// Cuts a pass into so many passes, each enrolled.
+/// Splits a pass into `callers` passes, each enrolled.
 pub fn enrolled_passes(
     alloc: Global,
     turn: &Turn<Log>,
@@ -86,7 +86,7 @@ pub fn enrolled_passes(
     Ok(passes)
 }
 
-/// The log after each of so many callers worked a shift.
+/// The log after each of `callers` callers worked a shift.
 pub fn day<R: Threads + Wait + Sync>(
     rt: &R,
     alloc: Global,

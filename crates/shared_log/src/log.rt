@@ -42,7 +42,7 @@ impl Chronicle for Log {
     }
 }
 
-// A number that takes so many rounds to find. It is 0 for no one.
+// The number that xorshift reaches after these rounds. It is never 0.
 fn found_after(rounds: u32) -> u64 {
     let mut number: u64 = 88_172_645_463_325_252;
     for _ in 0..rounds {
@@ -53,7 +53,7 @@ fn found_after(rounds: u32) -> u64 {
     number
 }
 
-/// Appends the caller after so many rounds of work, unless memory runs out, and counts what it appended.
+/// Appends the caller after `rounds` rounds of work, unless memory runs out, and counts what it appended.
 #[derive(Drop)]
 pub struct Append {
     pub rounds: u32,

@@ -1,6 +1,6 @@
 //! A log that many callers append to by turns: how many entries each of them appended, and how many caller numbers a pass has left.
 //!
-//! With the words CALLERS TURNS ROUNDS it only lets so many callers, each in a thread, take so many turns with so much work each.
+//! With the words CALLERS TURNS ROUNDS it only lets CALLERS callers, each in a thread, take TURNS turns with ROUNDS rounds of work each.
 #![tactic(auto)]
 
 mod callers;
@@ -15,7 +15,7 @@ use std::sync::Wait;
 use std::thread::Threads;
 use std::{env, io};
 
-// Prints how many entries each of so many callers appended.
+// Prints how many entries each caller appended.
 fn print_counts<R: Print>(rt: &R, log: &Log, callers: u32) -> io::Result<()> {
     let entries = log.callers();
     println!(rt; "{} entries", entries.len())?;
@@ -26,7 +26,7 @@ fn print_counts<R: Print>(rt: &R, log: &Log, callers: u32) -> io::Result<()> {
     Ok(())
 }
 
-// Prints the counts of a day on which each of so many callers worked a shift in a thread.
+// Prints the counts of a day on which each caller worked a shift in a thread.
 fn print_day<R: Threads + Wait + Sync + Print + AllocGlobal>(
     rt: &R,
     callers: u32,
