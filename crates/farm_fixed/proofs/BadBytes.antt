@@ -1,8 +1,6 @@
 -- The first bad byte of a text: the answer of the search is right.
 use Rattle.std.proofs.Common.{◌≡◌, ℕ, ◌+◌, ◌<◌, ◌≤◌, suc, Bool, true, false, if◌then◌else◌, List, [], ◌∷◌, ◌++◌, length, take, Option, Some, None, refl, sym, ap, ◌∙◌, subst, arith}
-use Rattle.farm_fixed.specs.declared.parsing.Position.{Position}
-use Rattle.farm_fixed.specs.declared.parsing.Position.TheVariants.{AtStart}
-use Rattle.farm_fixed.specs.Text.{IsNumber, IsBadAt, after, may_end, bad_then, bad_from, bad_offset}
+use Rattle.farm_fixed.specs.Text.{Position, AtStart, IsNumber, IsBadAt, after, may_end, bad_then, bad_from, bad_offset}
 use Rattle.farm_fixed.proofs.TextLaws.{Rest, completes, ends, ends_not, joins, splits}
 
 -- offset is where a text that follows at a position goes wrong

@@ -6,3 +6,4 @@ pub mod PrintingLaws
 pub mod RoundTrip
 pub mod Values
 mod WholeLaws
+mod DigitRuns

@@ -1,5 +1,5 @@
 -- Reading in the words of the rule, and what a cut value reads as.
-use Rattle.std.proofs.Common.{◌≡◌, ℕ, ◌-◌, ◌^◌, ◌<◌, ◌≤◌, min, Bool, true, false, if◌then◌else◌, List, [], ◌∷◌, ◌++◌, length, replicate, Option, Some, None, Result, Ok, Err, nat_lt, ◌==◌, refl, sym, ap, ◌∙◌, subst, arith, ℤ, pos, negsuc, neg_ℤ, ◌≤ℤ◌}
+use Rattle.std.proofs.Common.{◌≡◌, ℕ, ◌-◌, ◌*◌, ◌^◌, ◌<◌, ◌≤◌, min, Bool, true, false, if◌then◌else◌, List, [], ◌∷◌, ◌++◌, length, replicate, Option, Some, None, Result, Ok, Err, nat_lt, ◌==◌, refl, sym, ap, ◌∙◌, subst, arith, ℤ, pos, negsuc, neg_ℤ, ◌≤ℤ◌}
 use Rattle.std.proofs.lemmas.Bool.Decides.{nat_tests}
 use Rattle.std.proofs.lemmas.Int.{ints}
 use Rattle.std.specs.Int.RustNames.{unsigned_abs}
@@ -12,6 +12,7 @@ use Rattle.farm_fixed.specs.Text.{Number, IsTextOf, bad_offset, signed, value_of
 use Rattle.farm_fixed.specs.Parsing.{number_of, quantity_from, unless_bad, quantity_of, IsReadAs}
 use Rattle.farm_fixed.proofs.BadBytes.{bad_at_from_some}
 use Rattle.farm_fixed.proofs.Parts.{text_of_parts}
+use Rattle.farm_fixed.proofs.Values.{cut_scaled}
 
 -- the test of the range tells it
 pub is_within-true : (least most value : ℤ) → is_within least most value ≡ true → IsWithin least most value
@@ -165,16 +166,17 @@ parsing_is_right places least most (byte ∷ bytes) = right_unless places least 
 pub right_answer_for : (places : ℕ) (least most : ℤ) (text : List ℕ) (answer : Result ℤ ReadFault) → answer ≡ quantity_of places least most text → IsReadAs places least most text answer
 right_answer_for places least most text answer is = subst (IsReadAs places least most text) (sym is) (parsing_is_right places least most text)
 
--- the value as it is cut off, from what it was made of
-pub value_from_parts : (places : ℕ) (number : Number) (negative : Bool) (whole fraction : List ℕ) (magnitude : ℕ) (v : ℤ) →
-    negative ≡ number.negative → whole ≡ number.whole → fraction ≡ number.fraction →
-    magnitude ≡ min (digits_value 10 (whole ++ fraction ++ replicate (places - length fraction) 48)) (10 ^ 18) → v ≡ signed negative magnitude →
+-- the value as it is cut off, from the digits that were read
+pub value_from_digits : (places : ℕ) (number : Number) (negative : Bool) (value decimals zeros magnitude : ℕ) (v : ℤ) →
+    negative ≡ number.negative → decimals ≡ length number.fraction → value ≡ min (digits_value 10 (number.whole ++ number.fraction)) (10 ^ 18) →
+    zeros ≡ places - decimals → magnitude ≡ min (value * 10 ^ zeros) (10 ^ 18) → v ≡ signed negative magnitude →
     v ≡ signed number.negative (min (digits_value 10 (number.whole ++ number.fraction ++ replicate (places - length number.fraction) 48)) (10 ^ 18))
-value_from_parts places number negative whole fraction magnitude v n w f m is =
+value_from_digits places number negative value decimals zeros magnitude v n d digits z scaled is =
+    let missing : zeros ≡ places - length number.fraction = z ∙ ap (λ k. places - k) d in
     is
     ∙ ap (λ b. signed b magnitude) n
-    ∙ ap (signed number.negative) (m ∙ ap (λ ds. min (digits_value 10 (ds ++ fraction ++ replicate (places - length fraction) 48)) (10 ^ 18)) w
-    ∙ ap (λ ds. min (digits_value 10 (number.whole ++ ds ++ replicate (places - length ds) 48)) (10 ^ 18)) f)
+    ∙ ap (signed number.negative) (cut_scaled (10 ^ 18) value magnitude zeros (number.whole ++ number.fraction) digits scaled
+    ∙ ap (λ k. min (digits_value 10 (number.whole ++ number.fraction ++ replicate k 48)) (10 ^ 18)) missing)
 
 -- what the test for an empty text says
 pub empty_length : (text : List ℕ) (b : Bool) → b ≡ (length text == 0) → b ≡ true → length text ≡ 0

@@ -3,9 +3,7 @@ use Rattle.std.proofs.Common.{◌≡◌, ℕ, ◌<◌, Bool, true, false, if◌t
 use Rattle.std.proofs.lemmas.Bool.Decides.{nat_tests}
 use Rattle.std.specs.Char.{IsAsciiDigit, is_ascii_digit}
 use Rattle.std.specs.List.{AllByRecursion}
-use Rattle.farm_fixed.specs.declared.parsing.Position.{Position}
-use Rattle.farm_fixed.specs.declared.parsing.Position.TheVariants.{AtStart, AfterMinus, InWhole, AfterPoint, InFraction}
-use Rattle.farm_fixed.specs.Text.{sign_text, fraction_text, IsNumber, after, may_end}
+use Rattle.farm_fixed.specs.Text.{Position, AtStart, AfterMinus, InWhole, AfterPoint, InFraction, sign_text, fraction_text, IsNumber, after, may_end}
 
 -- digits, as bytes
 abbrev pub Digits : List ℕ → Type 0
@@ -34,7 +32,7 @@ pub not_point : (d : ℕ) → IsAsciiDigit d → (d == 46) ≡ false
 not_point d h = grind (arith, nat_tests)
 
 -- a digit passes its test
-digit_test : (d : ℕ) → IsAsciiDigit d → is_ascii_digit d ≡ true
+pub digit_test : (d : ℕ) → IsAsciiDigit d → is_ascii_digit d ≡ true
 digit_test d h = grind (arith, nat_tests)
 
 -- a byte that passes it is a digit
@@ -42,7 +40,7 @@ pub from_test : (d : ℕ) → is_ascii_digit d ≡ true → IsAsciiDigit d
 from_test d h = grind (arith, nat_tests)
 
 -- bytes that pass the test of equality are equal
-same_byte : (b c : ℕ) → (b == c) ≡ true → b ≡ c
+pub same_byte : (b c : ℕ) → (b == c) ≡ true → b ≡ c
 same_byte b c h = grind (arith, nat_tests)
 
 -- something always may follow
@@ -131,23 +129,23 @@ abbrev pub Splits : Position → ℕ → List ℕ → Type 0
 Splits p b t = (q : Position) × (after p b ≡ Some q) × Rest q t
 
 -- a digit may stand at the start
-start_digit : (b : ℕ) → IsAsciiDigit b → after AtStart b ≡ Some InWhole
+pub start_digit : (b : ℕ) → IsAsciiDigit b → after AtStart b ≡ Some InWhole
 start_digit b h = simp (not_minus b h, digit_test b h)
 
 -- a digit may stand after the minus
-minus_digit : (b : ℕ) → IsAsciiDigit b → after AfterMinus b ≡ Some InWhole
+pub minus_digit : (b : ℕ) → IsAsciiDigit b → after AfterMinus b ≡ Some InWhole
 minus_digit b h = simp (digit_test b h)
 
 -- a digit may stand after a digit
-whole_digit : (b : ℕ) → IsAsciiDigit b → after InWhole b ≡ Some InWhole
+pub whole_digit : (b : ℕ) → IsAsciiDigit b → after InWhole b ≡ Some InWhole
 whole_digit b h = simp (not_point b h, digit_test b h)
 
 -- a digit may stand after the point
-point_digit : (b : ℕ) → IsAsciiDigit b → after AfterPoint b ≡ Some InFraction
+pub point_digit : (b : ℕ) → IsAsciiDigit b → after AfterPoint b ≡ Some InFraction
 point_digit b h = simp (digit_test b h)
 
 -- a digit may stand among the decimals
-fraction_digit : (b : ℕ) → IsAsciiDigit b → after InFraction b ≡ Some InFraction
+pub fraction_digit : (b : ℕ) → IsAsciiDigit b → after InFraction b ≡ Some InFraction
 fraction_digit b h = simp (digit_test b h)
 
 -- equal texts have equal rests

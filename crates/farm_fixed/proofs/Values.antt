@@ -1,10 +1,11 @@
 -- Values of digits, cut off at a ceiling.
-use Rattle.std.proofs.Common.{◌≡◌, ℕ, ◌+◌, ◌*◌, min, List, [], ◌∷◌, ◌++◌, refl, sym, ap, ◌∙◌, arith, append_assoc}
+use Rattle.std.proofs.Common.{◌≡◌, ℕ, ◌+◌, ◌*◌, ◌^◌, min, zero, suc, List, [], ◌∷◌, ◌++◌, replicate, refl, sym, ap, ◌∙◌, arith}
+use Rattle.std.proofs.Math.Nat.{pow-suc}
 use Rattle.std.specs.Char.{digit_value}
 use Rattle.std.specs.Str.Parse.{digits_value_after}
 
 -- a number that is cut twice is cut once
-cut_once : (n d top : ℕ) → min (min n top * 10 + d) top ≡ min (n * 10 + d) top
+pub cut_once : (n d top : ℕ) → min (min n top * 10 + d) top ≡ min (n * 10 + d) top
 cut_once n d top = omega arith
 
 -- to cut off before more digits changes nothing
@@ -18,15 +19,20 @@ pub value-append : (n : ℕ) (xs ys : List ℕ) → digits_value_after 10 n (xs 
 value-append n [] ys = refl
 value-append n (x ∷ xs) ys = value-append (n * 10 + digit_value x) xs ys
 
--- cut off after each of three lists, as after all
-pub cut_three : (top : ℕ) (xs ys zs : List ℕ) (a b r : ℕ) → a ≡ min (digits_value_after 10 0 xs) top → b ≡ min (digits_value_after 10 a ys) top →
-    r ≡ min (digits_value_after 10 b zs) top → r ≡ min (digits_value_after 10 0 (xs ++ ys ++ zs)) top
-cut_three top xs ys zs a b r first second third =
-    third
-    ∙ ap (λ k. min (digits_value_after 10 k zs) top) second
-    ∙ cut_before top (digits_value_after 10 a ys) zs
-    ∙ ap (λ k. min k top) (sym (value-append a ys zs))
-    ∙ ap (λ k. min (digits_value_after 10 k (ys ++ zs)) top) first
-    ∙ cut_before top (digits_value_after 10 0 xs) (ys ++ zs)
-    ∙ ap (λ k. min k top) (sym (value-append 0 xs (ys ++ zs)))
-    ∙ ap (λ ds. min (digits_value_after 10 0 ds) top) (sym (append_assoc xs ys zs))
+-- zeros after a number scale it
+value_zeros : (n k : ℕ) → digits_value_after 10 n (replicate k 48) ≡ n * 10 ^ k
+value_zeros n zero = omega arith
+value_zeros n (suc k) =
+    let more : (n * 10 + 0) * 10 ^ k ≡ n * (10 ^ k * 10) = omega arith in
+    value_zeros (n * 10 + 0) k ∙ more ∙ ap (λ scale. n * scale) (sym (pow-suc 10 k))
+
+-- a cut value that is scaled and cut again is that of the digits and the zeros
+pub cut_scaled : (top value magnitude k : ℕ) (ds : List ℕ) → value ≡ min (digits_value_after 10 0 ds) top → magnitude ≡ min (value * 10 ^ k) top →
+    magnitude ≡ min (digits_value_after 10 0 (ds ++ replicate k 48)) top
+cut_scaled top value magnitude k ds is scaled =
+    let zeros = replicate k 48 in
+    scaled
+    ∙ ap (λ n. min n top) (sym (value_zeros value k))
+    ∙ ap (λ n. min (digits_value_after 10 n zeros) top) is
+    ∙ cut_before top (digits_value_after 10 0 ds) zeros
+    ∙ ap (λ n. min n top) (sym (value-append 0 ds zeros))

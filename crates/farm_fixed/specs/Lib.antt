@@ -1,5 +1,6 @@
 pub mod Range
 pub mod Text
 pub mod Parsing
+pub mod Numerals
 pub mod Printing
 pub mod Whole

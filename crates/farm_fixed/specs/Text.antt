@@ -3,8 +3,6 @@ use Rattle.std.specs.Prelude.{◌≡◌, ℕ, ◌+◌, ◌-◌, ◌<◌, ◌≤�
 use Rattle.std.specs.Char.{IsAsciiDigit, is_ascii_digit}
 use Rattle.std.specs.List.{AllByRecursion}
 use Rattle.std.specs.Str.Parse.{digits_value}
-use Rattle.farm_fixed.specs.declared.parsing.Position.{Position}
-use Rattle.farm_fixed.specs.declared.parsing.Position.TheVariants.{AtStart, AfterMinus, InWhole, AfterPoint, InFraction}
 
 -- the parts of a number's text: digits as bytes, no fraction where there is no point
 pub record Number : Type 0 where
@@ -43,6 +41,14 @@ pub record IsBadAt (text : List ℕ) (offset : ℕ) : Type 0 where
   pub good_before : BeginsNumber (take offset text)
   pub bad_there : offset < length text → BeginsNumber (take (offset + 1) text) → ⊥
   pub too_short : offset ≡ length text → IsNumber text → ⊥
+
+-- where in a number the next byte stands
+pub data Position : Type 0 where
+  AtStart : Position
+  AfterMinus : Position
+  InWhole : Position
+  AfterPoint : Position
+  InFraction : Position
 
 -- the position after a byte, None where no number has that byte there
 abbrev pub after : Position → ℕ → Option Position

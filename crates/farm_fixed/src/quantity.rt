@@ -5,12 +5,10 @@ ghost use Rattle.std.specs.Result.{OkIff};
 ghost use Rattle.farm_base.specs.Appended.{Appends};
 ghost use Rattle.farm_fixed.specs.Range.{IsWithin, IsSmall};
 ghost use Rattle.farm_fixed.specs.Parsing.{IsReadAs, number_of, quantity_from, quantity_of};
-ghost use Rattle.farm_fixed.specs.Text.{bad_offset};
+ghost use Rattle.farm_fixed.specs.Numerals.{IsNumeralOf};
 ghost use Rattle.farm_fixed.specs.Printing.{quantity_text};
 
-use crate::parsing::{
-    bad_offset, is_negative, magnitude, split_at_point, unsigned_text, with_sign,
-};
+use crate::parsing::{Numeral, is_negative, numeral_of, scaled, with_sign};
 use crate::printing::{ROOM, write_text};
 use crate::{NoMemory, OutOfRange, ReadFault};
 use std::marker::{Model, PhantomData};
@@ -86,9 +84,9 @@ impl<U: Unit> Quantity<U> {
         if text.is_empty() {
             return Err(ReadFault::Empty);
         }
-        match bad_offset(text) {
-            Some(offset) => Err(ReadFault::BadByte(offset)),
-            None => Self::from_number(text),
+        match numeral_of(text) {
+            Ok(numeral) => Self::from_numeral(text, numeral),
+            Err(offset) => Err(ReadFault::BadByte(offset)),
         }
     }
 
@@ -104,17 +102,17 @@ impl<U: Unit> Quantity<U> {
         Ok(())
     }
 
-    /// The quantity that a number's text writes, once the text is known to be one.
-    fn from_number(text: &[u8]) -> Result<Self, ReadFault>
-        requires { bad_offset text.now ≡ None }
+    /// The quantity that a number's text writes, from its digits.
+    fn from_numeral(text: &[u8], numeral: Numeral) -> Result<Self, ReadFault>
+        requires { IsNumeralOf text.now numeral }
         ensures { result ≡ quantity_from U.PLACES U.LEAST U.MOST (number_of text.now) }
     {
         let places = usize::from(U::PLACES);
-        let (whole, fraction) = split_at_point(unsigned_text(text));
-        if fraction.len() > places {
+        if numeral.decimals > places {
             return Err(ReadFault::TooFine);
         }
-        let units = with_sign(is_negative(text), magnitude(whole, fraction, places));
+        let magnitude = scaled(numeral.value, places - numeral.decimals);
+        let units = with_sign(is_negative(text), magnitude);
         Self::new(units).map_err(|_| ReadFault::OutOfRange)
     }
 }

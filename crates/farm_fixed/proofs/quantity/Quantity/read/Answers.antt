@@ -5,14 +5,14 @@ use Rattle.farm_fixed.proofs.quantity.Quantity.read.Goals as goal
 pub returns-then-is_empty-clause-value : goal.returns-then-is_empty-clause-value
 returns-then-is_empty-clause-value g c = sym (quantity_of-empty g.U.Unit.PLACES g.U.Unit.LEAST g.U.Unit.MOST c.args.text.now (empty_length c.args.text.now c.is_empty.result c.is_empty.ensures c.if-is_empty.true))
 
-pub returns-in-Some-clause-value : goal.returns-in-Some-clause-value
-returns-in-Some-clause-value g c = sym (quantity_of-bad g.U.Unit.PLACES g.U.Unit.LEAST g.U.Unit.MOST c.args.text.now c.in-Some.offset (some_length c.args.text.now c.is_empty.result c.is_empty.ensures c.if-is_empty.false) (sym c.bad_offset.ensures ∙ c.in-Some.is))
+pub returns-in-Err-clause-value : goal.returns-in-Err-clause-value
+returns-in-Err-clause-value g c = sym (quantity_of-bad g.U.Unit.PLACES g.U.Unit.LEAST g.U.Unit.MOST c.args.text.now c.in-Err.offset (some_length c.args.text.now c.is_empty.result c.is_empty.ensures c.if-is_empty.false) c.in-Err.ensures)
 
-pub returns-in-Some-clause-meaning : goal.returns-in-Some-clause-meaning
-returns-in-Some-clause-meaning g c = right_answer_for g.U.Unit.PLACES g.U.Unit.LEAST g.U.Unit.MOST c.args.text.now _ (returns-in-Some-clause-value g c)
+pub returns-in-Err-clause-meaning : goal.returns-in-Err-clause-meaning
+returns-in-Err-clause-meaning g c = right_answer_for g.U.Unit.PLACES g.U.Unit.LEAST g.U.Unit.MOST c.args.text.now _ (returns-in-Err-clause-value g c)
 
-pub returns-in-None-clause-value : goal.returns-in-None-clause-value
-returns-in-None-clause-value g c = c.from_number.ensures ∙ sym (quantity_of-number g.U.Unit.PLACES g.U.Unit.LEAST g.U.Unit.MOST c.args.text.now (some_length c.args.text.now c.is_empty.result c.is_empty.ensures c.if-is_empty.false) (sym c.bad_offset.ensures ∙ c.in-None.is))
+pub returns-in-Ok-clause-value : goal.returns-in-Ok-clause-value
+returns-in-Ok-clause-value g c = c.from_numeral.ensures ∙ sym (quantity_of-number g.U.Unit.PLACES g.U.Unit.LEAST g.U.Unit.MOST c.args.text.now (some_length c.args.text.now c.is_empty.result c.is_empty.ensures c.if-is_empty.false) c.in-Ok.ensures.good)
 
-pub returns-in-None-clause-meaning : goal.returns-in-None-clause-meaning
-returns-in-None-clause-meaning g c = right_answer_for g.U.Unit.PLACES g.U.Unit.LEAST g.U.Unit.MOST c.args.text.now _ (returns-in-None-clause-value g c)
+pub returns-in-Ok-clause-meaning : goal.returns-in-Ok-clause-meaning
+returns-in-Ok-clause-meaning g c = right_answer_for g.U.Unit.PLACES g.U.Unit.LEAST g.U.Unit.MOST c.args.text.now _ (returns-in-Ok-clause-value g c)
