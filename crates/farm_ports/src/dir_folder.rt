@@ -3,7 +3,7 @@
 ghost use Rattle.std.specs.Prelude.{◌≡◌, ◌≢◌, ◌≤◌, length, string_bytes, IfOk, None};
 ghost use Rattle.farm_base.specs.Counts.{Rose};
 ghost use Rattle.farm_base.specs.Known.{Stays, WhereKnown};
-ghost use Rattle.farm_ports.specs.Folders.{ReadsFile};
+ghost use Rattle.farm_ports.specs.Folders.{ReadsFile, file_named};
 
 use crate::{Failed, Folder, FolderFault, PortFault, StdSource, read_up_to};
 use std::alloc::Global;
@@ -57,6 +57,8 @@ impl<R: Files> Folder for DirFolder<R> {
 
     ghost faults = { λ folder. folder.faults };
 
+    ghost lists_no_failure = { λ _. ⊥ };
+
     fn read(&mut self, alloc: Global, name: &str, most: usize) -> Result<Vec<u8>, FolderFault>
         ensures bytes { IfOk result (λ bytes. WhereKnown (⟦<DirFolder<R> as Folder>⟧.files self.new) (ReadsFile name.now most bytes.items)) }
         ensures files { Stays (⟦<DirFolder<R> as Folder>⟧.files self.old) (⟦<DirFolder<R> as Folder>⟧.files self.new) }
@@ -67,6 +69,9 @@ impl<R: Files> Folder for DirFolder<R> {
         ensures within { IfOk result (λ bytes. length bytes.items ≤ most) }
         ensures quiet { result ≢ Err PortFault.Failed → self.new.faults ≡ self.old.faults }
         ensures directory { self.new.over ≡ self.old.over }
+        ensures missing_only { ⟦<DirFolder<R> as Folder>⟧.lists_no_failure self.old → result ≡ Err PortFault.Failed →
+            WhereKnown (⟦<DirFolder<R> as Folder>⟧.files self.new) (λ files. file_named name.now files ≡ None) }
+        ensures lists { ⟦<DirFolder<R> as Folder>⟧.lists_no_failure self.old → ⟦<DirFolder<R> as Folder>⟧.lists_no_failure self.new }
     {
         let path = format!(in alloc; "{}/{name}", self.directory)?;
         match front_of(&self.rt, alloc, path.as_str(), most) {

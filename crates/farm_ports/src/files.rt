@@ -1,6 +1,6 @@
 //! A folder in memory.
 
-ghost use Rattle.std.specs.Prelude.{◌≡◌, ◌≢◌, ◌↔◌, ◌≤◌, ◌⊎◌, IfOk, IsOk, option_map, Some, None};
+ghost use Rattle.std.specs.Prelude.{◌≡◌, ◌≢◌, ◌↔◌, ◌≤◌, ◌⊎◌, [], IfOk, IsOk, option_map, Some, None};
 ghost use Rattle.farm_base.specs.Counts.{Rose};
 ghost use Rattle.farm_base.specs.Known.{Stays, WhereKnown};
 ghost use Rattle.farm_ports.specs.Folders.{ReadsFile, file_named, files_of};
@@ -40,6 +40,7 @@ impl Files {
         ensures known { IfOk result (λ folder. ⟦<Files as Folder>⟧.files folder ≡ Some (files_of files.items)) }
         ensures faults { IfOk result (λ folder. ⟦<Files as Folder>⟧.faults folder ≡ 0) }
         ensures calls { IfOk result (λ folder. folder.calls ≡ no_calls fails.items) }
+        ensures unlisted { fails.items ≡ [] → IfOk result (λ folder. ⟦<Files as Folder>⟧.lists_no_failure folder) }
     {
         Ok(Files {
             files,
@@ -62,6 +63,8 @@ impl Folder for Files {
 
     ghost faults = { λ folder. folder.calls.faults };
 
+    ghost lists_no_failure = { λ folder. folder.calls.failing ≡ [] };
+
     fn read(&mut self, alloc: Global, name: &str, most: usize) -> Result<Vec<u8>, FolderFault>
         ensures bytes { IfOk result (λ bytes. WhereKnown (⟦<Files as Folder>⟧.files self.new) (ReadsFile name.now most bytes.items)) }
         ensures files { Stays (⟦<Files as Folder>⟧.files self.old) (⟦<Files as Folder>⟧.files self.new) }
@@ -75,6 +78,9 @@ impl Folder for Files {
         ensures counted { CountsCall self.old.calls self.new.calls }
         ensures quiet { result ≢ Err PortFault.Failed → ⟦<Files as Folder>⟧.faults self.new ≡ ⟦<Files as Folder>⟧.faults self.old }
         ensures kept { ⟦<Files as Folder>⟧.files self.new ≡ ⟦<Files as Folder>⟧.files self.old }
+        ensures missing_only { ⟦<Files as Folder>⟧.lists_no_failure self.old → result ≡ Err PortFault.Failed →
+            WhereKnown (⟦<Files as Folder>⟧.files self.new) (λ files. file_named name.now files ≡ None) }
+        ensures lists { ⟦<Files as Folder>⟧.lists_no_failure self.old → ⟦<Files as Folder>⟧.lists_no_failure self.new }
     {
         self.calls.begin()?;
         let Some(bytes) = file_named(&self.files, name) else {

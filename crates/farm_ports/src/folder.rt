@@ -1,9 +1,9 @@
 //! Folders of files.
 
-ghost use Rattle.std.specs.Prelude.{◌≡◌, ◌≢◌, ◌≤◌, ℕ, List, Option, IfOk};
+ghost use Rattle.std.specs.Prelude.{◌≡◌, ◌≢◌, ◌≤◌, ℕ, List, Option, IfOk, None};
 ghost use Rattle.farm_base.specs.Counts.{Rose};
 ghost use Rattle.farm_base.specs.Known.{Stays, WhereKnown};
-ghost use Rattle.farm_ports.specs.Folders.{File, ReadsFile};
+ghost use Rattle.farm_ports.specs.Folders.{File, ReadsFile, file_named};
 
 use crate::PortFault;
 use std::alloc::Global;
@@ -19,6 +19,9 @@ pub trait Folder {
     /// How many faults it has counted. The count stands still at the last `u64`.
     ghost faults: { Self → ℕ };
 
+    /// None of its reads is listed to fail: one fails only where no file has the name.
+    ghost lists_no_failure: { Self → Type 0 };
+
     /// The first `most` bytes of the file with this name, or all of them where there are fewer.
     ///
     /// A missing file is a fault. Whatever is answered, the files stay as they were.
@@ -27,5 +30,10 @@ pub trait Folder {
         ensures files { Stays (Self.files self.old) (Self.files self.new) }
         ensures never_falls { Self.faults self.old ≤ Self.faults self.new }
         ensures failed { result ≡ Err PortFault.Failed → Rose (Self.faults self.old) (Self.faults self.new) }
-        ensures quiet { result ≢ Err PortFault.Failed → Self.faults self.new ≡ Self.faults self.old };
+        ensures quiet { result ≢ Err PortFault.Failed → Self.faults self.new ≡ Self.faults self.old }
+
+        // Where no failure is listed, a read fails only for a name that no file has, and none is listed afterwards.
+        ensures missing_only { Self.lists_no_failure self.old → result ≡ Err PortFault.Failed →
+            WhereKnown (Self.files self.new) (λ files. file_named name.now files ≡ None) }
+        ensures lists { Self.lists_no_failure self.old → Self.lists_no_failure self.new };
 }
