@@ -1,10 +1,12 @@
-//! The ports of the custody desk to the outside: sources of bytes, sinks for them and folders of files, in memory and real.
+//! The ports of the custody desk to the outside: sources of bytes, sinks for them, folders of files and
+//! clocks, in memory and real.
 //!
 //! A port counts its faults in a number that never falls, a call answers `Failed` only where the count rose in that call, and
 //! a call that answers anything else leaves the count as it was. What a port in memory took, has left or holds is known to
 //! contracts, and so are a folder's files; of a real one nothing is known.
 #![tactic(auto)]
 
+mod clock;
 mod copying;
 mod dir_folder;
 mod failing_calls;
@@ -15,7 +17,9 @@ mod gather;
 mod ports;
 mod real;
 mod script;
+mod system_clock;
 
+pub use clock::{Clock, Fixed};
 pub use copying::{put_all, read_up_to};
 pub use dir_folder::DirFolder;
 pub use fault::PortFault;
@@ -25,6 +29,7 @@ pub use gather::Gather;
 pub use ports::{Failed, Port, Sink, Source};
 pub use real::{StdSink, StdSource};
 pub use script::Script;
+pub use system_clock::SystemClock;
 
 #[cfg(test)]
 mod tests;

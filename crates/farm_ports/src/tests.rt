@@ -210,3 +210,26 @@ fn a_large_file_is_read_whole(rt: HostRuntime) -> Result<(), Fail> {
     assert!(rt; read.as_slice() == written.as_slice());
     Ok(())
 }
+
+// What a clock gives.
+fn given<C: Clock>(clock: &C) -> i64
+    ensures { C.may_give clock.now result }
+{
+    clock.now()
+}
+
+#[test]
+fn a_fixed_clock_gives_its_moment(rt: HostRuntime) -> Result<(), Fail> {
+    for moment in [1_790_000_000, 0, -86_400] {
+        let clock = shared(Fixed::new(rt.alloc(), moment)?);
+        assert_eq!(rt; given(&clock), moment);
+        assert_eq!(rt; given(&clock), moment);
+    }
+    Ok(())
+}
+
+#[test]
+fn the_clock_of_the_system_is_past_2020(rt: HostRuntime) {
+    let clock = shared(SystemClock::new(&rt));
+    assert!(rt; given(&clock) > 1_600_000_000);
+}
