@@ -56,6 +56,12 @@ refusal_of NoMemory = None
 refusal_of Folder = None
 refusal_of (Bad fault) = Some (Faulty fault)
 
+-- a file that is due is missing
+abbrev pub IsMissing : {A : Type 0} → Result A Refusal → Type 0
+IsMissing (Ok value) = ⊥
+IsMissing (Err (Faulty fault)) = ⊥
+IsMissing (Err (Missing name)) = Unit {0}
+
 -- a fault that isn't the folder's
 abbrev pub IsNotTheFolders : SiteReadFault → Type 0
 IsNotTheFolders NoMemory = Unit {0}

@@ -1,13 +1,15 @@
 -- The files of a site's folder: their bytes, and the tables that a TOML file has.
-use Rattle.std.specs.Prelude.{ℕ, nat_lt, if◌then◌else◌, List, length, Option, Some, None, Result, Ok, Err}
+use Rattle.std.specs.Prelude.{◌≡◌, ℕ, nat_lt, if◌then◌else◌, List, length, Option, Some, None, Result, Ok, Err}
 use Rattle.std.specs.Str.{is_utf8}
 use Rattle.toml.specs.Data.{Data, Members, table}
 use Rattle.toml.specs.Parse.{parse_document}
 use Rattle.farm_ports.specs.Folders.{File, file_named}
 use Rattle.site_keys.specs.declared.codes.TheConstants.{TEXT, TOO_LONG}
 use Rattle.site_keys.specs.declared.fault.SiteFault.{SiteFault}
+use Rattle.site_keys.specs.declared.fault.SiteReadFault.{SiteReadFault}
+use Rattle.site_keys.specs.declared.fault.SiteReadFault.TheVariants.{Folder}
 use Rattle.site_keys.specs.declared.files.TheConstants.{LONGEST_FILE}
-use Rattle.site_keys.specs.Faults.{Refusal, Faulty, Missing, bad, fault_at}
+use Rattle.site_keys.specs.Faults.{Refusal, Faulty, Missing, IsMissing, bad, fault_at}
 
 -- the bytes of a file of this name that isn't too long; or it isn't there
 abbrev pub within_limit : ℕ → List ℕ → Option (List ℕ) → Result (List ℕ) Refusal
@@ -17,6 +19,10 @@ within_limit item name (Some bytes) = if nat_lt LONGEST_FILE (length bytes) then
 -- the bytes of the file with a name
 abbrev pub content : List File → ℕ → List ℕ → Result (List ℕ) Refusal
 content files item name = within_limit item name (file_named name files)
+
+-- a call reports that the folder failed only where, by what a definition answers of the files, one that is due is missing
+abbrev pub FailsAsMissing : {T A : Type 0} → Option (List File) → Result T SiteReadFault → (List File → Result A Refusal) → Type 0
+FailsAsMissing known result answer = result ≡ Err Folder → (files : List File) → known ≡ Some files → IsMissing (answer files)
 
 -- the table that a document is
 abbrev pub table_of : ℕ → Option Members → Result Data SiteFault

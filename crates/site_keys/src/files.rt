@@ -6,7 +6,7 @@ ghost use Rattle.farm_base.specs.Known.{KeepsKnown};
 ghost use Rattle.farm_base.specs.Steps.{IsRefusedAs};
 ghost use Rattle.farm_ports.specs.Folders.{File};
 ghost use Rattle.site_keys.specs.Faults.{IsNotTheFolders, refusal_of, reported};
-ghost use Rattle.site_keys.specs.Files.{content, toml_of};
+ghost use Rattle.site_keys.specs.Files.{FailsAsMissing, content, toml_of};
 
 use crate::codes::{TEXT, TOO_LONG};
 use crate::{SiteReadFault, bad};
@@ -29,6 +29,8 @@ pub fn content<F: Folder>(
         (λ fault. IsRefusedAs (refusal_of fault) (content files item name.now)) }
     ensures keeps { KeepsKnown (F.files folder.old) (F.files folder.new) (F.faults folder.old) (F.faults folder.new)
         SiteReadFault.Folder result }
+    ensures missing_only { F.lists_no_failure folder.old → FailsAsMissing (F.files folder.new) result (λ files. content files item name.now) }
+    ensures lists { F.lists_no_failure folder.old → F.lists_no_failure folder.new }
 {
     let bytes = folder.read(alloc, name, LONGEST_FILE + 1)?;
     if bytes.len() > LONGEST_FILE {
