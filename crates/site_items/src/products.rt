@@ -9,6 +9,7 @@ ghost use Rattle.farm_vcf.specs.Faults as factors;
 ghost use Rattle.farm_vcf.specs.Records.{vcf_of};
 ghost use Rattle.site_items.specs.Facts.{are_products};
 ghost use Rattle.site_keys.specs.Faults.{IsNotTheFolders, refusal_of, reported};
+ghost use Rattle.site_keys.specs.Files.{FailsAsMissing};
 ghost use Rattle.site_keys.specs.Lists.{are_numbered, is_among, numbered_from};
 ghost use Rattle.site_items.specs.Products.{factors_fault, factors_read, is_product, product_number, product_of, products_of};
 
@@ -49,6 +50,9 @@ pub fn products_of<F: Folder>(
     ensures sound { IfOk result (λ products. IsTrue (are_products products.items)) }
     ensures keeps { KeepsKnown (F.files folder.old) (F.files folder.new) (F.faults folder.old) (F.faults folder.new)
         SiteReadFault.Folder result }
+    ensures missing_only { F.lists_no_failure folder.old →
+        FailsAsMissing (F.files folder.new) result (λ files. products_of files (view top.now.table.now)) }
+    ensures lists { F.lists_no_failure folder.old → F.lists_no_failure folder.new }
 {
     products_in(alloc, folder, list_at(top, "product", 1, MOST_PRODUCTS)?)
 }
@@ -67,6 +71,9 @@ fn products_in<F: Folder>(
     ensures sound { IfOk result (λ products. IsTrue (are_numbered product_number is_product products.items)) }
     ensures keeps { KeepsKnown (F.files folder.old) (F.files folder.new) (F.faults folder.old) (F.faults folder.new)
         SiteReadFault.Folder result }
+    ensures missing_only { F.lists_no_failure folder.old →
+        FailsAsMissing (F.files folder.new) result (λ files. numbered_from product_number (product_of files) 1 [] (map view tables.now)) }
+    ensures lists { F.lists_no_failure folder.old → F.lists_no_failure folder.new }
 {
     let mut products = Vec::new(alloc);
     for (index, table) in tables.iter().enumerate() {
@@ -95,6 +102,9 @@ fn product_of<F: Folder>(
     ensures fresh { IfOk result (λ product. IsFalse (is_among product.number (map product_number earlier.now))) }
     ensures keeps { KeepsKnown (F.files folder.old) (F.files folder.new) (F.faults folder.old) (F.faults folder.new)
         SiteReadFault.Folder result }
+    ensures missing_only { F.lists_no_failure folder.old →
+        FailsAsMissing (F.files folder.new) result (λ files. product_of files earlier.now keys.now.item (view keys.now.table.now)) }
+    ensures lists { F.lists_no_failure folder.old → F.lists_no_failure folder.new }
 {
     let number = own_number(earlier, keys)?;
     let name = name_at(alloc, keys)?;

@@ -6,6 +6,7 @@ ghost use Rattle.farm_base.specs.Known.{KeepsKnown};
 ghost use Rattle.farm_base.specs.Steps.{IsRefusedAs};
 ghost use Rattle.farm_ports.specs.Folders.{File};
 ghost use Rattle.site_keys.specs.Faults.{IsNotTheFolders, refusal_of, reported};
+ghost use Rattle.site_keys.specs.Files.{FailsAsMissing};
 ghost use Rattle.site_keys.specs.Lists.{are_numbered, is_among, numbered_from};
 ghost use Rattle.site_items.specs.Facts.{are_tanks};
 ghost use Rattle.site_items.specs.Products.{product_number};
@@ -58,6 +59,9 @@ pub fn tanks_of<F: Folder>(
     ensures sound { IfOk result (λ tanks. IsTrue (are_tanks (map product_number products.now) tanks.items)) }
     ensures keeps { KeepsKnown (F.files folder.old) (F.files folder.new) (F.faults folder.old) (F.faults folder.new)
         SiteReadFault.Folder result }
+    ensures missing_only { F.lists_no_failure folder.old →
+        FailsAsMissing (F.files folder.new) result (λ files. tanks_of files format rounds.now (map product_number products.now) (view top.now.table.now)) }
+    ensures lists { F.lists_no_failure folder.old → F.lists_no_failure folder.new }
 {
     tanks_in(
         alloc,
@@ -86,6 +90,9 @@ fn tanks_in<F: Folder>(
     ensures sound { IfOk result (λ tanks. IsTrue (are_numbered tank_number (is_tank (map product_number products.now)) tanks.items)) }
     ensures keeps { KeepsKnown (F.files folder.old) (F.files folder.new) (F.faults folder.old) (F.faults folder.new)
         SiteReadFault.Folder result }
+    ensures missing_only { F.lists_no_failure folder.old →
+        FailsAsMissing (F.files folder.new) result (λ files. numbered_from tank_number (tank_of files format rounds.now (map product_number products.now)) 1 [] (map view tables.now)) }
+    ensures lists { F.lists_no_failure folder.old → F.lists_no_failure folder.new }
 {
     let mut tanks = Vec::new(alloc);
     for (index, table) in tables.iter().enumerate() {
@@ -117,6 +124,9 @@ fn tank_of<F: Folder>(
     ensures fresh { IfOk result (λ tank. IsFalse (is_among tank.number (map tank_number earlier.now))) }
     ensures keeps { KeepsKnown (F.files folder.old) (F.files folder.new) (F.faults folder.old) (F.faults folder.new)
         SiteReadFault.Folder result }
+    ensures missing_only { F.lists_no_failure folder.old →
+        FailsAsMissing (F.files folder.new) result (λ files. tank_of files format rounds.now (map product_number products.now) earlier.now keys.now.item (view keys.now.table.now)) }
+    ensures lists { F.lists_no_failure folder.old → F.lists_no_failure folder.new }
 {
     let number = own_number(earlier, keys)?;
     let product = reference(keys, "product", products)?;

@@ -19,6 +19,7 @@ loop-index-preserved g c =
           ) (c.loop-index.invariant.read files (known_before (g.F.Folder.files c.loop-index.folder) (g.F.Folder.files c.product_of.new.folder) files c.in_ok-product.ensures.keeps.stays known));
       stays = stays_then (g.F.Folder.files c.args.folder.now) (g.F.Folder.files c.loop-index.folder) (g.F.Folder.files c.product_of.new.folder)
           c.loop-index.invariant.stays c.in_ok-product.ensures.keeps.stays;
+      unlisted = λ none. c.in_ok-product.ensures.lists (c.loop-index.invariant.unlisted none);
       quiet = omega (arith, c.loop-index.invariant.quiet, c.in_ok-product.ensures.keeps.quiet (λ is. cc));
       count = rw (c.in_ok-place.ensures.placed, placed_length product_number product earlier, c.loop-index.invariant.count) refl;
       sound = rw c.in_ok-place.ensures.placed (placed_numbered product_number is_product product earlier

@@ -10,6 +10,7 @@ abbrev pub invariant-loop-index : goal.invariant-loop-index
 invariant-loop-index g l = record {
   read : (files : List File) → g.F.Folder.files l.folder ≡ Some files → numbered_from product_number (product_of files) (l.index + 1) l.products.items (map view (drop l.index l.tables)) ≡ numbered_from product_number (product_of files) 1 [] (map view l.tables);
   stays : Stays (g.F.Folder.files l.fn.folder) (g.F.Folder.files l.folder);
+  unlisted : g.F.Folder.lists_no_failure l.fn.folder → g.F.Folder.lists_no_failure l.folder;
   quiet : g.F.Folder.faults l.folder ≡ g.F.Folder.faults l.fn.folder;
   count : length l.products.items ≡ l.index;
   sound : are_numbered product_number is_product l.products.items ≡ true;
