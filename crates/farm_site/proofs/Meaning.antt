@@ -13,7 +13,7 @@ use Rattle.modbus_poll.specs.Maps.{is_between}
 use Rattle.site_keys.specs.declared.fault.SiteFault.{SiteFault}
 use Rattle.site_keys.specs.declared.fault.SiteReadFault.{SiteReadFault}
 use Rattle.site_keys.specs.declared.fault.SiteReadFault.TheVariants.{NoMemory, Folder, Bad}
-use Rattle.site_keys.specs.Faults.{Refusal, Faulty, Missing, found, refusal_of}
+use Rattle.site_keys.specs.Faults.{Refusal, Faulty, Missing, IsMissing, found, refusal_of}
 use Rattle.site_keys.specs.Files.{content}
 use Rattle.site_keys.specs.Lists.{AreItemsAt, are_numbered, list_at, own_number, rises}
 use Rattle.site_keys.proofs.ListMembers.{both_went, found_there, listed_there, own_alone, same_members}
@@ -33,7 +33,7 @@ use Rattle.site_items.specs.Tanks.{is_tank, tank_number, tank_of, tanks_of}
 use Rattle.site_lines.specs.Lines.{lines_of}
 use Rattle.farm_site.specs.declared.site.Site.{Site}
 use Rattle.farm_site.specs.Described.{Described, site_of_files, site_of_keys, top_of_files}
-use Rattle.farm_site.specs.Members.{IsMissing, IsSiteOf, IsStopped}
+use Rattle.farm_site.specs.Members.{IsSiteOf, IsStopped}
 use Rattle.farm_site.specs.Rounds.{rounds_at}
 
 -- a product is read the same where there are no earlier ones

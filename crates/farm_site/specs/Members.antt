@@ -5,7 +5,6 @@ use Rattle.toml.specs.Data.{Data}
 use Rattle.farm_ports.specs.Folders.{File}
 use Rattle.site_keys.specs.declared.fault.SiteReadFault.{SiteReadFault}
 use Rattle.site_keys.specs.declared.fault.SiteReadFault.TheVariants.{Folder, NoMemory}
-use Rattle.site_keys.specs.Faults.{Refusal, Faulty, Missing}
 use Rattle.site_keys.specs.Lists.{AreItemsAt}
 use Rattle.site_items.specs.declared.formats.Format.{Format}
 use Rattle.site_items.specs.Formats.{format_at}
@@ -29,12 +28,6 @@ pub record IsSiteOf (files : List File) (site : Described) : Type 0 where
   pub parties : AreItemsAt party_number (party_of []) top (codes "party") site.parties
   pub tanks : AreItemsAt tank_number (tank_of files format site.rounds (map product_number site.products) []) top (codes "tank") site.tanks
   pub lines : lines_of (map tank_number site.tanks) top ≡ Ok site.lines
-
--- a file that is due is missing
-abbrev pub IsMissing : Result Described Refusal → Type 0
-IsMissing (Ok site) = ⊥
-IsMissing (Err (Faulty fault)) = ⊥
-IsMissing (Err (Missing name)) = Unit {0}
 
 -- no site and no fault of one: the folder failed, or out of memory
 abbrev pub IsStopped : {A : Type 0} → Result A SiteReadFault → Type 0

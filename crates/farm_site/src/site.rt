@@ -1,6 +1,6 @@
 //! A site, and the reading of its folder.
 
-ghost use Rattle.std.specs.Prelude.{◌≡◌, ◌↔◌, List, map, option_map, pos, MatchResult, IfOk, IfSome, IsNone, IsFalse, IsTrue, Ok, Some};
+ghost use Rattle.std.specs.Prelude.{◌≡◌, ◌↔◌, List, map, option_map, pos, MatchResult, IfOk, IfSome, IsNone, IsFalse, IsTrue, Ok, Err, Some};
 ghost use Rattle.toml.specs.View.{view};
 ghost use Rattle.farm_base.specs.Known.{KeepsKnown, WhereKnown};
 ghost use Rattle.farm_base.specs.Steps.{IsRefusedAs};
@@ -8,7 +8,8 @@ ghost use Rattle.farm_chain.specs.Reading.{IsFloatingRoof};
 ghost use Rattle.farm_fixed.specs.Range.{IsWithin};
 ghost use Rattle.farm_fixed.specs.declared.limits.TheConstants.{MOST_COEFFICIENT};
 ghost use Rattle.farm_ports.specs.Folders.{File};
-ghost use Rattle.site_keys.specs.Faults.{refusal_of};
+ghost use Rattle.site_keys.specs.Faults.{IsMissing, refusal_of};
+ghost use Rattle.site_keys.specs.Files.{FailsAsMissing};
 ghost use Rattle.site_keys.specs.Lists.{is_among};
 ghost use Rattle.site_items.specs.Facts.{are_parties, are_products, are_tanks};
 ghost use Rattle.site_items.specs.Names.{is_name};
@@ -16,7 +17,7 @@ ghost use Rattle.site_items.specs.Products.{product_number};
 ghost use Rattle.site_items.specs.Tanks.{tank_number};
 ghost use Rattle.site_lines.specs.Lines.{are_lines};
 ghost use Rattle.farm_site.specs.Described.{product_numbered, site_of_files, site_of_keys, tank_numbered, top_of_files};
-ghost use Rattle.farm_site.specs.Members.{IsMissing, IsSiteOf, IsStopped};
+ghost use Rattle.farm_site.specs.Members.{IsSiteOf, IsStopped};
 
 use crate::rounds::rounds_at;
 use crate::{Lines, Name, Parties, Product, Products, Tank, Tanks};
@@ -78,6 +79,11 @@ impl Site {
         ensures missing { WhereKnown (F.files folder.new) (λ files. IsMissing (site_of_files files) → IsStopped result) }
         ensures keeps { KeepsKnown (F.files folder.old) (F.files folder.new) (F.faults folder.old) (F.faults folder.new)
             SiteReadFault.Folder result }
+
+        // Of a folder that lists no failure, `Folder` says that a file that is due is missing.
+        ensures missing_only { F.lists_no_failure folder.old → WhereKnown (F.files folder.new) (λ files.
+            result ≡ Err SiteReadFault.Folder → IsMissing (site_of_files files)) }
+        ensures lists { F.lists_no_failure folder.old → F.lists_no_failure folder.new }
     {
         Site::of_folder(alloc, folder)
     }
@@ -97,6 +103,9 @@ impl Site {
             (λ fault. IsRefusedAs (refusal_of fault) (site_of_files files)) }
         ensures keeps { KeepsKnown (F.files folder.old) (F.files folder.new) (F.faults folder.old) (F.faults folder.new)
             SiteReadFault.Folder result }
+        ensures missing_only { F.lists_no_failure folder.old →
+            FailsAsMissing (F.files folder.new) result (site_of_files) }
+        ensures lists { F.lists_no_failure folder.old → F.lists_no_failure folder.new }
     {
         let top = top_of(alloc, folder)?;
         let keys = Keys {
@@ -126,6 +135,9 @@ impl Site {
             (λ fault. IsRefusedAs (refusal_of fault) (site_of_keys files (view top.now.table.now))) }
         ensures keeps { KeepsKnown (F.files folder.old) (F.files folder.new) (F.faults folder.old) (F.faults folder.new)
             SiteReadFault.Folder result }
+        ensures missing_only { F.lists_no_failure folder.old →
+            FailsAsMissing (F.files folder.new) result (λ files. site_of_keys files (view top.now.table.now)) }
+        ensures lists { F.lists_no_failure folder.old → F.lists_no_failure folder.new }
     {
         let format = format_at(top)?;
         let name = name_at(alloc, top)?;
@@ -175,6 +187,9 @@ fn top_of<F: Folder>(alloc: Global, folder: &mut F) -> Result<Value, SiteReadFau
         MatchResult result (λ top. top_of_files files ≡ Ok (view top)) (λ fault. IsRefusedAs (refusal_of fault) (top_of_files files)) }
     ensures keeps { KeepsKnown (F.files folder.old) (F.files folder.new) (F.faults folder.old) (F.faults folder.new)
         SiteReadFault.Folder result }
+    ensures missing_only { F.lists_no_failure folder.old →
+        FailsAsMissing (F.files folder.new) result (top_of_files) }
+    ensures lists { F.lists_no_failure folder.old → F.lists_no_failure folder.new }
 {
     let bytes = content(alloc, folder, 0, "site.toml")?;
     toml_of(alloc, 0, &bytes)
