@@ -1,2 +1,5 @@
-pub mod AllRecords
 pub mod Ends
+pub mod NextRecords
+pub mod Lefts
+pub mod MoreRows
+pub mod FirstNoRow

@@ -1,2 +1,4 @@
 pub mod Blanks
 pub mod Records
+pub mod Left
+pub mod Rows

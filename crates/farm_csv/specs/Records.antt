@@ -1,10 +1,6 @@
 -- The records of a CSV text, each a list of its fields, and each field a list of bytes.
 use Rattle.std.specs.Prelude.{ℕ, Bool, true, ◌&&◌, ◌==◌, List, [], ◌∷◌, length}
 use Rattle.csv.specs.Reading.{default_config, records, strip_bom}
-use Rattle.csv.specs.declared.error.ErrorKind.{ErrorKind}
-use Rattle.csv.specs.declared.error.ErrorKind.TheVariants as kind
-use Rattle.farm_csv.specs.declared.fault.CsvFault.{CsvFault}
-use Rattle.farm_csv.specs.declared.fault.CsvFault.TheVariants.{Uneven, NoMemory}
 
 -- the records of a text without its byte order mark, by the reader's defaults
 abbrev pub records_of : List ℕ → List (List (List ℕ))
@@ -19,12 +15,3 @@ all_of_length size (fields ∷ records) = length fields == size && all_of_length
 unfoldable pub equal_lengths : List (List (List ℕ)) → Bool
 equal_lengths [] = true
 equal_lengths (fields ∷ records) = all_of_length (length fields) records
-
--- what an error of the reader is reported as
-abbrev pub fault_of : ErrorKind → CsvFault
-fault_of (kind.UnequalLengths place expected len) = Uneven
-fault_of (kind.Io e) = NoMemory
-fault_of (kind.Utf8 place err) = NoMemory
-fault_of kind.OutOfMemory = NoMemory
-fault_of (kind.Serialize text) = NoMemory
-fault_of (kind.Deserialize place err) = NoMemory

@@ -1,30 +1,55 @@
-ghost use Rattle.std.specs.Prelude.{◌≡◌, ◌-◌, length, IfOk};
+ghost use Rattle.std.specs.Prelude.{◌≡◌, ◌==◌, if◌then◌else◌, IfOk, None, Ok, Some};
 ghost use Rattle.farm_csv.specs.Records.{records_of};
+ghost use Rattle.farm_csv.specs.Rows.{below_header, rows_from};
 
 use super::*;
+use crate::reading::{next, reader_of};
+use csv::ByteRecord;
 use std::alloc::Global;
 use std::test::Fail;
 
-/// How many records stand below the header of a table file.
-fn rows_below_header(alloc: Global, text: &[u8]) -> Result<usize, CsvFault>
-    ensures { IfOk result (λ count. count ≡ length (records_of text.now) - 1) }
+/// Two records are rows, each the number of those above it.
+struct FirstTwo;
+
+impl RowOf for FirstTwo {
+    type Row = usize;
+
+    ghost read = { λ above fields. if above == 2 then None else Some above };
+
+    fn read(above: usize, _fields: &ByteRecord) -> Option<usize> {
+        if above == 2 { None } else { Some(above) }
+    }
+}
+
+/// The rows of a text.
+fn first_two(alloc: Global, text: &[u8]) -> Result<Vec<usize>, CsvFault>
+    ensures { IfOk result (λ rows. rows_from (λ above fields. if above == 2 then None else Some above) 0 (below_header (records_of text.now)) ≡ Ok rows.items) }
 {
-    let records = records_of(alloc, text)?;
-    Ok(records.len().saturating_sub(1))
+    rows_below_header::<FirstTwo>(alloc, text)
 }
 
 #[test]
-fn a_header_is_a_record(rt: HostRuntime) -> Result<(), Fail> {
-    assert_eq!(rt; rows_below_header(rt.alloc(), b"")?, 0);
-    assert_eq!(rt; rows_below_header(rt.alloc(), b"a,b\n1,2\n\n3,4")?, 2);
+fn rows_stand_below_a_header(rt: HostRuntime) -> Result<(), Fail> {
+    let cases: [(&[u8], &[usize]); 4] = [
+        (b"", &[]),
+        (b"a,b", &[]),
+        (b"a,b\n1,2\n\n3,4", &[0, 1]),
+        (b"a\n1\n", &[0]),
+    ];
+    for (text, want) in cases {
+        let rows = first_two(rt.alloc(), text)?;
+        assert_eq!(rt; rows.as_slice(), want);
+    }
     Ok(())
 }
 
 /// The records of a text, each field after a bar and each record before a slash.
 fn shown(alloc: Global, text: &[u8]) -> Result<Vec<u8>, Fail> {
     let mut shown = Vec::new(alloc);
-    for record in &records_of(alloc, text)? {
-        for field in record {
+    let mut reader = reader_of(alloc, text);
+    let mut record = ByteRecord::new(alloc);
+    while next(&mut reader, &mut record)? {
+        for field in &record {
             shown.push(b'|')?;
             shown.extend_from_slice(without_blanks(field))?;
         }
@@ -53,10 +78,16 @@ fn records_and_their_fields(rt: HostRuntime) -> Result<(), Fail> {
 }
 
 #[test]
-fn uneven_records(rt: HostRuntime) {
-    let cases: [&[u8]; 3] = [b"a,b\n1\n", b"a\n1,2\n", b"a,b\n1,2\n1,2,3\n"];
-    for text in cases {
-        let fault = records_of(rt.alloc(), text).err();
-        assert_eq!(rt; fault, Some(CsvFault::Uneven));
+fn faults_of_rows(rt: HostRuntime) {
+    let cases: [(&[u8], CsvFault); 5] = [
+        (b"a,b\n1\n", CsvFault::Uneven),
+        (b"a\n1,2\n", CsvFault::Uneven),
+        (b"a,b\n1,2\n1,2,3\n", CsvFault::Uneven),
+        (b"a\n1\n2\n3\n4\n", CsvFault::NoRow(3)),
+        (b"a\n1\n2\n3\n4\n5,6\n", CsvFault::Uneven),
+    ];
+    for (text, want) in cases {
+        let fault = first_two(rt.alloc(), text).err();
+        assert_eq!(rt; fault, Some(want));
     }
 }

@@ -1,14 +1,16 @@
--- Rows of records, one after the other.
-use Rattle.std.proofs.Common.{◌≡◌, ◌≢◌, ℕ, zero, suc, ◌-◌, ◌<◌, ◌≤◌, List, [], ◌∷◌, ◌++◌, length, map, take, drop, true, false, Option, Some, None, refl, arith}
-use Rattle.std.proofs.lemmas.List.{take_all}
+-- The fields of a record, and the rows of records.
+use Rattle.std.proofs.Common.{◌≡◌, ◌≢◌, ℕ, zero, suc, ◌+◌, ◌<◌, List, [], ◌∷◌, length, Option, Some, None, refl, arith}
 use Rattle.std.specs.Prelude.{Result, Ok, Err}
-use Rattle.csv.specs.Records.{Row, field_at, fields_of}
-use Rattle.farm_vcf.specs.declared.rows.Listed.{Listed}
+use Rattle.csv.specs.Records.{field_at}
 use Rattle.farm_base.specs.Steps.{IsRefusedAs}
-use Rattle.farm_vcf.specs.Faults.{FactorFault, Csv, NotGrid}
-use Rattle.farm_vcf.specs.Rows.{grid_of_rows}
 use Rattle.farm_csv.specs.Records.{equal_lengths, records_of}
-use Rattle.farm_vcf.specs.Records.{grid_of_few, grid_of_records, grid_under_header, rows_from, vcf_of, row_of, row_of_fields}
+use Rattle.farm_csv.specs.Rows as csv
+use Rattle.farm_csv.specs.Rows.{AreRows, IsFaultOfRows, below_header}
+use Rattle.farm_csv.specs.declared.fault.CsvFault.{CsvFault}
+use Rattle.farm_csv.specs.declared.fault.CsvFault.TheVariants as cause
+use Rattle.farm_vcf.specs.declared.rows.Listed.{Listed}
+use Rattle.farm_vcf.specs.Faults.{BadField, FactorFault, fault_of, reported}
+use Rattle.farm_vcf.specs.Records.{grid_of_few, grid_of_records, grid_under_header, row_of, row_of_fields, rows_from, vcf_of, with_row}
 
 -- a record of three fields
 pub three_fields : (fields : List (List ℕ)) (a b c : List ℕ) → length fields ≡ 3 → Some a ≡ field_at fields 0 → Some b ≡ field_at fields 1 → Some c ≡ field_at fields 2 → row_of fields ≡ row_of_fields a b c
@@ -39,36 +41,35 @@ field_there [] i within none = omega arith
 field_there (x ∷ fields) zero within none = cc
 field_there (x ∷ fields) (suc i) within none = field_there fields i (omega arith) none
 
--- rows that stand before those that are found
-abbrev pub prepended : List Listed → Result (List Listed) FactorFault → Result (List Listed) FactorFault
-prepended rows (Ok more) = Ok (rows ++ more)
-prepended rows (Err fault) = Err fault
+-- the rows of records as `farm_csv` defines them
+abbrev rows_of : ℕ → List (List (List ℕ)) → Result (List Listed) ℕ
+rows_of above records = csv.rows_from (λ above fields. row_of fields) above records
 
--- a fault of the rows is one of their grid
-pub refused_rows : (fault : Option FactorFault) (rows : Result (List Listed) FactorFault) → IsRefusedAs fault rows → IsRefusedAs fault (grid_of_few rows)
-refused_rows None rows is = tt
-refused_rows (Some fault) rows is = rw is refl
+-- the same rows, or the fault of the first record that is none
+abbrev with_fault : Result (List Listed) ℕ → Result (List Listed) FactorFault
+with_fault (Ok rows) = Ok rows
+with_fault (Err number) = Err (BadField number)
 
--- records of different lengths
-pub uneven_records : (text : List ℕ) → equal_lengths (records_of text) ≡ false → vcf_of text ≡ Err Csv
-unfolding grid_of_records
-uneven_records text uneven = rw uneven refl
+-- both are read alike
+rows_agree : (above : ℕ) (records : List (List (List ℕ))) → rows_from (above + 1) records ≡ with_fault (rows_of above records)
+rows_agree above [] = refl
+rows_agree above (fields ∷ records) = by (row_of fields) (rows_of (above + 1) records) (rows_agree (above + 1) records)
+  where
+    by : (row : Option Listed) (more : Result (List Listed) ℕ) → rows_from (above + 1 + 1) records ≡ with_fault more →
+        with_row (above + 1) row (rows_from (above + 1 + 1) records) ≡ with_fault (csv.with_row (above + 1) row more)
+    by None more same = refl
+    by (Some row) (Ok rows) same = rw same refl
+    by (Some row) (Err number) same = rw same refl
 
--- records of one length
-pub even_records : (text : List ℕ) → equal_lengths (records_of text) ≡ true → vcf_of text ≡ grid_under_header (records_of text)
-unfolding grid_of_records
-even_records text even = rw even refl
+-- the grid of a text with rows
+pub vcf_of_rows : (text : List ℕ) (rows : List Listed) → AreRows (λ above fields. row_of fields) (equal_lengths (records_of text)) (below_header (records_of text)) rows → vcf_of text ≡ grid_of_few (Ok rows)
+unfolding grid_of_records grid_under_header
+vcf_of_rows text rows are = rw (are.0, rows_agree 0 (below_header (records_of text)), are.1) refl
 
--- no records are no grid
-pub no_header : (records : List Row) → length records < 1 → grid_under_header (map fields_of records) ≡ Err (NotGrid 1)
-unfolding grid_under_header grid_of_rows
-no_header [] none = refl
-no_header (header ∷ records) none = absurd (omega arith)
-
--- the records after the header are taken
-pub after_header : (records : List Row) → 1 ≤ length records → grid_under_header (map fields_of records) ≡ grid_of_few (rows_from 1 (map fields_of (take (length records - 1) (drop 1 records))))
-unfolding grid_under_header
-after_header [] some = absurd (omega arith)
-after_header (header ∷ records) some =
-    let whole : take (length (header ∷ records) - 1) records ≡ records = take_all _ records (omega arith) in
-    rw whole refl
+-- a text whose records have a fault
+pub vcf_of_fault : (text : List ℕ) (fault : CsvFault) → IsFaultOfRows (λ above fields. row_of fields) (equal_lengths (records_of text)) (below_header (records_of text)) fault →
+    IsRefusedAs (reported (fault_of fault)) (vcf_of text)
+unfolding grid_of_records grid_under_header
+vcf_of_fault text cause.Uneven is = rw is refl
+vcf_of_fault text (cause.NoRow number) is = rw (is.0, rows_agree 0 (below_header (records_of text)), is.1) refl
+vcf_of_fault text cause.NoMemory is = tt

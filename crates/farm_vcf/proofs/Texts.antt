@@ -5,12 +5,13 @@ use Rattle.std.proofs.lemmas.List.Elements.{All-cons, All-nil}
 use Rattle.std.specs.Prelude.{IfSome, IsSome, MatchResult, Result, Ok, Err}
 use Rattle.farm_base.specs.Steps.{IsRefusedAs}
 use Rattle.farm_csv.specs.Records.{all_of_length, equal_lengths, records_of}
+use Rattle.farm_csv.specs.Rows.{below_header}
 use Rattle.farm_vcf.specs.declared.fault.VcfFault.{VcfFault}
 use Rattle.farm_vcf.specs.declared.rows.Listed.{Listed}
 use Rattle.farm_vcf.specs.Blocks.{IsFaultOfRows, IsGridOf}
 use Rattle.farm_vcf.specs.Faults.{FactorFault, Csv, BadField, TooMany, NotGrid, reported}
 use Rattle.farm_vcf.specs.Grid.{Grid}
-use Rattle.farm_vcf.specs.Records.{IsFaultOfText, IsFirstBadRecord, IsGridOfText, IsUneven, below_header, grid_of_few, grid_of_records, grid_under_header, row_of, rows_below_header, rows_from, vcf_of, with_row}
+use Rattle.farm_vcf.specs.Records.{IsFaultOfText, IsFirstBadRecord, IsGridOfText, IsUneven, grid_of_few, grid_of_records, grid_under_header, row_of, rows_below_header, rows_from, vcf_of, with_row}
 use Rattle.farm_vcf.specs.Rows.{grid_of_rows}
 use Rattle.farm_vcf.proofs.Meanings.{answered_right, reported_right, rows_mean}
 

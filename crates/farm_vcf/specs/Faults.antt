@@ -1,6 +1,8 @@
 -- Why a text or its rows are no grid. Records are counted from 1 after the header. The definitions answer these faults; a call
 -- may also run out of memory, which is no fault of a text.
 use Rattle.std.specs.Prelude.{ℕ, Option, Some, None}
+use Rattle.farm_csv.specs.declared.fault.CsvFault.{CsvFault}
+use Rattle.farm_csv.specs.declared.fault.CsvFault.TheVariants as rows
 use Rattle.farm_vcf.specs.declared.fault.VcfFault.{VcfFault}
 use Rattle.farm_vcf.specs.declared.fault.VcfFault.TheVariants as variants
 
@@ -19,3 +21,9 @@ reported (variants.BadField number) = Some (BadField number)
 reported variants.TooMany = Some TooMany
 reported (variants.NotGrid number) = Some (NotGrid number)
 reported variants.NoMemory = None
+
+-- what a fault of the records is reported as
+abbrev pub fault_of : CsvFault → VcfFault
+fault_of rows.Uneven = variants.Csv
+fault_of (rows.NoRow number) = variants.BadField number
+fault_of rows.NoMemory = variants.NoMemory

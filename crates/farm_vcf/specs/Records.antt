@@ -4,6 +4,7 @@ use Rattle.farm_fixed.specs.declared.fault.ReadFault.{ReadFault}
 use Rattle.farm_fixed.specs.Parsing.{quantity_of}
 use Rattle.farm_csv.specs.Blanks.{without_blanks}
 use Rattle.farm_csv.specs.Records.{equal_lengths, records_of}
+use Rattle.farm_csv.specs.Rows.{below_header}
 use Rattle.farm_vcf.specs.declared.grid.TheConstants.{MOST_FACTORS}
 use Rattle.farm_vcf.specs.declared.rows.Listed.{Listed}
 use Rattle.farm_vcf.specs.Faults.{FactorFault, Csv, BadField, TooMany, NotGrid}
@@ -49,11 +50,6 @@ rows_from number (fields ∷ records) = with_row number (row_of fields) (rows_fr
 abbrev pub grid_of_few : Result (List Listed) FactorFault → Result Grid FactorFault
 grid_of_few (Err fault) = Err fault
 grid_of_few (Ok rows) = if nat_lt MOST_FACTORS (length rows) then Err TooMany else grid_of_rows rows
-
--- the records below the header; no records where there is no header
-abbrev pub below_header : List (List (List ℕ)) → List (List (List ℕ))
-below_header [] = []
-below_header (header ∷ records) = records
 
 -- the rows of the records below the header
 abbrev pub rows_below_header : List (List (List ℕ)) → Result (List Listed) FactorFault

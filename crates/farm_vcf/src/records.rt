@@ -1,16 +1,16 @@
 //! The records of a factor file, and the grid that they list.
 
-ghost use Rattle.std.specs.Prelude.{◌≡◌, map, MatchResult, Ok};
+ghost use Rattle.std.specs.Prelude.{◌≡◌, MatchResult, Ok};
 ghost use Rattle.csv.specs.Records.{fields_of};
 ghost use Rattle.farm_base.specs.Steps.{IsRefusedAs};
-ghost use Rattle.farm_vcf.specs.Faults.{reported};
-ghost use Rattle.farm_vcf.specs.Records.{grid_of_few, grid_under_header, row_of, row_of_fields, rows_from, vcf_of};
+ghost use Rattle.farm_vcf.specs.Faults.{fault_of, reported};
+ghost use Rattle.farm_vcf.specs.Records.{grid_of_few, row_of, row_of_fields, vcf_of};
 
 use crate::grid::MOST_FACTORS;
 use crate::rows::{Listed, grid_of_rows};
 use crate::{Vcf, VcfFault};
 use csv::ByteRecord;
-use farm_csv::{CsvFault, records_of, without_blanks};
+use farm_csv::{CsvFault, RowOf, rows_below_header, without_blanks};
 use farm_fixed::{Centi, Dens, Fac5};
 use std::alloc::Global;
 
@@ -18,30 +18,20 @@ use std::alloc::Global;
 pub fn vcf_of(alloc: Global, text: &[u8]) -> Result<Vcf, VcfFault>
     ensures { MatchResult result (λ grid. vcf_of text.now ≡ Ok grid) (λ fault. IsRefusedAs (reported fault) (vcf_of text.now)) }
 {
-    match records_of(alloc, text) {
-        Ok(records) => grid_under_header(alloc, records.as_slice()),
-        Err(CsvFault::Uneven) => Err(VcfFault::Csv),
-        Err(CsvFault::NoMemory) => Err(VcfFault::NoMemory),
-    }
-}
-
-/// The grid of the records after the header.
-fn grid_under_header(alloc: Global, records: &[ByteRecord]) -> Result<Vcf, VcfFault>
-    ensures { MatchResult result (λ grid. grid_under_header (map fields_of records.now) ≡ Ok grid) (λ fault. IsRefusedAs (reported fault) (grid_under_header (map fields_of records.now))) }
-{
-    match records {
-        [] => Err(VcfFault::NotGrid(1)),
-        [_, body @ ..] => grid_of_body(alloc, body),
-    }
-}
-
-/// The grid of the records, no header among them.
-fn grid_of_body(alloc: Global, records: &[ByteRecord]) -> Result<Vcf, VcfFault>
-    ensures { MatchResult result (λ grid. grid_of_few (rows_from 1 (map fields_of records.now)) ≡ Ok grid) (λ fault. IsRefusedAs (reported fault) (grid_of_few (rows_from 1 (map fields_of records.now)))) }
-{
-    match rows_of(alloc, records) {
+    match rows_below_header::<FactorRows>(alloc, text) {
         Ok(rows) => grid_of_few(alloc, rows.as_slice()),
-        Err(fault) => Err(fault),
+        Err(fault) => Err(fault_of(fault)),
+    }
+}
+
+/// What a fault of the records is reported as.
+fn fault_of(fault: CsvFault) -> VcfFault
+    ensures { result ≡ fault_of fault }
+{
+    match fault {
+        CsvFault::Uneven => VcfFault::Csv,
+        CsvFault::NoRow(number) => VcfFault::BadField(number),
+        CsvFault::NoMemory => VcfFault::NoMemory,
     }
 }
 
@@ -55,18 +45,17 @@ fn grid_of_few(alloc: Global, rows: &[Listed]) -> Result<Vcf, VcfFault>
     grid_of_rows(alloc, rows)
 }
 
-/// The rows of records.
-fn rows_of(alloc: Global, records: &[ByteRecord]) -> Result<Vec<Listed>, VcfFault>
-    ensures { MatchResult result (λ list. rows_from 1 (map fields_of records.now) ≡ Ok list.items) (λ fault. IsRefusedAs (reported fault) (rows_from 1 (map fields_of records.now))) }
-{
-    let mut rows = Vec::new(alloc);
-    for (index, fields) in records.iter().enumerate() {
-        match row_of(fields) {
-            Some(row) => rows.push(row)?,
-            None => return Err(VcfFault::BadField(index + 1)),
-        }
+/// A record of a factor file is read as a density, a temperature and a factor.
+struct FactorRows;
+
+impl RowOf for FactorRows {
+    type Row = Listed;
+
+    ghost read = { λ above fields. row_of fields };
+
+    fn read(_above: usize, fields: &ByteRecord) -> Option<Listed> {
+        row_of(fields)
     }
-    Ok(rows)
 }
 
 /// The row of a record.

@@ -5,13 +5,17 @@ use Rattle.farm_base.specs.Steps.{◌>>=◌}
 use Rattle.csv.specs.Records.{field_at}
 use Rattle.farm_csv.specs.Blanks.{without_blanks}
 use Rattle.farm_csv.specs.Records.{equal_lengths, records_of}
+use Rattle.farm_csv.specs.declared.fault.CsvFault.{CsvFault}
+use Rattle.farm_csv.specs.declared.fault.CsvFault.TheVariants.{Uneven, NoRow, NoMemory}
 use Rattle.farm_fixed.specs.Whole.{whole_number}
 use Rattle.strap_table.specs.Faults.{first_fault}
 use Rattle.strap_table.specs.declared.fault.TableFault.{TableFault}
 use Rattle.strap_table.specs.declared.fault.TableFault.TheVariants as rows
 use Rattle.site_keys.specs.declared.codes.TheConstants.{FIELD, TABLE, TEXT}
 use Rattle.site_keys.specs.declared.fault.SiteFault.{SiteFault}
-use Rattle.site_keys.specs.Faults.{bad, detail}
+use Rattle.site_keys.specs.declared.fault.SiteReadFault.{SiteReadFault}
+use Rattle.site_keys.specs.declared.fault.SiteReadFault.TheVariants as read
+use Rattle.site_keys.specs.Faults.{bad, detail, fault_at}
 
 -- the litres of a record, where its level is the one that is due
 abbrev pub litres_at : ℕ → Option ℤ → Option ℤ → Option ℤ
@@ -74,3 +78,9 @@ table_of_records item records = do
 unfoldable pub table_of_file : ℕ → List ℕ → Result (List ℤ) SiteFault
 table_of_file item bytes =
     if equal_lengths (records_of bytes) then table_of_records item (records_of bytes) else bad TEXT item 0
+
+-- what a fault of the records of a file is reported as
+abbrev pub fault_of : ℕ → CsvFault → SiteReadFault
+fault_of item Uneven = read.Bad (fault_at TEXT item 0)
+fault_of item (NoRow number) = read.Bad (fault_at FIELD item (detail number))
+fault_of item NoMemory = read.NoMemory

@@ -1,45 +1,40 @@
 //! Capacity tables of a site.
 
-ghost use Rattle.std.specs.Prelude.{◌≡◌, ◌≤◌, ◌+◌, ◌*◌, ◌-◌, ◌^◌, length, map, pos, MatchResult, Ok, IfErr};
+ghost use Rattle.std.specs.Prelude.{◌≡◌, ◌≤◌, ◌+◌, ◌*◌, ◌-◌, ◌^◌, length, pos, MatchResult, Ok, IfErr};
 ghost use Rattle.std.specs.Ordering.{int_eq};
 ghost use Rattle.csv.specs.Records.{fields_of};
 ghost use Rattle.farm_base.specs.Steps.{IsRefusedAs};
 ghost use Rattle.site_keys.specs.Faults.{IsNotTheFolders, reported};
-ghost use Rattle.site_tables.specs.Tables.{litres_at, litres_from, litres_of, litres_under_header, number_in, table_of_file, table_of_records, table_of_rows};
+ghost use Rattle.site_tables.specs.Tables.{fault_of, litres_at, litres_of, number_in, table_of_file, table_of_rows};
 
 use csv::ByteRecord;
-use farm_csv::{CsvFault, records_of, without_blanks};
+use farm_csv::{CsvFault, RowOf, rows_below_header, without_blanks};
 use farm_fixed::whole_number;
 use site_keys::{FIELD, SiteFault, SiteReadFault, TABLE, TEXT, bad, bad_at};
 use std::alloc::Global;
 use strap_table::{CapTable, TableFault};
 
 /// The capacity table of a file: a header that isn't looked at, and a level and its litres each 10 mm.
-#[tactic(auto, unfolding(crate::specs::Tables::table_of_file))]
 pub fn table_of_file(alloc: Global, item: u32, bytes: &[u8]) -> Result<CapTable, SiteReadFault>
     ensures table { MatchResult result (λ table. table_of_file item bytes.now ≡ Ok table) (λ fault. IsRefusedAs (reported fault) (table_of_file item bytes.now)) }
     ensures not_the_folders { IfErr result IsNotTheFolders }
 {
-    match records_of(alloc, bytes) {
-        Ok(records) => table_of_records(alloc, item, &records),
-        Err(CsvFault::Uneven) => Err(bad(TEXT, item).into()),
-        Err(CsvFault::NoMemory) => Err(SiteReadFault::NoMemory),
+    match rows_below_header::<Litres>(alloc, bytes) {
+        Ok(rows) => Ok(table_of_rows(item, rows)?),
+        Err(fault) => Err(fault_of(item, fault)),
     }
 }
 
-// The capacity table of the records of a file.
-#[tactic(auto, unfolding(crate::specs::Tables::table_of_records))]
-fn table_of_records(
-    alloc: Global,
-    item: u32,
-    records: &[ByteRecord],
-) -> Result<CapTable, SiteReadFault>
-    ensures table { MatchResult result (λ table. table_of_records item (map fields_of records.now) ≡ Ok table)
-        (λ fault. IsRefusedAs (reported fault) (table_of_records item (map fields_of records.now))) }
-    ensures not_the_folders { IfErr result IsNotTheFolders }
+// What a fault of the records is reported as.
+fn fault_of(item: u32, fault: CsvFault) -> SiteReadFault
+    ensures fault { result ≡ fault_of item fault }
+    ensures not_the_folders { IsNotTheFolders result }
 {
-    let rows = litres_under_header(alloc, item, records)?;
-    Ok(table_of_rows(item, rows)?)
+    match fault {
+        CsvFault::Uneven => bad(TEXT, item).into(),
+        CsvFault::NoRow(number) => bad_at(FIELD, item, number).into(),
+        CsvFault::NoMemory => SiteReadFault::NoMemory,
+    }
 }
 
 /// The capacity table of rows.
@@ -55,36 +50,17 @@ pub fn table_of_rows(item: u32, rows: Vec<i64>) -> Result<CapTable, SiteFault>
     }
 }
 
-// The litres of the records after the header.
-fn litres_under_header(
-    alloc: Global,
-    item: u32,
-    records: &[ByteRecord],
-) -> Result<Vec<i64>, SiteReadFault>
-    ensures litres { MatchResult result (λ litres. litres_under_header item (map fields_of records.now) ≡ Ok litres.items)
-        (λ fault. IsRefusedAs (reported fault) (litres_under_header item (map fields_of records.now))) }
-    ensures not_the_folders { IfErr result IsNotTheFolders }
-{
-    match records {
-        [] => Ok(Vec::new(alloc)),
-        [_, body @ ..] => litres_from(alloc, item, body),
-    }
-}
+// A record of a table file is read as the litres at the level that is due.
+struct Litres;
 
-// The litres of records, of which the first is due at 0 mm.
-fn litres_from(alloc: Global, item: u32, records: &[ByteRecord]) -> Result<Vec<i64>, SiteReadFault>
-    ensures litres { MatchResult result (λ litres. litres_from item (map fields_of records.now) ≡ Ok litres.items)
-        (λ fault. IsRefusedAs (reported fault) (litres_from item (map fields_of records.now))) }
-    ensures not_the_folders { IfErr result IsNotTheFolders }
-{
-    let mut rows = Vec::new(alloc);
-    for (index, fields) in records.iter().enumerate() {
-        match litres_of(index, fields) {
-            Some(litres) => rows.push(litres)?,
-            None => return Err(bad_at(FIELD, item, index + 1).into()),
-        }
+impl RowOf for Litres {
+    type Row = i64;
+
+    ghost read = { λ above fields. litres_of (10 * above) fields };
+
+    fn read(above: usize, fields: &ByteRecord) -> Option<i64> {
+        litres_of(above, fields)
     }
-    Ok(rows)
 }
 
 // The litres of a record whose level is that of row `row`.
