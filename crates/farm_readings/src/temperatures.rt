@@ -1,0 +1,38 @@
+//! The mean of temperatures taken at several heights of a tank.
+
+ghost use Rattle.std.specs.Prelude.{◌≡◌, ◌≤◌, ◌*◌, length, pos, negsuc, ◌+ℤ◌, ◌≤ℤ◌};
+ghost use Rattle.farm_rounding.specs.Multiple.{IsNearest};
+ghost use Rattle.farm_rounding.specs.Table.{row_at};
+ghost use Rattle.farm_rounding.specs.declared.table.TheConstants.{LIQUID_TEMPERATURE};
+ghost use Rattle.farm_readings.specs.Readings.{AreTemperatures, mean_temperature, total};
+
+use crate::in_range::temperature;
+use farm_fixed::Centi;
+use farm_rounding::{LIQUID_TEMPERATURE, RoundTable, nearest, sum};
+
+/// How many temperatures a mean may have.
+pub const MOST_TEMPERATURES: usize = 8;
+
+/// The mean of 1 to 8 temperatures, rounded.
+pub fn mean_temp(list: &[Centi], rounds: &RoundTable) -> Centi
+    requires { AreTemperatures list.now }
+    ensures value { result ≡ mean_temperature rounds.now list.now }
+    ensures meaning { IsNearest (row_at rounds.now LIQUID_TEMPERATURE).1 (total list.now) (length list.now) (row_at rounds.now LIQUID_TEMPERATURE).0 result }
+{
+    let (step, mode) = rounds.row(LIQUID_TEMPERATURE);
+    temperature(nearest(total(list), list.len() as i128, step, mode))
+}
+
+// The sum of temperatures.
+fn total(list: &[Centi]) -> i128
+    requires { AreTemperatures list.now }
+    ensures value { result ≡ total list.now }
+    ensures low { pos 0 ≤ℤ (result +ℤ pos (10000 * length list.now)) }
+    ensures high { result ≤ℤ pos (30000 * length list.now) }
+{
+    let mut total = 0;
+    for temperature in list {
+        total = sum(total, i128::from(temperature.get()));
+    }
+    total
+}
