@@ -19,11 +19,11 @@ apart first second = unsigned_abs (first -ℤ second)
 abbrev pub is_close : ℤ → ℤ → Bool
 is_close first second = nat_le (apart first second) MOST_SPREAD
 
--- and so does each pair of them
+-- each two of three tapes do
 abbrev pub are_close : ℤ → ℤ → ℤ → Bool
 are_close first second third = is_close first second && is_close second third && is_close first third
 
--- two tapes have one reading, or none
+-- two tapes have their reading where it is the same
 abbrev pub tape_of_two : ℤ → ℤ → Result ℤ TapeFault
 tape_of_two first second = if int_eq first second then Ok first else Err Spread
 

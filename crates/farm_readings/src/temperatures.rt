@@ -1,14 +1,16 @@
 //! The mean of temperatures taken at several heights of a tank.
 
 ghost use Rattle.std.specs.Prelude.{◌≡◌, ◌≤◌, ◌*◌, length, pos, negsuc, ◌+ℤ◌, ◌≤ℤ◌};
-ghost use Rattle.farm_rounding.specs.Multiple.{IsNearest};
+ghost use Rattle.std.specs.Int.RustNames.{unsigned_abs};
+ghost use Rattle.farm_rounding.specs.Multiple.{IsAllowedStep, IsNearest, nearest_multiple};
 ghost use Rattle.farm_rounding.specs.Table.{row_at};
 ghost use Rattle.farm_rounding.specs.declared.table.TheConstants.{LIQUID_TEMPERATURE};
+ghost use Rattle.farm_readings.specs.declared.temperatures.TheConstants.{MOST_TEMPERATURES};
 ghost use Rattle.farm_readings.specs.Readings.{AreTemperatures, mean_temperature, total};
 
 use crate::in_range::temperature;
 use farm_fixed::Centi;
-use farm_rounding::{LIQUID_TEMPERATURE, RoundTable, nearest, sum};
+use farm_rounding::{LIQUID_TEMPERATURE, Mode, RoundTable, nearest, sum};
 
 /// How many temperatures a mean may have.
 pub const MOST_TEMPERATURES: usize = 8;
@@ -20,7 +22,20 @@ pub fn mean_temp(list: &[Centi], rounds: &RoundTable) -> Centi
     ensures meaning { IsNearest (row_at rounds.now LIQUID_TEMPERATURE).1 (total list.now) (length list.now) (row_at rounds.now LIQUID_TEMPERATURE).0 result }
 {
     let (step, mode) = rounds.row(LIQUID_TEMPERATURE);
-    temperature(nearest(total(list), list.len() as i128, step, mode))
+    rounded_mean(total(list), list.len(), step, mode)
+}
+
+// The mean of as many temperatures as this, by their sum.
+fn rounded_mean(total: i128, count: usize, step: i64, mode: Mode) -> Centi
+    requires some { 1 ≤ count }
+    requires few { count ≤ MOST_TEMPERATURES }
+    requires low { pos 0 ≤ℤ (total +ℤ pos (10000 * count)) }
+    requires high { total ≤ℤ pos (30000 * count) }
+    requires step { IsAllowedStep step }
+    ensures value { result ≡ nearest_multiple mode total count (unsigned_abs step) }
+    ensures meaning { IsNearest mode total count (unsigned_abs step) result }
+{
+    temperature(nearest(total, count as i128, step, mode))
 }
 
 // The sum of temperatures.

@@ -29,10 +29,7 @@ fn equal_or_close_tapes_have_a_reading(rt: HostRuntime) -> Result<(), Fail> {
         (&[12_344, 12_345][..], Err(TapeFault::Spread)),
         (&[12_345][..], Err(TapeFault::Count)),
         (&[][..], Err(TapeFault::Count)),
-        (
-            &[12_345, 12_345, 12_345, 12_345][..],
-            Err(TapeFault::Count),
-        ),
+        (&[12_345, 12_345, 12_345, 12_345][..], Err(TapeFault::Count)),
     ];
     for (heights, want) in cases {
         let reading = shared(reading(rt.alloc(), heights)?);
