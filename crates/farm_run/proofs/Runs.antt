@@ -1,5 +1,5 @@
 -- A run of a command, from what its parts did.
-use Rattle.std.proofs.Common.{◌≡◌, inl, inr, ℕ, ◌<◌, List, [], Option, Some, None, Result, Ok, Err, IfOk, MatchResult, refl, sym, subst, ◌∙◌, arith}
+use Rattle.std.proofs.Common.{◌≡◌, ◌⊎◌, inl, inr, ℕ, ◌<◌, List, [], Option, Some, None, Result, Ok, Err, IfOk, MatchResult, refl, sym, subst, ◌∙◌, arith}
 use Rattle.farm_base.specs.Counts.{Count, HasRisen, IsQuiet}
 use Rattle.farm_base.specs.Known.{WhereKnown}
 use Rattle.farm_run.specs.Texts.{no_memory, port_fault}
@@ -81,6 +81,19 @@ refused_by refusal said output status items (Err e) small is lacks = record {
   statuses = inr lacks;
   said = λ same. elim lacks.statuses [ inl six ↦ absurd (omega (arith, small.1)) | inr seven ↦ absurd (omega (arith, small.1)) ];
 }
+
+-- an answer that the output failed comes only where it did
+pub delivers_risen : (output : Output) (text : List ℕ) (status : ℕ) → Delivers output text status ⊎ LacksMemory output status →
+    status ≡ 6 → HasRisen output.count
+delivers_risen output text status (inl delivers) six = delivers.faulted six
+delivers_risen output text status (inr lacks) six = lacks.faulted six
+
+-- so it is of a refusal
+pub refused_risen : {V E : Type 0} (refusal : ℕ) (output : Output) (status : ℕ) (items : V → List ℕ) (made : Result V E) → IsRefusalStatus refusal →
+    MatchResult made (λ text. Refuses output refusal (items text) status) (λ _. LacksMemory output status) → status ≡ 6 → HasRisen output.count
+refused_risen refusal output status items (Ok text) small refuses six =
+    elim refuses.statuses [ inl same ↦ absurd (omega (arith, small.1)) | inr lacks ↦ lacks.faulted six ]
+refused_risen refusal output status items (Err e) small lacks six = lacks.faulted six
 
 -- an answer
 pub answers_delivering : {Why : Type 0} (refusal : ℕ) (says : Why → List ℕ) (has : Option (Result (List ℕ) Why)) (output : Output) (status : ℕ) (text : List ℕ) →

@@ -7,6 +7,8 @@ use Rattle.command_line.specs.declared.commands.Subcommand.{Subcommand}
 use Rattle.command_line.specs.declared.commands.Subcommand.TheVariants.{Calc, Table}
 use Rattle.calc_input.specs.declared.refusal.Refused.{Refused}
 use Rattle.calc_input.specs.RefusedLine.{IsRefusal}
+use Rattle.site_keys.specs.Faults.{IsMissing}
+use Rattle.farm_site.specs.Described.{site_of_files}
 use Rattle.farm_run.specs.Answers.{calc_of, table_of}
 use Rattle.farm_run.specs.Texts.{usage_line, no_memory, port_fault, refusal_text, site_refused_text}
 
@@ -99,6 +101,10 @@ pub record CalcRun (input : Option (List ℕ)) (source : Count) (output : Output
 -- `table` on the files of the folder
 abbrev pub TableRun : Option (List File) → Count → Output → ℕ → Type 0
 TableRun files folder output status = OneAnswerRun 2 site_refused_text table_of files folder output status
+
+-- a status of a fault over an output that didn't fail: a file of the site that is due is missing
+abbrev pub StopsAtMissing : Option (List File) → Output → ℕ → Type 0
+StopsAtMissing files output status = status ≡ 6 → ¬ (HasRisen output.count) → WhereKnown files (λ known. IsMissing (site_of_files known))
 
 -- a port on which no call is made
 abbrev pub unused : Count

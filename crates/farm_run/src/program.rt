@@ -8,7 +8,7 @@ ghost use Rattle.command_line.specs.Commands.{command_of};
 ghost use Rattle.calc_input.specs.declared.refusal.Refused.{Refused};
 ghost use Rattle.farm_run.specs.Answers.{calc_of, calc_text};
 ghost use Rattle.farm_run.specs.Texts.{port_fault, refusal_text};
-ghost use Rattle.farm_run.specs.Runs.{Answers, CalcRun, Delivers, LacksMemory, Puts, Refuses, TableRun, UsageRun, count_of, given, output_of, uses_folder, uses_input};
+ghost use Rattle.farm_run.specs.Runs.{Answers, CalcRun, Delivers, LacksMemory, Puts, Refuses, StopsAtMissing, TableRun, UsageRun, count_of, given, output_of, uses_folder, uses_input};
 
 use crate::texts::{NO_MEMORY, PORT_FAULT, USAGE, refusal_text, site_refused_text};
 use calc_input::{LIMIT, Unanswered, figures_of_input};
@@ -54,6 +54,10 @@ pub fn run<S: Source, K: Sink, F: Folder>(
         (output_of K.held K.faults output.old output.new) result }
     ensures table { command_of (map string_bytes words.now) ≡ Some Subcommand.Table →
         TableRun (F.files folder.new) (count_of F.faults folder.old folder.new) (output_of K.held K.faults output.old output.new) result }
+
+    // Over a folder that lists no failure and an output that didn't fail, `table` ends with 6 only where a file is missing.
+    ensures table_missing { command_of (map string_bytes words.now) ≡ Some Subcommand.Table → F.lists_no_failure folder.old →
+        StopsAtMissing (F.files folder.new) (output_of K.held K.faults output.old output.new) result }
 
     // A port that the command doesn't use gets no call, and no count ever falls.
     ensures input_kept { uses_input (command_of (map string_bytes words.now)) ≡ false → input.new ≡ input.old }
@@ -130,6 +134,8 @@ fn ten_lines(alloc: Global, figures: &Quantities) -> Result<Vec<u8>, NoMemory>
 // `table`: the site is read whole before the first byte is put.
 fn table<K: Sink, F: Folder>(alloc: Global, folder: &mut F, output: &mut K) -> u8
     ensures table_run { TableRun (F.files folder.new) (count_of F.faults folder.old folder.new) (output_of K.held K.faults output.old output.new) result }
+    ensures missing_only { F.lists_no_failure folder.old →
+        StopsAtMissing (F.files folder.new) (output_of K.held K.faults output.old output.new) result }
     ensures files { Stays (F.files folder.old) (F.files folder.new) }
     ensures folder_never_falls { F.faults folder.old ≤ F.faults folder.new }
     ensures output_never_falls { K.faults output.old ≤ K.faults output.new }

@@ -4,7 +4,7 @@ use Rattle.std.specs.Prelude.{Vec}
 use Rattle.farm_report.specs.Issued.{issued_text}
 use Rattle.farm_run.specs.Answers.{issued_of, table_of}
 use Rattle.farm_run.specs.Texts.{site_refused_text}
-use Rattle.farm_run.proofs.Runs.{answers_delivering, answers_refusing, answers_lacking, known_map, refused_by, run_answering, run_faulted, run_lacking}
+use Rattle.farm_run.proofs.Runs.{answers_delivering, answers_refusing, answers_lacking, delivers_risen, known_map, refused_by, refused_risen, run_answering, run_faulted, run_lacking}
 use Rattle.farm_run.proofs.program.table.Goals as goal
 
 pub returns-in-Ok-clause-table_run : goal.returns-in-Ok-clause-table_run
@@ -31,3 +31,17 @@ returns-in-Err-Folder-clause-table_run g c =
 
 pub returns-in-Err-NoMemory-clause-table_run : goal.returns-in-Err-NoMemory-clause-table_run
 returns-in-Err-NoMemory-clause-table_run g c = run_lacking 2 site_refused_text table_of _ _ _ _ (omega arith, omega arith) (c.in-Err-NoMemory.ensures.keeps.quiet (λ same. let other = c.in-Err-NoMemory.field-0-is in cc)) c.report_no_memory.ensures.lacks_memory
+
+pub returns-in-Ok-clause-missing_only : goal.returns-in-Ok-clause-missing_only
+returns-in-Ok-clause-missing_only g c = λ none six quiet. absurd (quiet (delivers_risen _ _ _ c.issue.ensures.issues six))
+
+pub returns-in-Err-Bad-clause-missing_only : goal.returns-in-Err-Bad-clause-missing_only
+returns-in-Err-Bad-clause-missing_only g c = λ none six quiet.
+    absurd (quiet (refused_risen 2 _ _ (λ (text : Vec ℕ Global). text.items) c.site_refused_text.result (omega arith, omega arith) c.refuse.ensures.refuses six))
+
+pub returns-in-Err-Folder-clause-missing_only : goal.returns-in-Err-Folder-clause-missing_only
+returns-in-Err-Folder-clause-missing_only g c = λ none six quiet.
+    known_map (g.F.Folder.files c.read.new.folder) _ _ (λ files is. is (ap Err c.in-Err-Folder.field-0-is)) (c.in-Err-Folder.ensures.missing_only none)
+
+pub returns-in-Err-NoMemory-clause-missing_only : goal.returns-in-Err-NoMemory-clause-missing_only
+returns-in-Err-NoMemory-clause-missing_only g c = λ none six quiet. absurd (quiet (c.report_no_memory.ensures.lacks_memory.faulted six))
