@@ -9,12 +9,15 @@ use farm_base::is_blank;
 use memchr::memchr;
 use std::alloc::{AllocError, Global};
 
+/// The bytes of a short line. Room for lines of this length is taken at first, without a count of them, and more as it is needed.
+const SHORT_LINE: usize = 8;
+
 /// The lines of an input, each without the line feed that ends it and a carriage return before that.
 #[tactic(auto, unfolding(crate::specs::Lines::lines_of))]
 pub fn lines_of(alloc: Global, bytes: &[u8]) -> Result<Vec<&[u8]>, AllocError>
     ensures { IfOk result (λ lines. map (λ line. line.now) lines.items ≡ lines_of bytes.now) }
 {
-    let mut lines = Vec::with_capacity(alloc, line_feeds(bytes) + 1)?;
+    let mut lines = Vec::with_capacity(alloc, bytes.len() / SHORT_LINE + 1)?;
     let mut rest = bytes;
     while let Some((line, after)) = first_line(rest) {
         lines.push(without_return(line))?;
