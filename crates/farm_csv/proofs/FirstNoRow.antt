@@ -1,6 +1,6 @@
 -- The first record that is no row, in the words of the rule.
 use Rattle.std.proofs.Common.{◌≡◌, ℕ, ◌+◌, Bool, List, [], ◌∷◌, ◌++◌, length, Option, Some, None, refl, ap, arith}
-use Rattle.std.specs.Prelude.{IsOk, MatchResult, Result, Ok, Err}
+use Rattle.std.specs.Prelude.{MatchResult, Result, Ok, Err}
 use Rattle.farm_csv.specs.Rows.{IsFaultOfRows, IsFirstNoRow, rows_from, with_row}
 use Rattle.farm_csv.specs.declared.fault.CsvFault.{CsvFault}
 use Rattle.farm_csv.specs.declared.fault.CsvFault.TheVariants.{Uneven, NoRow, NoMemory}

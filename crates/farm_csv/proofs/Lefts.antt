@@ -1,5 +1,5 @@
 -- What a read of the next record leaves of a text.
-use Rattle.std.proofs.Common.{◌≡◌, ◌≢◌, ℕ, ◌==◌, ◌&&◌, Bool, Bor, true, false, List, [], ◌∷◌, length, Option, Some, None, refl, sym, ap, ◌∙◌, inl, eq-eqb, ne_eqb, arith}
+use Rattle.std.proofs.Common.{◌≡◌, ◌≢◌, ℕ, Bor, true, false, List, [], ◌∷◌, length, Option, Some, None, refl, sym, ap, ◌∙◌, inl, eq-eqb, ne_eqb}
 use Rattle.std.specs.Prelude.{IfSome}
 use Rattle.csv.specs.Machine.{Read, ends_at_end, next_record}
 use Rattle.csv.specs.Reading.{ExplainsRead, NextIs, Reached, ReadRecord, ReadsNext, default_config, is_flexible, took_first}
@@ -9,7 +9,7 @@ use Rattle.csv.specs.declared.parser.State.{State}
 use Rattle.csv.specs.declared.reader.Reader.{Reader}
 use Rattle.csv.proofs.ReadFacts.{rows-end, rows-more}
 use Rattle.farm_csv.specs.Left.{IsReading, bytes_left, fault_of, have_length, is_even_left, left_from, left_of}
-use Rattle.farm_csv.specs.Records.{all_of_length, equal_lengths}
+use Rattle.farm_csv.specs.Records.{equal_lengths}
 use Rattle.farm_csv.specs.Rows.{IsFaultOfLengths}
 use Rattle.farm_csv.proofs.NextRecords.{first_of, none_of}
 

@@ -1,5 +1,5 @@
 -- Rows of records, one after the other.
-use Rattle.std.proofs.Common.{◌≡◌, ℕ, ◌+◌, List, [], ◌∷◌, ◌++◌, length, Option, Some, None, Bool, refl, ap, append_assoc, length-append, arith}
+use Rattle.std.proofs.Common.{◌≡◌, ℕ, ◌+◌, List, [], ◌∷◌, ◌++◌, length, Option, Some, Bool, refl, ap, append_assoc, length-append, arith}
 use Rattle.std.specs.Prelude.{Result, Ok, Err}
 use Rattle.farm_csv.specs.Rows.{IsFaultOfLengths, IsFaultOfRows, rows_from, with_row}
 use Rattle.farm_csv.specs.declared.fault.CsvFault.{CsvFault}

@@ -1,4 +1,3 @@
-use Rattle.std.proofs.Common.{◌≡◌, true, false, refl, sym}
 use Rattle.csv.specs.Reading.{error_kind}
 use Rattle.csv.specs.Records.{fields_of}
 use Rattle.farm_csv.proofs.Lefts.{fault_is, none_taken, taken}

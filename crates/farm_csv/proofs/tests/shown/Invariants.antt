@@ -2,8 +2,8 @@ use Rattle.std.proofs.Common.{length}
 use Rattle.farm_csv.specs.Left.{IsReading, left_of}
 use Rattle.farm_csv.proofs.tests.shown.Given as goal
 
-abbrev pub invariant-loop-shown : goal.invariant-loop-shown
-invariant-loop-shown l = IsReading l.reader
+abbrev pub invariant-loop-record : goal.invariant-loop-record
+invariant-loop-record l = IsReading l.reader
 
-abbrev pub decreases-loop-shown : goal.decreases-loop-shown
-decreases-loop-shown l = length (left_of l.reader)
+abbrev pub decreases-loop-record : goal.decreases-loop-record
+decreases-loop-record l = length (left_of l.reader)
