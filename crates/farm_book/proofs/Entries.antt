@@ -1,0 +1,117 @@
+-- A book stays sound with one entry more, and has the moment of its last entry.
+use Rattle.std.proofs.Common.{◌≡◌, ◌⊎◌, inl, inr, ℕ, ◌+◌, ◌-◌, ◌<◌, ◌≤◌, Bool, true, false, List, [], ◌∷◌, ◌++◌, length, Option, Some, None, ℤ, refl, arith, ap, sym, subst, ◌∙◌, length-append}
+use Rattle.std.specs.Prelude.{if◌then◌else◌, slice_get}
+use native.Mathlib.Numerals.{unary_clauses}
+use Rattle.std.proofs.lemmas.Bool.Decides.{nat_tests}
+use Rattle.farm_base.specs.Steps.{or_else}
+use Rattle.farm_site.specs.Described.{Described}
+use Rattle.farm_history.specs.declared.entry.Entry.{Entry}
+use Rattle.farm_history.specs.declared.limits.TheConstants.{GREATEST_LIMIT, STOPS_BEYOND_LIMIT}
+use Rattle.farm_history.specs.declared.rule.Rule.{Rule}
+use Rattle.farm_history.specs.declared.rule.Rule.TheVariants.{HistoryFull}
+use Rattle.farm_history.specs.declared.verdict.Verdict.{Verdict}
+use Rattle.farm_history.specs.declared.verdict.Verdict.TheVariants.{Accept}
+use Rattle.farm_history.specs.Commands.{is_stop}
+use Rattle.farm_history.specs.History.{History, empty_history, last_place, moment_after, with_entry}
+use Rattle.farm_history.specs.Places.{first_place}
+use Rattle.farm_history.specs.Rules.{broken_by_command, broken_rule, history_full, is_full, is_repeat, key_reused}
+use Rattle.farm_history.specs.Verdicts.{IsLegal, IsNext, refused_or_accepted, repeated_or, verdict}
+use Rattle.farm_book.specs.Kept.{IsSound}
+
+-- entries with one among them aren't none
+some_entries : (front : List Entry) (here : Entry) (back : List Entry) → [] ≡ front ++ here ∷ back → ⊥
+some_entries [] here back is = cc
+some_entries (first ∷ front) here back is = cc
+
+-- a place among entries and one more is that one's, or a place among the entries
+place_of_more : (entries : List Entry) (entry : Entry) (front : List Entry) (here : Entry) (back : List Entry) →
+    entries ++ entry ∷ [] ≡ front ++ here ∷ back →
+    ((front ≡ entries) × (here ≡ entry)) ⊎ ((rest : List Entry) × (entries ≡ front ++ here ∷ rest))
+place_of_more [] entry [] here back is = inl (refl, cc)
+place_of_more [] entry (first ∷ front) here back is = absurd (some_entries front here back (cc))
+place_of_more (other ∷ entries) entry [] here back is = inr (entries, cc)
+place_of_more (other ∷ entries) entry (first ∷ front) here back is = elim (place_of_more entries entry front here back (cc)) [
+  | inl last ↦ let same : front ≡ entries = last.0 in inl (cc, last.1)
+  | inr among ↦ let split : entries ≡ front ++ here ∷ among.0 = among.1 in inr (among.0, cc)
+]
+
+-- a history without entries is legal
+legal_empty : (limit : ℕ) (site : Described) → IsLegal limit (empty_history site)
+legal_empty limit site front back here is = absurd (some_entries front here back is)
+
+-- a legal history with an entry that could come next is legal
+legal_more : (limit : ℕ) (history : History) (entry : Entry) → IsLegal limit history → IsNext limit history entry → IsLegal limit (with_entry history entry)
+legal_more limit history entry legal next front back here is = elim (place_of_more history.entries entry front here back is) [
+  | inl last ↦ rw (last.0, last.1) next
+  | inr among ↦ legal front among.0 here among.1
+]
+
+-- what isn't repeated and is accepted is what the rules accept
+accepted_by_rules : (place : Option ℕ) (judged : Verdict) → repeated_or place judged ≡ Accept → judged ≡ Accept
+accepted_by_rules None judged accepted = accepted
+accepted_by_rules (Some place) judged accepted = cc
+
+-- where the rules accept, none is broken
+none_broken : (rule : Option Rule) → refused_or_accepted rule ≡ Accept → rule ≡ None
+none_broken None accepted = refl
+none_broken (Some rule) accepted = cc
+
+-- where no rule is broken, none of the later ones is
+later_unbroken : (first later : Option Rule) → or_else first later ≡ None → later ≡ None
+later_unbroken None later none = none
+later_unbroken (Some rule) later none = cc
+
+-- and not the first one
+first_unbroken : (first later : Option Rule) → or_else first later ≡ None → first ≡ None
+first_unbroken None later none = refl
+first_unbroken (Some rule) later none = cc
+
+-- a history that isn't full
+not_full : (full : Bool) → (if full then Some HistoryFull else None) ≡ None → full ≡ false
+not_full true none = cc
+not_full false none = refl
+
+-- has fewer entries than it may have
+fewer : (limit entries : ℕ) (stop : Bool) → is_full limit entries stop ≡ false → entries < limit + STOPS_BEYOND_LIMIT
+fewer limit entries stop room = grind (arith, nat_tests)
+
+-- an entry is accepted only where the history has fewer entries than it may have
+room_of_accepted : (limit : ℕ) (history : History) (entry : Entry) → verdict limit history entry ≡ Accept →
+    last_place history < limit + STOPS_BEYOND_LIMIT
+unfolding verdict broken_rule history_full
+room_of_accepted limit history entry accepted =
+    let stop = is_stop entry.cmd in
+    let full : Option Rule = if is_full limit (last_place history) stop then Some HistoryFull else None in
+    let later : Option Rule = or_else full (broken_by_command history entry.cmd) in
+    let rules : Option Rule = or_else (key_reused history entry) later in
+    let by_rules = accepted_by_rules (first_place (is_repeat entry) history.entries) (refused_or_accepted rules) accepted in
+    let with_room = later_unbroken (key_reused history entry) later (none_broken rules by_rules) in
+    let unfilled = first_unbroken full (broken_by_command history entry.cmd) with_room in
+    fewer limit (last_place history) stop (not_full (is_full limit (last_place history) stop) unfilled)
+
+-- a history without entries is sound
+pub sound_empty : (limit : ℕ) (site : Described) → limit ≤ GREATEST_LIMIT → IsSound limit (empty_history site)
+sound_empty limit site within = record { limit_within = within; legal = legal_empty limit site; few = omega arith }
+
+-- a sound history with an entry that could come next is sound
+pub sound_more : (limit : ℕ) (history : History) (entry : Entry) → IsSound limit history → IsNext limit history entry → IsSound limit (with_entry history entry)
+sound_more limit history entry sound next =
+    let room = room_of_accepted limit history entry next.accepted in
+    record {
+      limit_within = sound.limit_within;
+      legal = legal_more limit history entry sound.legal next;
+      few = omega (arith, length-append {A = Entry}, room);
+    }
+
+-- the last of entries is the last of those after the first
+last_later : (first second : Entry) (entries : List Entry) →
+    slice_get (first ∷ second ∷ entries) (length (first ∷ second ∷ entries) - 1) ≡ slice_get (second ∷ entries) (length (second ∷ entries) - 1)
+last_later first second entries = simp unary_clauses refl
+
+-- the moment of the last entry
+pub last_moment_is : (before : ℤ) (entries : List Entry) (entry : Entry) → slice_get entries (length entries - 1) ≡ Some entry →
+    moment_after before entries ≡ entry.at
+last_moment_is before [] entry last = cc
+last_moment_is before (first ∷ []) entry last = let same : first ≡ entry = cc in ap (λ (entry : Entry). entry.at) same
+last_moment_is before (first ∷ second ∷ entries) entry last =
+    last_moment_is first.at (second ∷ entries) entry (sym (last_later first second entries) ∙ last)

@@ -1,0 +1,121 @@
+//! The book.
+
+ghost use Rattle.std.specs.Prelude.{◌≡◌, ◌+◌, ◌≤◌, ℕ, IfOk, IsOk, OnErr, OnOk};
+ghost use Rattle.farm_history.specs.Desk.{reply_at};
+ghost use Rattle.farm_history.specs.History.{IsWellFormed, empty_history, last_moment, last_place, with_entry};
+ghost use Rattle.farm_history.specs.Verdicts.{IsLegal, IsNext, IsVerdict, verdict};
+ghost use Rattle.farm_history.specs.declared.limits.TheConstants.{GREATEST_LIMIT, STOPS_BEYOND_LIMIT};
+ghost use Rattle.farm_book.specs.Sites.{described};
+
+use crate::judging::verdict_of;
+use farm_base::NoMemory;
+use farm_history::{Entry, Reply, Verdict, laws};
+use farm_site::Site;
+use std::alloc::Global;
+use std::marker::Model;
+
+/// A site, and the entries of its history, of which there may be `LIMIT`, and Stops beyond them.
+///
+/// Its history is legal: each entry was accepted after those before it, and no moment is below the one before.
+#[derive(Drop)]
+pub struct Book<const LIMIT: usize> {
+    site: Site,
+    entries: Vec<Entry>,
+}
+
+impl<const LIMIT: usize> Model for Book<LIMIT> {
+    ghost use Rattle.std.specs.Prelude.{◌-◌, vec_capacity, vec_len};
+    ghost use Rattle.farm_book.specs.Kept.{IsSound, Kept};
+    ghost use Rattle.farm_book.specs.Sites.{history_of};
+
+    ghost Value = { Kept };
+
+    ghost view = { λ book. record { history = history_of book.site book.entries.items; spare = vec_capacity book.entries - vec_len book.entries } };
+
+    ghost invariant = { λ book. IsSound LIMIT (history_of book.site book.entries.items) };
+}
+
+impl<const LIMIT: usize> Book<LIMIT> {
+    /// The book of a site before its first entry.
+    pub fn new(alloc: Global, site: Site) -> Result<Self, NoMemory>
+        requires limit { LIMIT ≤ GREATEST_LIMIT }
+        ensures made { IsOk result }
+        ensures history { IfOk result (λ book. book.history ≡ empty_history (described site)) }
+    {
+        Ok(Book {
+            site,
+            entries: Vec::new(alloc),
+        })
+    }
+
+    /// What the rules say of a further entry: the place of the entry that it repeats, the first rule that it breaks, or that it
+    /// is accepted.
+    pub fn judge(&self, entry: &Entry) -> Verdict
+        requires well_formed { IsWellFormed entry.now }
+        ensures verdict { result ≡ verdict LIMIT self.now.history entry.now }
+        ensures meaning { IsVerdict LIMIT self.now.history entry.now result }
+        ensures repeated { (place : ℕ) → result ≡ Verdict.Repeat place → (1 ≤ place) × (place ≤ last_place self.now.history) }
+    {
+        laws();
+        verdict_of(LIMIT, &self.site, &self.entries, entry)
+    }
+
+    /// Makes room for one entry more.
+    pub fn reserve(&mut self) -> Result<(), NoMemory>
+        ensures room { OnOk result (1 ≤ self.new.spare) }
+        ensures history { self.new.history ≡ self.old.history }
+        ensures refused { OnErr result (self.new.spare ≡ self.old.spare) }
+    {
+        self.entries.reserve(1)?;
+        Ok(())
+    }
+
+    /// Takes an accepted entry in at the end. It can't fail, and takes no memory.
+    #[tactic(auto, unfolding(farm_history::specs::Desk::reply_at))]
+    pub fn commit(&mut self, entry: Entry) -> Reply
+        requires next { IsNext LIMIT self.old.history entry }
+        requires room { 1 ≤ self.old.spare }
+        ensures entered { self.new.history ≡ with_entry self.old.history entry }
+        ensures reply { result ≡ reply_at self.new.history (last_place self.new.history) }
+        ensures spare { self.new.spare + 1 ≡ self.old.spare }
+    {
+        self.entries.push_reserved(entry);
+        Reply::Placed(self.entries.len() as u32)
+    }
+
+    /// The reply for the entry at a place.
+    #[tactic(auto, unfolding(farm_history::specs::Desk::reply_at))]
+    pub fn reply_at(&self, place: u32) -> Reply
+        requires low { 1 ≤ place }
+        requires high { place ≤ last_place self.now.history }
+        ensures reply { result ≡ reply_at self.now.history place }
+    {
+        Reply::Placed(place)
+    }
+
+    /// The entries, in their order.
+    pub fn entries(&self) -> &[Entry]
+        ensures entries { result.now ≡ self.now.history.entries }
+        ensures legal { IsLegal LIMIT self.now.history }
+        ensures few { last_place self.now.history ≤ LIMIT + STOPS_BEYOND_LIMIT }
+    {
+        &self.entries
+    }
+
+    /// The site.
+    pub fn site(&self) -> &Site
+        ensures site { described result.now ≡ self.now.history.site }
+    {
+        &self.site
+    }
+
+    /// The moment of the last entry, 0 where there is no entry.
+    pub fn last_moment(&self) -> i64
+        ensures moment { result ≡ last_moment self.now.history }
+    {
+        match self.entries.last() {
+            Some(entry) => entry.at,
+            None => 0,
+        }
+    }
+}

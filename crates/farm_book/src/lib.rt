@@ -1,0 +1,15 @@
+//! The book of a custody desk: a site and the entries of its history, in memory.
+//!
+//! A book judges a further entry by the rules of the history, and takes an accepted one in. The definitions are those of
+//! `farm_history`; what stands here is how they are computed. `commit` can't fail: its room is made by `reserve` before.
+#![tactic(auto)]
+
+mod book;
+mod fields;
+mod gauging;
+mod judging;
+
+pub use book::Book;
+
+#[cfg(test)]
+mod tests;

@@ -1,0 +1,151 @@
+-- A request that was accepted is answered again with its first reply, and in a legal history a key acts once.
+use Rattle.std.proofs.Common.{◌≡◌, ℕ, ◌+◌, ◌&&◌, ◌==◌, IsFalse, IsTrue, Contains, List, [], ◌∷◌, ◌++◌, Option, Some, None, ℤ, option_map, refl, ap, sym, ◌∙◌, append_assoc, subst, arith}
+use Rattle.std.proofs.lemmas.Bool.{and_from, and_parts, both_ways, eq-eqb, eqb-true}
+use Rattle.std.proofs.lemmas.List.Elements.{All-contains, Contains-append_right}
+use Rattle.farm_base.specs.Steps.{or_else}
+use Rattle.farm_history.specs.declared.ask.Ask.TheVariants.{Do}
+use Rattle.farm_history.specs.declared.command.Command.{Command}
+use Rattle.farm_history.specs.declared.entry.Entry.{Entry}
+use Rattle.farm_history.specs.declared.reply.Reply.TheVariants.{Placed}
+use Rattle.farm_history.specs.declared.rule.Rule.{Rule}
+use Rattle.farm_history.specs.declared.rule.Rule.TheVariants.{KeyReused}
+use Rattle.farm_history.specs.declared.verdict.Verdict.TheVariants.{Repeat, Accept}
+use Rattle.farm_history.specs.Commands.{same_command}
+use Rattle.farm_history.specs.Desk.{Answered, answered_on, desk_answer, reply_at, stamped}
+use Rattle.farm_history.specs.History.{History, followed_by, last_place, with_entry}
+use Rattle.farm_history.specs.Places.{first_place}
+use Rattle.farm_history.specs.Rules.{broken_by_command, broken_rule, history_full, is_repeat, key_reused, same_key}
+use Rattle.farm_history.specs.Verdicts.{IsLegal, refused_or_accepted, repeated_or, verdict}
+use Rattle.farm_history.proofs.Places.{none_before, place_after}
+use Rattle.farm_history.proofs.SameCommands.{commands_decided}
+
+-- an accepted entry repeats none, and breaks no rule
+record IsAccepted (limit : ℕ) (history : History) (entry : Entry) : Type 0 where
+  new : first_place (is_repeat entry) history.entries ≡ None
+  unbroken : broken_rule limit history entry ≡ None
+
+-- where nothing is broken, no rule is
+none_broken : (broken : Option Rule) → refused_or_accepted broken ≡ Accept → broken ≡ None
+none_broken None accepted = refl
+none_broken (Some rule) accepted = cc
+
+-- so the verdict says
+accepted_is : (limit : ℕ) (history : History) (entry : Entry) → verdict limit history entry ≡ Accept → IsAccepted limit history entry
+unfolding verdict
+accepted_is limit history entry accepted = by (first_place (is_repeat entry) history.entries) refl accepted
+  where
+    by : (o : Option ℕ) → first_place (is_repeat entry) history.entries ≡ o →
+        repeated_or o (refused_or_accepted (broken_rule limit history entry)) ≡ Accept → IsAccepted limit history entry
+    by None e accepted = record { new = e; unbroken = none_broken (broken_rule limit history entry) accepted }
+    by (Some place) e accepted = cc
+
+-- of two answers the first is none
+first_none : (first second : Option Rule) → or_else first second ≡ None → first ≡ None
+first_none None second none = refl
+first_none (Some rule) second none = cc
+
+-- no place keeps no rule
+no_key : (o : Option ℕ) → option_map KeyReused o ≡ None → o ≡ None
+no_key None none = refl
+no_key (Some place) none = cc
+
+-- where no rule is broken, the key is new
+key_new : (limit : ℕ) (history : History) (entry : Entry) → broken_rule limit history entry ≡ None →
+    first_place (same_key entry) history.entries ≡ None
+unfolding broken_rule key_reused
+key_new limit history entry none =
+    let key = first_place (same_key entry) history.entries in
+    let rest = or_else (history_full limit history entry.cmd) (broken_by_command history entry.cmd) in
+    no_key key (first_none (option_map KeyReused key) rest none)
+
+-- an account and a key are the same from both sides
+keys_turn : (first second : Entry) → IsTrue (same_key first second) → IsTrue (same_key second first)
+keys_turn first second same =
+    let parts = and_parts (second.account == first.account) (second.key == first.key) same in
+    and_from (first.account == second.account) (first.key == second.key)
+    (eq-eqb first.account second.account (sym (eqb-true second.account first.account parts.0)))
+    (eq-eqb first.key second.key (sym (eqb-true second.key first.key parts.1)))
+
+-- a list contains its first item
+first_contained : (item : Entry) (items : List Entry) → Contains (item ∷ items) item
+first_contained item items = (0, omega arith, refl)
+
+-- no entry before an accepted one has its account and key
+none_same : (limit : ℕ) (history : History) (entry other : Entry) (front back : List Entry) → verdict limit history entry ≡ Accept →
+    history.entries ≡ front ++ other ∷ back → IsFalse (same_key entry other)
+none_same limit history entry other front back accepted split =
+    let known = accepted_is limit history entry accepted in
+    let none = key_new limit history entry known.unbroken in
+    let apart = none_before (same_key entry) history.entries none in
+    let contained = Contains-append_right front (other ∷ back) other (first_contained other back) in
+    All-contains (λ item. IsFalse (same_key entry item)) history.entries other apart
+    (subst (λ items. Contains items other) (sym split) contained)
+
+-- under one account and key a legal history has one entry at most
+pub keys_act_once : (limit : ℕ) (history : History) (front middle back : List Entry) (first second : Entry) →
+    IsLegal limit history → history.entries ≡ front ++ first ∷ (middle ++ second ∷ back) → ¬ (IsTrue (same_key first second))
+keys_act_once limit history front middle back first second legal split same =
+    let joined : history.entries ≡ (front ++ first ∷ middle) ++ second ∷ back =
+    split ∙ sym (append_assoc front (first ∷ middle) (second ∷ back)) in
+    let next = legal (front ++ first ∷ middle) back second joined in
+    let before : History = record { site = history.site; entries = front ++ first ∷ middle } in
+    both_ways (same_key second first) (none_same limit before second first front middle next.accepted refl) (keys_turn first second same)
+
+-- a request is a repeat of the entry that it was accepted as
+repeats_itself : (history later : History) (caller again account key : ℕ) (now then : ℤ) (command : Command) →
+    IsTrue (is_repeat (stamped later again then account key command) (stamped history caller now account key command))
+repeats_itself history later caller again account key now then command =
+    and_from (account == account && key == key) (same_command command command)
+    (and_from (account == account) (key == key) (eq-eqb account account refl) (eq-eqb key key refl))
+    ((commands_decided command command).1 refl)
+
+-- after it was accepted, and whatever was entered after it, the verdict on the request is the place of its entry
+again_repeats : (limit : ℕ) (history later : History) (caller again account key : ℕ) (now then : ℤ) (command : Command) (back : List Entry) →
+    let entry = stamped history caller now account key command in
+    verdict limit history entry ≡ Accept → later.entries ≡ history.entries ++ entry ∷ back →
+    verdict limit later (stamped later again then account key command) ≡ Repeat (last_place history + 1)
+unfolding verdict
+again_repeats limit history later caller again account key now then command back accepted split =
+    let entry = stamped history caller now account key command in
+    let repeat = stamped later again then account key command in
+    let new = (accepted_is limit history entry accepted).new in
+    let found = place_after (is_repeat repeat) history.entries entry back (none_before (is_repeat entry) history.entries new)
+    (repeats_itself history later caller again account key now then command) in
+    ap (λ o. repeated_or o (refused_or_accepted (broken_rule limit later repeat))) (ap (first_place (is_repeat repeat)) split ∙ found)
+
+-- the answer to a request that is accepted
+answered_first : (limit : ℕ) (history : History) (caller account key : ℕ) (now : ℤ) (command : Command) →
+    let entry = stamped history caller now account key command in
+    verdict limit history entry ≡ Accept →
+    desk_answer limit history caller now (Do account key command)
+    ≡ record { reply = Placed (last_place history + 1); history = with_entry history entry }
+unfolding desk_answer reply_at
+answered_first limit history caller account key now command accepted =
+    ap (answered_on history (stamped history caller now account key command)) accepted
+
+-- the answer to the same request later
+answered_again : (limit : ℕ) (history later : History) (caller again account key : ℕ) (now then : ℤ) (command : Command) (back : List Entry) →
+    let entry = stamped history caller now account key command in
+    verdict limit history entry ≡ Accept → later.entries ≡ history.entries ++ entry ∷ back →
+    desk_answer limit later again then (Do account key command)
+    ≡ record { reply = Placed (last_place history + 1); history = later }
+unfolding desk_answer reply_at
+answered_again limit history later caller again account key now then command back accepted split =
+    ap (answered_on later (stamped later again then account key command))
+    (again_repeats limit history later caller again account key now then command back accepted split)
+
+-- a request that was accepted is answered again with its first reply, and changes nothing
+pub repeats_change_nothing :
+    (limit : ℕ) (history : History) (caller again account key : ℕ) (now then : ℤ) (command : Command) (more : List Entry) →
+    verdict limit history (stamped history caller now account key command) ≡ Accept →
+    let first = desk_answer limit history caller now (Do account key command) in
+    let later = followed_by first.history more in
+    desk_answer limit later again then (Do account key command) ≡ record { reply = first.reply; history = later }
+repeats_change_nothing limit history caller again account key now then command more accepted =
+    let entry = stamped history caller now account key command in
+    let Same : Answered → Type 0 = λ first.
+    let later = followed_by first.history more in
+    desk_answer limit later again then (Do account key command) ≡ record { reply = first.reply; history = later } in
+    subst Same (sym (answered_first limit history caller account key now command accepted))
+    (answered_again limit history (followed_by (with_entry history entry) more) caller again account key now then command more accepted
+    (append_assoc history.entries (entry ∷ []) more))

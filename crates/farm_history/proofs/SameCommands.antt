@@ -1,0 +1,59 @@
+-- Two commands are the same by the test exactly where they are one.
+use Rattle.std.proofs.Common.{◌≡◌, ◌↔◌, ℕ, Bool, true, false, ◌&&◌, ◌==◌, IsTrue, Decides, List, ℤ, int_eq, refl, ap, ap₂}
+use Rattle.std.specs.Cmp.Lexicographic.{pointwise}
+use Rattle.std.specs.Cmp.Rules.{signed_items}
+use Rattle.std.proofs.lemmas.Bool.Decides.{Decides-and, Decides-eqb, Decides-int_eq, Decides-like}
+use Rattle.farm_history.specs.declared.few.Few.{Few}
+use Rattle.farm_history.specs.declared.command.Command.{Command}
+use Rattle.farm_history.specs.declared.command.Command.TheVariants.{Gauge, Dip, Sample, Stop}
+use Rattle.farm_history.specs.Commands.{same_command, same_kind, same_list}
+
+-- two lists of the same count and numbers are one
+one_list : (few other : Few) → (few.count ≡ other.count) × (few.values ≡ other.values) → few ≡ other
+one_list few other same = let make : ℕ → List ℤ → Few = λ count values. record { count = count; values = values } in ap₂ make same.0 same.1
+
+-- two lists are the same exactly where they are one
+lists_decided : (few other : Few) → Decides (same_list few other) (few ≡ other)
+lists_decided few other = Decides-like (same_list few other) (one_list few other)
+    (λ e. (ap (λ (f : Few). f.count) e, ap (λ (f : Few). f.values) e))
+    (Decides-and (few.count == other.count) (pointwise int_eq few.values other.values)
+    (Decides-eqb few.count other.count) (signed_items few.values other.values))
+
+-- two kinds are the same exactly where they are one
+kinds_decided : (outage other : Bool) → Decides (same_kind outage other) (outage ≡ other)
+kinds_decided true true = (λ _. refl, λ _. refl)
+kinds_decided true false = (λ e. cc, λ e. cc)
+kinds_decided false true = (λ e. cc, λ e. cc)
+kinds_decided false false = (λ _. refl, λ _. refl)
+
+-- one test and another decide two facts
+both : {P Q : Type 0} {a b : Bool} → Decides a P → Decides b Q → Decides (a && b) (P × Q)
+both {a = a} {b = b} first second = Decides-and a b first second
+
+-- the test decides whether two commands are one
+pub commands_decided : (command other : Command) → Decides (same_command command other) (command ≡ other)
+unfolding same_command
+commands_decided (Gauge tank level water temperature ambient) (Gauge tank2 level2 water2 temperature2 ambient2) =
+    Decides-like (tank == tank2 && int_eq level level2 && int_eq water water2 && int_eq temperature temperature2 && int_eq ambient ambient2)
+    (λ h. let a = h.0.0.0.0 in let b = h.0.0.0.1 in let c = h.0.0.1 in let d = h.0.1 in let e = h.1 in cc)
+    (λ e. ((((cc, cc), cc), cc), cc))
+    (both (both (both (both (Decides-eqb tank tank2) (Decides-int_eq level level2)) (Decides-int_eq water water2))
+    (Decides-int_eq temperature temperature2)) (Decides-int_eq ambient ambient2))
+commands_decided (Dip tank outage tapes water temperatures ambient) (Dip tank2 outage2 tapes2 water2 temperatures2 ambient2) =
+    Decides-like (tank == tank2 && same_kind outage outage2 && same_list tapes tapes2 && same_list water water2
+    && same_list temperatures temperatures2 && int_eq ambient ambient2)
+    (λ h. let a = h.0.0.0.0.0 in let b = h.0.0.0.0.1 in let c = h.0.0.0.1 in let d = h.0.0.1 in let e = h.0.1 in let f = h.1 in cc)
+    (λ e. (((((cc, cc), cc), cc), cc), cc))
+    (both (both (both (both (both (Decides-eqb tank tank2) (kinds_decided outage outage2)) (lists_decided tapes tapes2)) (lists_decided water water2))
+    (lists_decided temperatures temperatures2)) (Decides-int_eq ambient ambient2))
+commands_decided (Sample tank density sw) (Sample tank2 density2 sw2) =
+    Decides-like (tank == tank2 && int_eq density density2 && int_eq sw sw2)
+    (λ h. let a = h.0.0 in let b = h.0.1 in let c = h.1 in cc)
+    (λ e. ((cc, cc), cc))
+    (both (both (Decides-eqb tank tank2) (Decides-int_eq density density2)) (Decides-int_eq sw sw2))
+commands_decided Stop Stop = (λ _. refl, λ _. refl)
+commands_decided command other = (λ e. cc, λ e. cc)
+
+-- the test holds exactly of equal commands
+pub same_commands_are_one : (command other : Command) → IsTrue (same_command command other) ↔ (command ≡ other)
+same_commands_are_one command other = let decided = commands_decided command other in (decided.0, decided.1)

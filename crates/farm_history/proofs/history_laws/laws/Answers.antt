@@ -1,0 +1,30 @@
+use Rattle.farm_history.proofs.Legal.{desk_keeps_legal, empty_is_legal}
+use Rattle.farm_history.proofs.Dips.{dip_faults_mean}
+use Rattle.farm_history.proofs.Verdicts.{verdicts_are_one, verdicts_mean}
+use Rattle.farm_history.proofs.SameCommands.{same_commands_are_one}
+use Rattle.farm_history.proofs.Repeats.{keys_act_once, repeats_change_nothing}
+use Rattle.farm_history.proofs.history_laws.laws.Goals as goal
+
+pub returns-clause-same_commands_are_one : goal.returns-clause-same_commands_are_one
+returns-clause-same_commands_are_one c = same_commands_are_one
+
+pub returns-clause-dip_faults_mean : goal.returns-clause-dip_faults_mean
+returns-clause-dip_faults_mean c = dip_faults_mean
+
+pub returns-clause-verdicts_mean : goal.returns-clause-verdicts_mean
+returns-clause-verdicts_mean c = verdicts_mean
+
+pub returns-clause-verdicts_are_one : goal.returns-clause-verdicts_are_one
+returns-clause-verdicts_are_one c = verdicts_are_one
+
+pub returns-clause-empty_is_legal : goal.returns-clause-empty_is_legal
+returns-clause-empty_is_legal c = empty_is_legal
+
+pub returns-clause-desk_keeps_legal : goal.returns-clause-desk_keeps_legal
+returns-clause-desk_keeps_legal c = desk_keeps_legal
+
+pub returns-clause-keys_act_once : goal.returns-clause-keys_act_once
+returns-clause-keys_act_once c = keys_act_once
+
+pub returns-clause-repeats_change_nothing : goal.returns-clause-repeats_change_nothing
+returns-clause-repeats_change_nothing c = repeats_change_nothing

@@ -1,0 +1,119 @@
+-- Reading the bytes of an entry from left to right. A reader gives a value and the bytes after it. Where there is no such value it
+-- gives how many bytes are left from the first bad one on: 0 where bytes are missing.
+use Rattle.std.specs.Prelude.{◌≡◌, ℕ, zero, suc, ◌-◌, ◌==◌, ◌||◌, Bool, nat_le, nat_lt, if◌then◌else◌, List, [], ◌∷◌, ◌++◌, length, take, drop, replicate, Option, Some, None, Result, Ok, Err, ℤ, pos}
+use Rattle.std.specs.Int.{Width, w16, w32, w64, byte_len, cast_signed, from_be_bytes}
+use Rattle.farm_base.specs.Steps.{◌>>=◌}
+use Rattle.farm_history.specs.declared.few.Few.{Few}
+use Rattle.farm_history.specs.declared.command.Command.{Command}
+use Rattle.farm_history.specs.declared.command.Command.TheVariants.{Gauge, Dip, Sample, Stop}
+use Rattle.farm_history.specs.declared.entry.Entry.{Entry}
+use Rattle.farm_history.specs.declared.limits.TheConstants.{LAST_MOMENT, LONGEST_LIST}
+use Rattle.farm_history.specs.Encoding.{signed_bytes}
+
+-- a call answers what a reader gives, its value seen by a view
+abbrev pub Gives : {X Y : Type 0} → (X → Y) → Result X ℕ → Result Y ℕ → Type 0
+Gives view (Ok x) read = read ≡ Ok (view x)
+Gives view (Err left) read = read ≡ Err left
+
+-- one value, and then another whose reader depends on the first
+abbrev pub then_at : {A B : Type 0} → (List ℕ → Result (A × List ℕ) ℕ) → (A → List ℕ → Result (B × List ℕ) ℕ) → List ℕ →
+    Result ((A × B) × List ℕ) ℕ
+then_at first second bytes = first bytes >>= λ a. second a.0 a.1 >>= λ b. Ok ((a.0, b.0), b.1)
+
+infixr 12 ◌▸◌
+-- one value and then another
+abbrev pub ◌▸◌ : {A B : Type 0} → (List ℕ → Result (A × List ℕ) ℕ) → (List ℕ → Result (B × List ℕ) ℕ) → List ℕ →
+    Result ((A × B) × List ℕ) ℕ
+first ▸ second = then_at first (λ _. second)
+
+-- what is made of a value
+abbrev pub made_at : {A B : Type 0} → (A → B) → (List ℕ → Result (A × List ℕ) ℕ) → List ℕ → Result (B × List ℕ) ℕ
+made_at make read bytes = read bytes >>= λ a. Ok (make a.0, a.1)
+
+-- a number of a width, high byte first
+abbrev pub number_at : Width → List ℕ → Result (ℕ × List ℕ) ℕ
+number_at w bytes =
+    if nat_lt (length bytes) (byte_len w) then Err 0 else Ok (from_be_bytes w (take (byte_len w) bytes), drop (byte_len w) bytes)
+
+-- a signed number of 64 bits
+unfoldable pub signed_at : List ℕ → Result (ℤ × List ℕ) ℕ
+signed_at = made_at (cast_signed w64) (number_at w64)
+
+-- a byte that passes a test
+abbrev pub byte_at : (ℕ → Bool) → List ℕ → Result (ℕ × List ℕ) ℕ
+byte_at may_stand [] = Err 0
+byte_at may_stand (byte ∷ bytes) = if may_stand byte then Ok (byte, bytes) else Err (length (byte ∷ bytes))
+
+-- how many bytes are left at the first that makes a number too great, whatever follows: compared with the bytes of the greatest number
+abbrev pub first_above : List ℕ → List ℕ → Option ℕ
+first_above [] bytes = None
+first_above (most ∷ mosts) [] = None
+first_above (most ∷ mosts) (byte ∷ bytes) =
+    if nat_lt byte most then None else (if byte == most then first_above mosts bytes else Some (length (byte ∷ bytes)))
+
+-- what was read, unless there is a bad byte first
+abbrev pub unless_above : {A : Type 0} → Option ℕ → Result A ℕ → Result A ℕ
+unless_above None read = read
+unless_above (Some left) read = Err left
+
+-- a moment that an entry may have
+unfoldable pub moment_at : List ℕ → Result (ℤ × List ℕ) ℕ
+moment_at bytes = unless_above (first_above (signed_bytes LAST_MOMENT) bytes) (signed_at bytes)
+
+-- this many signed numbers
+abbrev pub numbers_at : ℕ → List ℕ → Result (List ℤ × List ℕ) ℕ
+numbers_at zero bytes = Ok ([], bytes)
+numbers_at (suc count) bytes = made_at (λ numbers. numbers.0 ∷ numbers.1) (signed_at ▸ numbers_at count) bytes
+
+-- numbers, and zeros after this many of them
+abbrev pub padded : ℕ → List ℤ → List ℤ
+padded count numbers = numbers ++ replicate (LONGEST_LIST - count) (pos 0)
+
+-- the short list of a count and as many numbers
+abbrev pub list_of : ℕ × List ℤ → Few
+list_of counted = record { count = counted.0; values = padded counted.0 counted.1 }
+
+-- a short list
+unfoldable pub list_at : List ℕ → Result (Few × List ℕ) ℕ
+list_at = made_at list_of (then_at (byte_at (λ count. nat_le count LONGEST_LIST)) numbers_at)
+
+-- the kind of a dip
+unfoldable pub kind_at : List ℕ → Result (Bool × List ℕ) ℕ
+kind_at = made_at (λ kind. kind == 1) (byte_at (λ kind. nat_le kind 1))
+
+-- a gauge reading after its tag
+unfoldable pub gauge_at : List ℕ → Result (Command × List ℕ) ℕ
+gauge_at = made_at (λ f. Gauge f.0 f.1.0 f.1.1.0 f.1.1.1.0 f.1.1.1.1) (number_at w16 ▸ signed_at ▸ signed_at ▸ signed_at ▸ signed_at)
+
+-- a dip after its tag
+unfoldable pub dip_at : List ℕ → Result (Command × List ℕ) ℕ
+dip_at = made_at (λ f. Dip f.0 f.1.0 f.1.1.0 f.1.1.1.0 f.1.1.1.1.0 f.1.1.1.1.1) (number_at w16 ▸ kind_at ▸ list_at ▸ list_at ▸ list_at ▸ signed_at)
+
+-- a sample after its tag
+unfoldable pub sample_at : List ℕ → Result (Command × List ℕ) ℕ
+sample_at = made_at (λ f. Sample f.0 f.1.0 f.1.1) (number_at w16 ▸ signed_at ▸ signed_at)
+
+-- a byte is the tag of a command
+abbrev pub is_tag : ℕ → Bool
+is_tag tag = tag == 1 || tag == 2 || tag == 3 || tag == 9
+
+-- the command of a tag
+unfoldable pub fields_at : ℕ → List ℕ → Result (Command × List ℕ) ℕ
+fields_at tag bytes =
+    if tag == 1 then gauge_at bytes else (if tag == 2 then dip_at bytes else (if tag == 3 then sample_at bytes else Ok (Stop, bytes)))
+
+-- a command
+unfoldable pub command_at : List ℕ → Result (Command × List ℕ) ℕ
+command_at = made_at (λ tagged. tagged.1) (then_at (byte_at is_tag) fields_at)
+
+-- the entry of its five parts
+abbrev pub entry_of : ℕ × (ℕ × (ℕ × (ℤ × Command))) → Entry
+entry_of f = record { caller = f.0; account = f.1.0; key = f.1.1.0; at = f.1.1.1.0; cmd = f.1.1.1.1 }
+
+-- an entry, and the bytes after it
+unfoldable pub entry_at : List ℕ → Result (Entry × List ℕ) ℕ
+entry_at = made_at entry_of (number_at w32 ▸ number_at w32 ▸ number_at w64 ▸ moment_at ▸ command_at)
+
+-- the entry that bytes are, with none after it
+unfoldable pub whole_entry : List ℕ → Result Entry ℕ
+whole_entry bytes = entry_at bytes >>= λ read. if length read.1 == 0 then Ok read.0 else Err (length read.1)

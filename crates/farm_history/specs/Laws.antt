@@ -1,0 +1,59 @@
+-- What follows from the definitions for every history.
+use Rattle.std.specs.Prelude.{◌≡◌, ◌↔◌, ℕ, Bool, IsTrue, List, ◌∷◌, ◌++◌, Err, ℤ}
+use Rattle.farm_site.specs.Described.{Described}
+use Rattle.farm_rounding.specs.Table.{Row}
+use Rattle.farm_history.specs.declared.ask.Ask.TheVariants.{Do}
+use Rattle.farm_history.specs.declared.command.Command.{Command}
+use Rattle.farm_history.specs.declared.entry.Entry.{Entry}
+use Rattle.farm_history.specs.declared.verdict.Verdict.{Verdict}
+use Rattle.farm_history.specs.declared.verdict.Verdict.TheVariants.{Accept}
+use Rattle.farm_history.specs.Commands.{IsWellFormedCommand, same_command}
+use Rattle.farm_history.specs.Desk.{desk_answer, stamped}
+use Rattle.farm_history.specs.Gauging.{IsDipFault, dip_reading}
+use Rattle.farm_history.specs.History.{History, empty_history, followed_by}
+use Rattle.farm_history.specs.Rules.{same_key}
+use Rattle.farm_history.specs.Verdicts.{IsLegal, IsVerdict, verdict}
+
+-- two commands are the same by the test exactly where they are one
+abbrev pub SameCommandsAreOne : Type 0
+SameCommandsAreOne = (command other : Command) → IsTrue (same_command command other) ↔ (command ≡ other)
+
+-- a dip has no reading exactly where something is wrong with its tapes, and the number is that of the first such thing
+abbrev pub DipFaultsMean : Type 0
+DipFaultsMean =
+    (rounding : List Row) (height : ℤ) (outage : Bool) (tapes water temperatures : List ℤ) (ambient : ℤ) (number : ℕ) →
+    (dip_reading rounding height outage tapes water temperatures ambient ≡ Err number) ↔ IsDipFault rounding height outage tapes water number
+
+-- the verdict is the one in the words of the rule
+abbrev pub VerdictsMean : Type 0
+VerdictsMean = (limit : ℕ) (history : History) (entry : Entry) → IsVerdict limit history entry (verdict limit history entry)
+
+-- in the words of the rule there is one verdict at most
+abbrev pub VerdictsAreOne : Type 0
+VerdictsAreOne = (limit : ℕ) (history : History) (entry : Entry) (first second : Verdict) →
+    IsVerdict limit history entry first → IsVerdict limit history entry second → first ≡ second
+
+-- a history before anything was accepted is legal
+abbrev pub EmptyIsLegal : Type 0
+EmptyIsLegal = (limit : ℕ) (site : Described) → IsLegal limit (empty_history site)
+
+-- the desk leaves a legal history after a legal one
+abbrev pub DeskKeepsLegal : Type 0
+DeskKeepsLegal =
+    (limit : ℕ) (history : History) (caller account key : ℕ) (now : ℤ) (command : Command) → IsLegal limit history →
+    IsWellFormedCommand command → IsLegal limit (desk_answer limit history caller now (Do account key command)).history
+
+-- under one account and key a legal history has one entry at most
+abbrev pub KeysActOnce : Type 0
+KeysActOnce = (limit : ℕ) (history : History) (front middle back : List Entry) (first second : Entry) →
+    IsLegal limit history → history.entries ≡ front ++ first ∷ (middle ++ second ∷ back) → ¬ (IsTrue (same_key first second))
+
+-- A request that was accepted is answered again with its first reply, whoever sends it, whenever, and whatever was entered after it,
+-- and changes nothing.
+abbrev pub RepeatsChangeNothing : Type 0
+RepeatsChangeNothing =
+    (limit : ℕ) (history : History) (caller again account key : ℕ) (now then : ℤ) (command : Command) (more : List Entry) →
+    verdict limit history (stamped history caller now account key command) ≡ Accept →
+    let first = desk_answer limit history caller now (Do account key command) in
+    let later = followed_by first.history more in
+    desk_answer limit later again then (Do account key command) ≡ record { reply = first.reply; history = later }

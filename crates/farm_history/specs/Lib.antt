@@ -1,0 +1,12 @@
+pub mod Commands
+pub mod Places
+pub mod History
+pub mod Gauging
+pub mod Fields
+pub mod RuleTable
+pub mod Rules
+pub mod Verdicts
+pub mod Desk
+pub mod Encoding
+pub mod Decoding
+pub mod Laws

@@ -1,0 +1,81 @@
+-- The rules that a further command may break after a history, each as what it says by itself, and the first of them in the order of
+-- the table.
+use Rattle.std.specs.Prelude.{ℕ, ◌+◌, ◌-◌, ◌*◌, ◌==◌, ◌&&◌, ◌||◌, not, nat_le, Bool, if◌then◌else◌, List, length, Option, Some, None, option_and_then, option_map, Result, Ok, Err, ℤ, pos}
+use Rattle.std.specs.Int.RustNames.{int_lt}
+use Rattle.farm_base.specs.Steps.{or_else}
+use Rattle.farm_fixed.specs.declared.records.Reading.{Reading}
+use Rattle.site_items.specs.declared.records.Tank.{Tank}
+use Rattle.farm_history.specs.declared.command.Command.{Command}
+use Rattle.farm_history.specs.declared.entry.Entry.{Entry}
+use Rattle.farm_history.specs.declared.limits.TheConstants.{STOPS_BEYOND_LIMIT}
+use Rattle.farm_history.specs.declared.rule.Rule.{Rule}
+use Rattle.farm_history.specs.declared.rule.Rule.TheVariants.{KeyReused, HistoryFull, UnknownTank, OutOfRange, Tape, AboveTable, WaterAboveLevel}
+use Rattle.farm_history.specs.Commands.{is_stop, same_command, tank_of}
+use Rattle.farm_history.specs.Fields.{first_bad_field}
+use Rattle.farm_history.specs.Gauging.{Gauging, gauging_after}
+use Rattle.farm_history.specs.History.{History, last_place, tank_after}
+use Rattle.farm_history.specs.Places.{first_place}
+
+-- another entry has the account and the key of an entry
+abbrev pub same_key : Entry → Entry → Bool
+same_key entry other = other.account == entry.account && other.key == entry.key
+
+-- another entry has the account, the key and the command of an entry
+abbrev pub is_repeat : Entry → Entry → Bool
+is_repeat entry other = same_key entry other && same_command other.cmd entry.cmd
+
+-- the account and the key stand in the history, at this place first
+unfoldable pub key_reused : History → Entry → Option Rule
+key_reused history entry = option_map KeyReused (first_place (same_key entry) history.entries)
+
+-- a history of so many entries doesn't take the command: it has its limit and the command is no Stop, or it has its limit and as
+-- many more as may be Stops
+abbrev pub is_full : ℕ → ℕ → Bool → Bool
+is_full limit entries stop = nat_le (limit + STOPS_BEYOND_LIMIT) entries || (nat_le limit entries && not stop)
+
+-- the history is full
+unfoldable pub history_full : ℕ → History → Command → Option Rule
+history_full limit history command = if is_full limit (last_place history) (is_stop command) then Some HistoryFull else None
+
+-- the rule that is broken where a tank isn't there
+abbrev pub unless_there : Option Tank → Option Rule
+unless_there None = Some UnknownTank
+unless_there (Some tank) = None
+
+-- the tank that a command names isn't of the site
+unfoldable pub unknown_tank : History → Command → Option Rule
+unknown_tank history command = option_and_then (λ number. unless_there (tank_after history number)) (tank_of command)
+
+-- a numbered field is out of range
+unfoldable pub out_of_range : Command → Option Rule
+out_of_range command = option_map OutOfRange (first_bad_field command)
+
+-- the height of the last row of a capacity table, in mm
+abbrev pub top_of : List ℤ → ℤ
+top_of table = pos (10 * (length table - 1))
+
+-- a reading is above the tank's table, or its water above its level
+abbrev pub refused_reading : List ℤ → Reading → Option Rule
+refused_reading table reading =
+    if int_lt (top_of table) reading.level then Some AboveTable
+    else (if int_lt reading.level reading.water then Some WaterAboveLevel else None)
+
+-- a gauging's tapes give no reading, or its reading is refused
+abbrev pub refused_in : List ℤ → Result Reading ℕ → Option Rule
+refused_in table (Ok reading) = refused_reading table reading
+refused_in table (Err fault) = Some (Tape fault)
+
+-- a gauging is refused
+unfoldable pub refused_gauging : Gauging → Option Rule
+refused_gauging gauging = refused_in gauging.tank.table gauging.reading
+
+-- the first rule that a command breaks whose key is new and for which there is room
+unfoldable pub broken_by_command : History → Command → Option Rule
+broken_by_command history command =
+    or_else (unknown_tank history command)
+    (or_else (out_of_range command) (option_and_then refused_gauging (gauging_after history command)))
+
+-- the first rule that an entry breaks, in the order of the table
+unfoldable pub broken_rule : ℕ → History → Entry → Option Rule
+broken_rule limit history entry =
+    or_else (key_reused history entry) (or_else (history_full limit history entry.cmd) (broken_by_command history entry.cmd))

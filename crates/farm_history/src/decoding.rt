@@ -1,0 +1,134 @@
+//! How an entry is read from its bytes.
+
+ghost use Rattle.std.specs.Prelude.{◌≡◌, IfErr, IfOk, Ok};
+ghost use Rattle.std.specs.Int.{w32, w64};
+ghost use Rattle.farm_history.specs.declared.entry.Entry.{Entry};
+ghost use Rattle.farm_history.specs.Decoding.{Gives, command_at, dip_at, entry_at, gauge_at, sample_at, whole_entry};
+ghost use Rattle.farm_history.specs.Encoding.{IsBadEntryAt, IsTyped, entry_encoding};
+ghost use Rattle.farm_history.specs.History.{IsWellFormed};
+
+mod numbers;
+
+use crate::{Command, Entry};
+use numbers::{i64_at, kind_at, list_at, moment_at, u16_at, u32_at, u64_at};
+use thiserror::Error;
+
+/// Bytes are no entry's. It keeps the offset, counted from 0, of the first byte after which no continuation is one, or the
+/// number of bytes where more would have to follow.
+#[derive(Clone, Copy, Debug, PartialEq, Eq, Error)]
+#[error("no entry: byte {0} can't stand there")]
+pub struct BadEntry(pub usize);
+
+impl Entry {
+    /// Reads the entry that these bytes are, all of them. Takes no memory.
+    pub fn read(bytes: &[u8]) -> Result<Entry, BadEntry>
+        ensures found { IfOk result (λ entry. IsWellFormed entry × (bytes.now ≡ entry_encoding entry)) }
+        ensures only { (entry : Entry) → IsTyped entry → IsWellFormed entry → bytes.now ≡ entry_encoding entry → result ≡ Ok entry }
+        ensures place { IfErr result (λ bad. IsBadEntryAt bytes.now bad.0) }
+    {
+        match whole_entry(bytes) {
+            Ok(entry) => Ok(entry),
+            Err(left) => Err(BadEntry(bytes.len() - left)),
+        }
+    }
+}
+
+// The entry that bytes are, or how many are left from the first bad one on.
+#[tactic(auto, unfolding(crate::specs::Decoding::whole_entry))]
+fn whole_entry(bytes: &[u8]) -> Result<Entry, usize>
+    ensures whole { Gives (λ x. x) result (whole_entry bytes.now) }
+{
+    let (entry, rest) = entry_at(bytes)?;
+    if !rest.is_empty() {
+        return Err(rest.len());
+    }
+    Ok(entry)
+}
+
+// An entry.
+#[tactic(auto, unfolding(crate::specs::Decoding::entry_at))]
+fn entry_at(bytes: &[u8]) -> Result<(Entry, &[u8]), usize>
+    ensures entry { Gives (λ x. (x.0, x.1.now)) result (entry_at bytes.now) }
+{
+    let (caller, rest) = u32_at(bytes)?;
+    let (account, rest) = u32_at(rest)?;
+    let (key, rest) = u64_at(rest)?;
+    let (at, rest) = moment_at(rest)?;
+    let (cmd, rest) = command_at(rest)?;
+    let entry = Entry {
+        caller,
+        account,
+        key,
+        at,
+        cmd,
+    };
+    Ok((entry, rest))
+}
+
+// A command: its tag and its fields.
+#[tactic(auto, unfolding(crate::specs::Decoding::command_at, crate::specs::Decoding::fields_at))]
+fn command_at(bytes: &[u8]) -> Result<(Command, &[u8]), usize>
+    ensures command { Gives (λ x. (x.0, x.1.now)) result (command_at bytes.now) }
+{
+    match bytes {
+        [] => Err(0),
+        [1, rest @ ..] => gauge_at(rest),
+        [2, rest @ ..] => dip_at(rest),
+        [3, rest @ ..] => sample_at(rest),
+        [9, rest @ ..] => Ok((Command::Stop, rest)),
+        [_, ..] => Err(bytes.len()),
+    }
+}
+
+// The fields of a gauge reading.
+#[tactic(auto, unfolding(crate::specs::Decoding::gauge_at))]
+fn gauge_at(bytes: &[u8]) -> Result<(Command, &[u8]), usize>
+    ensures gauge { Gives (λ x. (x.0, x.1.now)) result (gauge_at bytes.now) }
+{
+    let (tank, rest) = u16_at(bytes)?;
+    let (level, rest) = i64_at(rest)?;
+    let (water, rest) = i64_at(rest)?;
+    let (temperature, rest) = i64_at(rest)?;
+    let (ambient, rest) = i64_at(rest)?;
+    let gauge = Command::Gauge {
+        tank,
+        level,
+        water,
+        temperature,
+        ambient,
+    };
+    Ok((gauge, rest))
+}
+
+// The fields of a dip.
+#[tactic(auto, unfolding(crate::specs::Decoding::dip_at))]
+fn dip_at(bytes: &[u8]) -> Result<(Command, &[u8]), usize>
+    ensures dip { Gives (λ x. (x.0, x.1.now)) result (dip_at bytes.now) }
+{
+    let (tank, rest) = u16_at(bytes)?;
+    let (outage, rest) = kind_at(rest)?;
+    let (tapes, rest) = list_at(rest)?;
+    let (water, rest) = list_at(rest)?;
+    let (temperatures, rest) = list_at(rest)?;
+    let (ambient, rest) = i64_at(rest)?;
+    let dip = Command::Dip {
+        tank,
+        outage,
+        tapes,
+        water,
+        temperatures,
+        ambient,
+    };
+    Ok((dip, rest))
+}
+
+// The fields of a sample.
+#[tactic(auto, unfolding(crate::specs::Decoding::sample_at))]
+fn sample_at(bytes: &[u8]) -> Result<(Command, &[u8]), usize>
+    ensures sample { Gives (λ x. (x.0, x.1.now)) result (sample_at bytes.now) }
+{
+    let (tank, rest) = u16_at(bytes)?;
+    let (density, rest) = i64_at(rest)?;
+    let (sw, rest) = i64_at(rest)?;
+    Ok((Command::Sample { tank, density, sw }, rest))
+}

@@ -1,0 +1,129 @@
+//! Numbers, bytes and short lists at the front of bytes. Each call answers the value and the bytes after it; where there is none,
+//! how many bytes are left from the first bad one on, 0 where bytes are missing.
+
+ghost use Rattle.std.specs.Prelude.{◌≡◌, ◌≤◌, nat_le};
+ghost use Rattle.std.specs.Int.{w16, w32, w64};
+ghost use Rattle.farm_history.specs.Decoding.{Gives, byte_at, first_above, kind_at, list_at, made_at, moment_at, number_at, numbers_at, padded, signed_at};
+ghost use Rattle.farm_history.specs.declared.limits.TheConstants.{LONGEST_LIST};
+
+use crate::{Few, LAST_MOMENT, LONGEST_LIST};
+
+/// A number of 16 bits.
+pub fn u16_at(bytes: &[u8]) -> Result<(u16, &[u8]), usize>
+    ensures number { Gives (λ x. (x.0, x.1.now)) result (number_at w16 bytes.now) }
+{
+    if bytes.len() < 2 {
+        return Err(0);
+    }
+    let (front, rest) = bytes.split_at(2);
+    Ok((u16::from_be_bytes([front[0], front[1]]), rest))
+}
+
+/// A number of 32 bits.
+pub fn u32_at(bytes: &[u8]) -> Result<(u32, &[u8]), usize>
+    ensures number { Gives (λ x. (x.0, x.1.now)) result (number_at w32 bytes.now) }
+{
+    if bytes.len() < 4 {
+        return Err(0);
+    }
+    let (front, rest) = bytes.split_at(4);
+    let number = u32::from_be_bytes([front[0], front[1], front[2], front[3]]);
+    Ok((number, rest))
+}
+
+/// A number of 64 bits.
+pub fn u64_at(bytes: &[u8]) -> Result<(u64, &[u8]), usize>
+    ensures number { Gives (λ x. (x.0, x.1.now)) result (number_at w64 bytes.now) }
+{
+    if bytes.len() < 8 {
+        return Err(0);
+    }
+    let (front, rest) = bytes.split_at(8);
+    let number = u64::from_be_bytes([
+        front[0], front[1], front[2], front[3], front[4], front[5], front[6], front[7],
+    ]);
+    Ok((number, rest))
+}
+
+/// A signed number of 64 bits.
+#[tactic(auto, unfolding(crate::specs::Decoding::signed_at))]
+pub fn i64_at(bytes: &[u8]) -> Result<(i64, &[u8]), usize>
+    ensures number { Gives (λ x. (x.0, x.1.now)) result (signed_at bytes.now) }
+{
+    let (number, rest) = u64_at(bytes)?;
+    Ok((number.cast_signed(), rest))
+}
+
+/// A byte that is at most this.
+fn byte_up_to(most: u8, bytes: &[u8]) -> Result<(u8, &[u8]), usize>
+    ensures byte { Gives (λ x. (x.0, x.1.now)) result (byte_at (λ byte. nat_le byte most) bytes.now) }
+{
+    match bytes {
+        [] => Err(0),
+        [byte, rest @ ..] if *byte <= most => Ok((*byte, rest)),
+        [_, ..] => Err(bytes.len()),
+    }
+}
+
+/// Whether a dip is of outages.
+#[tactic(auto, unfolding(crate::specs::Decoding::kind_at))]
+pub fn kind_at(bytes: &[u8]) -> Result<(bool, &[u8]), usize>
+    ensures kind { Gives (λ x. (x.0, x.1.now)) result (kind_at bytes.now) }
+{
+    let (kind, rest) = byte_up_to(1, bytes)?;
+    Ok((kind == 1, rest))
+}
+
+/// A moment that an entry may have.
+#[tactic(auto, unfolding(crate::specs::Decoding::moment_at))]
+pub fn moment_at(bytes: &[u8]) -> Result<(i64, &[u8]), usize>
+    ensures moment { Gives (λ x. (x.0, x.1.now)) result (moment_at bytes.now) }
+{
+    if let Some(left) = first_above(&LAST_MOMENT.to_be_bytes(), bytes) {
+        return Err(left);
+    }
+    i64_at(bytes)
+}
+
+// How many bytes are left at the first that makes a number greater than the greatest, whatever follows.
+fn first_above(most: &[u8], bytes: &[u8]) -> Option<usize>
+    ensures above { result ≡ first_above most.now bytes.now }
+{
+    for (index, most_here) in most.iter().enumerate() {
+        if index == bytes.len() {
+            return None;
+        }
+        if bytes[index] < *most_here {
+            return None;
+        }
+        if bytes[index] > *most_here {
+            return Some(bytes.len() - index);
+        }
+    }
+    None
+}
+
+/// A short list.
+#[tactic(auto, unfolding(crate::specs::Decoding::list_at))]
+pub fn list_at(bytes: &[u8]) -> Result<(Few, &[u8]), usize>
+    ensures list { Gives (λ x. (x.0, x.1.now)) result (list_at bytes.now) }
+{
+    let (count, rest) = byte_up_to(LONGEST_LIST, bytes)?;
+    let (values, rest) = values_at(count, rest)?;
+    Ok((Few { count, values }, rest))
+}
+
+// This many numbers, and zeros after them.
+fn values_at(count: u8, bytes: &[u8]) -> Result<([i64; 8], &[u8]), usize>
+    requires few { count ≤ LONGEST_LIST }
+    ensures values { Gives (λ x. (x.0, x.1.now)) result (made_at (λ numbers. padded count numbers) (numbers_at count) bytes.now) }
+{
+    let mut values = [0; 8];
+    let mut rest = bytes;
+    for index in 0..usize::from(count) {
+        let (number, after) = i64_at(rest)?;
+        values[index] = number;
+        rest = after;
+    }
+    Ok((values, rest))
+}

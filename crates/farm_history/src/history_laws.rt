@@ -1,0 +1,15 @@
+//! What follows from the definitions for every history.
+
+ghost use Rattle.farm_history.specs.Laws.{DeskKeepsLegal, DipFaultsMean, EmptyIsLegal, KeysActOnce, RepeatsChangeNothing, SameCommandsAreOne, VerdictsAreOne, VerdictsMean};
+
+/// Does nothing: its contract is the laws of a history.
+pub fn laws()
+    ensures same_commands_are_one { SameCommandsAreOne }
+    ensures dip_faults_mean { DipFaultsMean }
+    ensures verdicts_mean { VerdictsMean }
+    ensures verdicts_are_one { VerdictsAreOne }
+    ensures empty_is_legal { EmptyIsLegal }
+    ensures desk_keeps_legal { DeskKeepsLegal }
+    ensures keys_act_once { KeysActOnce }
+    ensures repeats_change_nothing { RepeatsChangeNothing }
+{}

@@ -1,0 +1,33 @@
+//! The history of a custody desk: its commands, its entries, and the rules by which a command is accepted.
+//!
+//! A history is a site and the list of the commands that were accepted, each stamped with its caller, account, key and moment.
+//! The definitions of `specs/` say of each further command whether it repeats an entry, which rule refuses it, or that it is
+//! accepted; and how an entry is written as bytes. docs/definitions.md reads them aloud under "History", docs/formats.md has
+//! the bytes of an entry and the table of rules. Nothing here takes memory but `Entry::write`.
+#![tactic(auto)]
+
+mod ask;
+mod command;
+mod decoding;
+mod encoding;
+mod entry;
+mod few;
+mod history_laws;
+mod limits;
+mod reply;
+mod rule;
+mod verdict;
+
+pub use ask::Ask;
+pub use command::Command;
+pub use decoding::BadEntry;
+pub use entry::Entry;
+pub use few::Few;
+pub use history_laws::laws;
+pub use limits::{GREATEST_LIMIT, LAST_MOMENT, LONGEST_LIST, MOST_ENTRY_BYTES, STOPS_BEYOND_LIMIT};
+pub use reply::Reply;
+pub use rule::{BELOW_DATUM, Rule, TAPE_COUNT, TAPE_SPREAD, WATER_TAPE_COUNT, WATER_TAPE_SPREAD};
+pub use verdict::Verdict;
+
+#[cfg(test)]
+mod tests;

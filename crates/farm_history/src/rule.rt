@@ -1,0 +1,64 @@
+//! The rules that refuse a command.
+
+ghost use Rattle.std.specs.Prelude.{◌≡◌};
+ghost use Rattle.farm_history.specs.RuleTable.{rule_number, rule_value};
+
+/// `Rule::Tape`: the tapes are neither two nor three.
+pub const TAPE_COUNT: u8 = 1;
+/// `Rule::Tape`: two tapes that differ, or three of which two differ by more than 3 mm.
+pub const TAPE_SPREAD: u8 = 2;
+/// `Rule::Tape`: an outage above the tank's reference height.
+pub const BELOW_DATUM: u8 = 3;
+/// `Rule::Tape`: the water tapes are neither none, two nor three.
+pub const WATER_TAPE_COUNT: u8 = 4;
+/// `Rule::Tape`: two water tapes that differ, or three of which two differ by more than 3 mm.
+pub const WATER_TAPE_SPREAD: u8 = 5;
+
+/// Why a command is refused. The first rule of the table that it breaks is answered.
+///
+/// docs/formats.md has the table, with the number of each rule.
+#[derive(Clone, Copy, Debug, PartialEq, Eq)]
+pub enum Rule {
+    /// The account has used the key for another command, at this place.
+    KeyReused(u32),
+    /// The history has as many entries as it may have.
+    HistoryFull,
+    /// The site has no tank of this number.
+    UnknownTank,
+    /// A field has a number outside the range of its quantity, or is an empty list of temperatures: the first such field.
+    OutOfRange(u8),
+    /// Tapes give no reading; the number says which and why.
+    Tape(u8),
+    /// The level is above the last row of the tank's capacity table.
+    AboveTable,
+    /// The free water is above the level.
+    WaterAboveLevel,
+}
+
+impl Rule {
+    /// The number of the rule in the table.
+    pub fn number(&self) -> u8
+        ensures number { result ≡ rule_number self.now }
+    {
+        match self {
+            Rule::KeyReused(_) => 1,
+            Rule::HistoryFull => 2,
+            Rule::UnknownTank => 3,
+            Rule::OutOfRange(_) => 5,
+            Rule::Tape(_) => 6,
+            Rule::AboveTable => 7,
+            Rule::WaterAboveLevel => 8,
+        }
+    }
+
+    /// The place or the number that the rule keeps, 0 where it keeps none.
+    pub fn value(&self) -> u32
+        ensures value { result ≡ rule_value self.now }
+    {
+        match self {
+            Rule::KeyReused(place) => *place,
+            Rule::OutOfRange(number) | Rule::Tape(number) => u32::from(*number),
+            Rule::HistoryFull | Rule::UnknownTank | Rule::AboveTable | Rule::WaterAboveLevel => 0,
+        }
+    }
+}

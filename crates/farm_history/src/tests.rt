@@ -1,0 +1,184 @@
+//! The bytes of entries one by one, and the places of bad bytes.
+
+ghost use Rattle.farm_history.specs.Commands.{IsWellFormedCommand};
+ghost use Rattle.farm_history.specs.History.{IsMoment, IsWellFormed};
+
+use super::*;
+use std::alloc::Global;
+use std::process::Abort;
+use std::test::Fail;
+
+/// A Stop of caller 0, account 1 and key 1 at 1,700,000,000.
+const STOP: [u8; 25] = [
+    0, 0, 0, 0, 0, 0, 0, 1, 0, 0, 0, 0, 0, 0, 0, 1, 0, 0, 0, 0, 0x65, 0x53, 0xf1, 0, 9,
+];
+
+/// The same at the last moment.
+const LAST: [u8; 25] = [
+    0, 0, 0, 0, 0, 0, 0, 1, 0, 0, 0, 0, 0, 0, 0, 1, 0, 0, 0, 0x3a, 0xe7, 0xf9, 0xa2, 0, 9,
+];
+
+/// A sample of tank 101: 850.0 kg/m3, no sediment and water. Its key is 2.
+const SAMPLE: [u8; 43] = [
+    0, 0, 0, 0, 0, 0, 0, 1, 0, 0, 0, 0, 0, 0, 0, 2, 0, 0, 0, 0, 0x65, 0x53, 0xf1, 0, 3, 0, 0x65, 0,
+    0, 0, 0, 0, 0, 0x21, 0x34, 0, 0, 0, 0, 0, 0, 0, 0,
+];
+
+/// A gauge reading of tank 101: 8,000 mm, no water, 15.00 C twice.
+const GAUGE: [u8; 59] = [
+    0, 0, 0, 0, 0, 0, 0, 1, 0, 0, 0, 0, 0, 0, 0, 1, 0, 0, 0, 0, 0x65, 0x53, 0xf1, 0, 1, 0, 0x65, 0,
+    0, 0, 0, 0, 0, 0x1f, 0x40, 0, 0, 0, 0, 0, 0, 0, 0, 0, 0, 0, 0, 0, 0, 0x05, 0xdc, 0, 0, 0, 0, 0,
+    0, 0x05, 0xdc,
+];
+
+/// A dip of tank 102: two innages of 5,000 mm, no water tapes, 15.00 C, outside -0.50 C.
+const DIP: [u8; 63] = [
+    0, 0, 0, 0, 0, 0, 0, 1, 0, 0, 0, 0, 0, 0, 0, 1, 0, 0, 0, 0, 0x65, 0x53, 0xf1, 0, 2, 0, 0x66, 0,
+    2, 0, 0, 0, 0, 0, 0, 0x13, 0x88, 0, 0, 0, 0, 0, 0, 0x13, 0x88, 0, 1, 0, 0, 0, 0, 0, 0, 0x05,
+    0xdc, 0xff, 0xff, 0xff, 0xff, 0xff, 0xff, 0xff, 0xce,
+];
+
+fn shared<T: Send + Sync>(value: T) -> T {
+    value
+}
+
+// An entry of caller 0 and account 1.
+fn entry(key: u64, at: i64, cmd: Command) -> Entry
+    requires moment { IsMoment at }
+    requires command { IsWellFormedCommand cmd }
+    ensures well_formed { IsWellFormed result }
+{
+    Entry {
+        caller: 0,
+        account: 1,
+        key,
+        at,
+        cmd,
+    }
+}
+
+// An entry has these bytes, and is read from them.
+fn has_bytes(rt: &impl Abort, alloc: Global, entry: Entry, bytes: &[u8]) -> Result<(), Fail>
+    requires well_formed { IsWellFormed entry }
+{
+    let mut out = Vec::new(alloc);
+    entry.write(&mut out)?;
+    assert_eq!(rt; out.as_slice(), bytes);
+    assert_eq!(rt; shared(Entry::read(bytes)), Ok(entry));
+    Ok(())
+}
+
+// The place of the first bad byte.
+fn bad_place(bytes: &[u8]) -> Option<usize> {
+    match Entry::read(bytes) {
+        Ok(_) => None,
+        Err(bad) => Some(bad.0),
+    }
+}
+
+#[test]
+fn entries_have_their_bytes(rt: HostRuntime) -> Result<(), Fail> {
+    let alloc = rt.alloc();
+    let moment = 1_700_000_000;
+    has_bytes(&rt, alloc, entry(1, moment, Command::Stop), &STOP)?;
+    has_bytes(&rt, alloc, entry(1, LAST_MOMENT, Command::Stop), &LAST)?;
+    let sample = Command::Sample {
+        tank: 101,
+        density: 8_500,
+        sw: 0,
+    };
+    has_bytes(&rt, alloc, entry(2, moment, sample), &SAMPLE)?;
+    let gauge = Command::Gauge {
+        tank: 101,
+        level: 8_000,
+        water: 0,
+        temperature: 1_500,
+        ambient: 1_500,
+    };
+    has_bytes(&rt, alloc, entry(1, moment, gauge), &GAUGE)?;
+    let dip = Command::Dip {
+        tank: 102,
+        outage: false,
+        tapes: Few {
+            count: 2,
+            values: [5_000, 5_000, 0, 0, 0, 0, 0, 0],
+        },
+        water: Few {
+            count: 0,
+            values: [0; 8],
+        },
+        temperatures: Few {
+            count: 1,
+            values: [1_500, 0, 0, 0, 0, 0, 0, 0],
+        },
+        ambient: -50,
+    };
+    has_bytes(&rt, alloc, entry(1, moment, dip), &DIP)
+}
+
+#[test]
+fn a_bad_byte_is_refused_at_its_place(rt: HostRuntime) {
+    for length in 0..STOP.len() {
+        assert_eq!(&rt;
+            bad_place(&STOP[..length]),
+            Some(length),
+            "a Stop's first {length} bytes"
+        );
+    }
+    for length in 0..DIP.len() {
+        assert_eq!(&rt;
+            bad_place(&DIP[..length]),
+            Some(length),
+            "a dip's first {length} bytes"
+        );
+    }
+    let cases: [(&[u8], usize, u8, usize); 15] = [
+        (&STOP, 24, 0, 24),
+        (&STOP, 24, 4, 24),
+        (&STOP, 24, 5, 24),
+        (&STOP, 24, 6, 24),
+        (&STOP, 24, 7, 24),
+        (&STOP, 24, 8, 24),
+        (&STOP, 24, 10, 24),
+        // A tag whose fields are missing.
+        (&STOP, 24, 1, 25),
+        // A moment one second late, one below zero, and one too great from its fourth byte on.
+        (&LAST, 23, 1, 23),
+        (&LAST, 16, 0x80, 16),
+        (&LAST, 19, 0x3b, 19),
+        // A dip's kind, and the counts of its lists.
+        (&DIP, 27, 2, 27),
+        (&DIP, 28, 9, 28),
+        (&DIP, 45, 9, 45),
+        (&DIP, 46, 9, 46),
+    ];
+    for (whole, offset, byte, want) in cases {
+        assert_eq!(&rt; bad_place(whole), None);
+        let mut bytes = [0; 64];
+        for (index, byte) in whole.iter().enumerate() {
+            if let Some(place) = bytes.get_mut(index) {
+                *place = *byte;
+            }
+        }
+        if let Some(place) = bytes.get_mut(offset) {
+            *place = byte;
+        }
+        assert_eq!(&rt;
+            bad_place(&bytes[..whole.len().min(64)]),
+            Some(want),
+            "{byte} at {offset}"
+        );
+    }
+    // One byte more than a dip has.
+    let mut longer = [0; 64];
+    longer[..63].copy_from_slice(&DIP);
+    assert_eq!(&rt; bad_place(&longer), Some(63));
+}
+
+#[test]
+fn a_bad_entry_has_a_text(rt: HostRuntime) -> Result<(), Fail> {
+    let mut text = String::new(rt.alloc());
+    write!(text, "{}", shared(BadEntry(24)))?;
+    assert_eq!(&rt; text.as_str(), "no entry: byte 24 can't stand there");
+    Ok(())
+}
