@@ -4,6 +4,7 @@ use Rattle.farm_base.specs.Bytes.{parts_at}
 use Rattle.farm_vcf.specs.declared.rows.Listed.{Listed}
 use Rattle.farm_vcf.specs.Faults.{FactorFault, NotGrid}
 use Rattle.farm_vcf.specs.Grid.{Grid}
+use Rattle.farm_vcf.specs.GrowingRows.{Grown, grown_by}
 use Rattle.farm_vcf.specs.Rows.{grid_of_rows}
 use Rattle.farm_vcf.specs.Records.{row_of_fields}
 use Rattle.calc_input.specs.Lines.{line_at}
@@ -39,3 +40,8 @@ unfoldable pub grid_from : ℕ → ℕ → List (List ℕ) → Result Grid ℕ
 grid_from count n lines =
     let front = listed_front count n lines in
     grid_at count n (length front) (grid_of_rows front)
+
+-- the rows so far with the row that a line is, None where it is no row that goes on
+abbrev pub grown_line : Grown → Option Listed → Option Grown
+grown_line grown None = None
+grown_line grown (Some row) = grown_by grown row

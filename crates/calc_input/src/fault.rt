@@ -3,6 +3,7 @@
 ghost use Rattle.std.specs.Prelude.{◌≡◌};
 ghost use Rattle.calc_input.specs.declared.fault.FormFault.TheVariants as variants;
 
+use farm_fixed::NoMemory;
 use std::alloc::{AllocError, AllocFailed};
 
 /// Why there is no form to calculate with.
@@ -26,6 +27,14 @@ impl<T: Drop> From<AllocFailed<T>> for FormFault {
     ghost from_gives = { λ _ e. e ≡ variants.NoMemory };
 
     fn from(_: AllocFailed<T>) -> Self {
+        FormFault::NoMemory
+    }
+}
+
+impl From<NoMemory> for FormFault {
+    ghost from_gives = { λ _ e. e ≡ variants.NoMemory };
+
+    fn from(_: NoMemory) -> Self {
         FormFault::NoMemory
     }
 }

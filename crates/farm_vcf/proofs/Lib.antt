@@ -7,3 +7,4 @@ pub mod ReadBack
 pub mod Meanings
 pub mod Fields
 pub mod Texts
+mod GrowingRows

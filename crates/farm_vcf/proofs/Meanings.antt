@@ -9,9 +9,9 @@ use Rattle.farm_vcf.specs.declared.fault.VcfFault.{VcfFault}
 use Rattle.farm_vcf.specs.Faults.{FactorFault, reported}
 use Rattle.farm_vcf.specs.declared.rows.Listed.{Listed}
 use Rattle.farm_vcf.specs.Blocks.{AreWhole, BreaksAt, GoesOn, IsFaultOfRows, IsFirstBlock, IsFirstBreak, IsGridOf, density_of}
-use Rattle.farm_vcf.specs.Grid.{Grid}
+use Rattle.farm_vcf.specs.Grid.{Grid, IsGrid}
 use Rattle.farm_vcf.specs.Rows.{densities_from, discontinued_from, grid_in_blocks, grid_of_blocks, grid_of_rows, temperatures_of, unless, unrisen, width_from}
-use Rattle.farm_vcf.proofs.Blocks.{int_eq_itself, int_eq_same, row_for_each, width_of_block}
+use Rattle.farm_vcf.proofs.Blocks.{blocks_are_grid, int_eq_itself, int_eq_same, row_for_each, width_of_block}
 use Rattle.farm_vcf.proofs.Breaks.{Finds, block_finds, finds_more, later_finds, of_block}
 use Rattle.farm_vcf.proofs.Entries.{place_within}
 use Rattle.farm_vcf.proofs.ReadBack.{density_along, density_read, temperature_along}
@@ -213,3 +213,24 @@ pub answer_of_rows : (rows : List Listed) (answer : Result Grid VcfFault) → Ma
     MatchResult answer (IsGridOf rows) (λ fault. IfSome (reported fault) (IsFaultOfRows rows))
 answer_of_rows rows (Ok grid) is = answered_right (IsGridOf rows) (IsFaultOfRows rows) (grid_of_rows rows) grid (rows_mean rows) is
 answer_of_rows rows (Err fault) is = reported_right (IsGridOf rows) (IsFaultOfRows rows) (grid_of_rows rows) (reported fault) (rows_mean rows) is
+
+-- rows that are a grid are one that may be kept
+pub grid_is : (row : Listed) (rows : List Listed) (grid : Grid) → length rows < 100000 → grid_of_rows (row ∷ rows) ≡ Ok grid → IsGrid grid
+unfolding grid_of_rows grid_in_blocks
+grid_is row rows grid few is =
+    let all = row ∷ rows in
+    let width = width_from row.density all in
+    let first = first_block row rows in
+    by (unrisen (take width all)) (discontinued_from (temperatures_of (take width all)) (width + 1) row.density 0 (drop width all)) refl refl (width_of_block width all first.within) is
+  where
+    by : (risen found : Option ℕ) → let all = row ∷ rows in let width = width_from row.density all in
+        unrisen (take width all) ≡ risen → discontinued_from (temperatures_of (take width all)) (width + 1) row.density 0 (drop width all) ≡ found → length (temperatures_of (take width all)) ≡ width →
+        unless risen (unless found (Ok (grid_of_blocks width row.density all))) ≡ Ok grid → IsGrid grid
+    by (Some number) found e f wide answer = cc answer
+    by None (Some number) e f wide answer = cc answer
+    by None None e f wide answer =
+        let all = row ∷ rows in
+        let width = width_from row.density all in
+        let P : ℕ → Type 0 = λ m. discontinued_from (temperatures_of (take width all)) (m + 1) row.density 0 (drop width all) ≡ None in
+        let same : grid_of_blocks width row.density all ≡ grid = (let both : Ok (grid_of_blocks width row.density all) ≡ Ok grid = answer in cc) in
+        subst IsGrid same (blocks_are_grid width row.density all (some_first row rows) (first_block row rows).within (omega arith) e (subst P (sym wide) f))

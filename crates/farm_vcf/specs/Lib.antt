@@ -2,5 +2,6 @@ pub mod Closest
 pub mod Grid
 pub mod Faults
 pub mod Rows
+pub mod GrowingRows
 pub mod Blocks
 pub mod Records

@@ -7,11 +7,13 @@
 mod closest;
 mod fault;
 mod grid;
+mod growing;
 mod records;
 mod rows;
 
 pub use fault::{BadGrid, NoEntry, VcfFault};
 pub use grid::Vcf;
+pub use growing::Growing;
 pub use records::row_of_fields;
 pub use rows::{Listed, grid_of_rows};
 

@@ -122,7 +122,7 @@ fn discontinued(temperatures: &[Centi], density: Dens, rows: &[Listed]) -> Optio
 }
 
 /// Whether a row goes on with the blocks.
-fn continues(temperature: Centi, before: Dens, column: usize, row: &Listed) -> bool
+pub fn continues(temperature: Centi, before: Dens, column: usize, row: &Listed) -> bool
     ensures { result ≡ continues temperature before column row.now }
 {
     let density = row.density.get();
@@ -135,7 +135,7 @@ fn continues(temperature: Centi, before: Dens, column: usize, row: &Listed) -> b
 }
 
 /// The column after this one.
-fn next_column(width: usize, column: usize) -> usize
+pub fn next_column(width: usize, column: usize) -> usize
     requires { column < width }
     ensures value { result ≡ next_column width column }
     ensures within { result < width }
