@@ -5,12 +5,12 @@ use Rattle.std.proofs.lemmas.Int.{ints}
 use Rattle.std.proofs.lemmas.List.{take_all, length-map, length-take, length-drop}
 use Rattle.std.specs.Int.RustNames.{int_lt}
 use Rattle.std.specs.Ordering.{int_eq}
-use Rattle.std.specs.Prelude.{ℤ, ◌<ℤ◌, Ok, Err}
+use Rattle.std.specs.Prelude.{ℤ, ◌<ℤ◌, Err}
 use Rattle.farm_vcf.specs.declared.rows.Listed.{Listed}
 use Rattle.farm_vcf.specs.Closest.{Rises, listed_at}
 use Rattle.farm_vcf.specs.Faults.{NotGrid}
 use Rattle.farm_vcf.specs.Grid.{IsGrid}
-use Rattle.farm_vcf.specs.Rows.{continues, densities_from, discontinued_from, factors_of, grid_in_blocks, grid_of_blocks, grid_of_rows, next_column, temperatures_of, unrisen, unrisen_from, width_from}
+use Rattle.farm_vcf.specs.Rows.{continues, densities_from, discontinued_from, factors_of, grid_of_blocks, grid_of_rows, next_column, temperatures_of, unrisen, unrisen_from}
 
 -- each value is above the one before, of which the first stands before the list
 abbrev RisesFrom : ℤ → List ℤ → Type 0
@@ -192,29 +192,6 @@ blocks_are_grid width density rows some within few none whole =
       not_too_many = omega (arith, all);
     }
 
--- the answer at each exit
-pub not_risen : (width number : ℕ) (density : ℤ) (rows : List Listed) → unrisen (take width rows) ≡ Some number → grid_in_blocks width density rows ≡ Err (NotGrid number)
-unfolding grid_in_blocks
-not_risen width number density rows found = rw found refl
-
--- where a later row is reported, that is the answer
-pub not_continued : (width number : ℕ) (density : ℤ) (rows : List Listed) → width ≤ length rows → unrisen (take width rows) ≡ None →
-    discontinued_from (temperatures_of (take width rows)) (length (temperatures_of (take width rows)) + 1) density 0 (drop width rows) ≡ Some number → grid_in_blocks width density rows ≡ Err (NotGrid number)
-unfolding grid_in_blocks
-not_continued width number density rows within none found =
-    let wide : length (temperatures_of (take width rows)) ≡ width = width_of_block width rows within in
-    let P : ℕ → Type 0 = λ m. discontinued_from (temperatures_of (take width rows)) (m + 1) density 0 (drop width rows) ≡ Some number in
-    rw (none, subst P wide found) refl
-
--- where none is reported, the answer is the grid of the blocks
-pub in_whole_blocks : (width : ℕ) (density : ℤ) (rows : List Listed) → width ≤ length rows → unrisen (take width rows) ≡ None →
-    discontinued_from (temperatures_of (take width rows)) (length (temperatures_of (take width rows)) + 1) density 0 (drop width rows) ≡ None → grid_in_blocks width density rows ≡ Ok (grid_of_blocks width density rows)
-unfolding grid_in_blocks
-in_whole_blocks width density rows within none found =
-    let wide : length (temperatures_of (take width rows)) ≡ width = width_of_block width rows within in
-    let P : ℕ → Type 0 = λ m. discontinued_from (temperatures_of (take width rows)) (m + 1) density 0 (drop width rows) ≡ None in
-    rw (none, subst P wide found) refl
-
 -- a number passes the test of equality with itself
 pub int_eq_itself : (a : ℤ) → int_eq a a ≡ true
 int_eq_itself a = grind (arith, ints, nat_tests)
@@ -225,15 +202,10 @@ unfolding grid_of_rows
 no_rows [] none = refl
 no_rows (row ∷ rows) none = absurd (omega arith)
 
--- some rows are taken in blocks of the first density
-pub some_rows : (first : Listed) (rows : List Listed) → first ≡ get_or rows 0 first → 1 ≤ length rows → grid_of_rows rows ≡ grid_in_blocks (width_from first.density rows) first.density rows
-unfolding grid_of_rows
+-- some rows are the first and those after it, as a slice of them shows
+pub some_rows : (first : Listed) (rows : List Listed) → first ≡ get_or rows 0 first → 1 ≤ length rows → grid_of_rows rows ≡ grid_of_rows (first ∷ take (length rows - 1) (drop 1 rows))
 some_rows first [] is some = absurd (omega arith)
 some_rows first (row ∷ rows) is some =
     let same : row ≡ first = sym is in
-    let P : Listed → Type 0 = λ other. grid_of_rows (row ∷ rows) ≡ grid_in_blocks (width_from other.density (row ∷ rows)) other.density (row ∷ rows) in
-    subst P same refl
-
--- the rows after the first block, as a slice of them shows
-pub later_rows : (width : ℕ) (rows : List Listed) → take (length rows - width) (drop width rows) ≡ drop width rows
-later_rows width rows = let cut : length (drop width rows) ≡ length rows - width = simp length-drop in take_all _ _ (omega arith)
+    let whole : take (length (row ∷ rows) - 1) rows ≡ rows = take_all _ rows (omega arith) in
+    ap (λ list. grid_of_rows (row ∷ list)) (sym whole) ∙ ap (λ r. grid_of_rows (r ∷ take (length (row ∷ rows) - 1) rows)) same

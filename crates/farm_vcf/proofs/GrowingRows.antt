@@ -1,5 +1,5 @@
 -- The grid that grows row by row is the grid of its rows.
-use Rattle.std.proofs.Common.{◌≡◌, ℕ, suc, ◌+◌, ◌<◌, Bool, true, false, ◌&&◌, ◌==◌, if◌then◌else◌, List, [], ◌∷◌, ◌++◌, length, take, drop, Option, Some, None, Result, Ok, Err, refl, sym, ap, subst, ◌∙◌, arith, append-nil, append_assoc, length-append}
+use Rattle.std.proofs.Common.{◌≡◌, ℕ, suc, ◌+◌, ◌<◌, Bool, true, false, ◌==◌, if◌then◌else◌, List, [], ◌∷◌, ◌++◌, length, take, drop, Option, Some, None, Result, Ok, Err, refl, sym, ap, subst, ◌∙◌, arith, append-nil, append_assoc, length-append}
 use Rattle.std.proofs.lemmas.Bool.Decides.{nat_tests}
 use Rattle.std.specs.Int.RustNames.{int_lt}
 use Rattle.std.specs.Ordering.{int_eq}
@@ -9,8 +9,8 @@ use Rattle.farm_vcf.specs.declared.rows.Listed.{Listed}
 use Rattle.farm_vcf.specs.Closest.{listed_at}
 use Rattle.farm_vcf.specs.Faults.{FactorFault, NotGrid}
 use Rattle.farm_vcf.specs.Grid.{Grid, IsGrid, grid_from}
-use Rattle.farm_vcf.specs.GrowingRows.{Finishes, Grown, begun, grid_of, grown_by, grown_on, grown_then, is_first}
-use Rattle.farm_vcf.specs.Rows.{continues, densities_from, discontinued_from, factors_of, grid_in_blocks, grid_of_blocks, grid_of_rows, next_column, temperatures_of, unless, unrisen_from, width_from}
+use Rattle.farm_vcf.specs.GrowingRows.{Finishes, Grown, begun, grid_of, grown_on, grown_then}
+use Rattle.farm_vcf.specs.Rows.{continues, densities_from, discontinued_from, factors_of, grid_in_blocks, grid_of_rows, next_column, temperatures_of, unless, unrisen_from, width_from}
 use Rattle.farm_vcf.proofs.Blocks.{int_eq_itself}
 use Rattle.farm_vcf.proofs.Meanings.{grid_is}
 

@@ -1,6 +1,7 @@
 ghost use Rattle.std.specs.Prelude.{◌≡◌};
 ghost use Rattle.farm_vcf.specs.declared.fault.VcfFault.TheVariants.{NoMemory};
 
+use farm_fixed::NoMemory;
 use std::alloc::{AllocError, AllocFailed};
 use thiserror::Error;
 
@@ -50,6 +51,14 @@ impl<T: Drop> From<AllocFailed<T>> for VcfFault {
     ghost from_gives = { λ _ fault. fault ≡ NoMemory };
 
     fn from(_: AllocFailed<T>) -> Self {
+        VcfFault::NoMemory
+    }
+}
+
+impl From<NoMemory> for VcfFault {
+    ghost from_gives = { λ _ fault. fault ≡ NoMemory };
+
+    fn from(_: NoMemory) -> Self {
         VcfFault::NoMemory
     }
 }

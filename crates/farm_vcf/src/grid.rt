@@ -49,7 +49,11 @@ impl Vcf {
             && rises(temperatures.as_slice())
             && is_full(densities.len(), temperatures.len(), factors.len())
         {
-            Ok(assembled(densities, temperatures, factors))
+            Ok(Vcf {
+                densities,
+                temperatures,
+                factors,
+            })
         } else {
             Err(BadGrid)
         }
@@ -106,18 +110,6 @@ impl Vcf {
         } else {
             Err(NoEntry)
         }
-    }
-}
-
-/// The grid of lists that are known to be one.
-pub fn assembled(densities: Vec<Dens>, temperatures: Vec<Centi>, factors: Vec<Fac5>) -> Vcf
-    requires { IsGrid (grid_from densities.items temperatures.items factors.items) }
-    ensures { result ≡ grid_from densities.items temperatures.items factors.items }
-{
-    Vcf {
-        densities,
-        temperatures,
-        factors,
     }
 }
 

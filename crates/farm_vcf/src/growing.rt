@@ -1,12 +1,12 @@
 //! A factor grid that grows row by row.
 
-ghost use Rattle.std.specs.Prelude.{◌≡◌, ◌+◌, ◌∷◌, List, length, IfOk, OnOk, Some, None, Ok, true, false};
+ghost use Rattle.std.specs.Prelude.{◌≡◌, ◌+◌, ◌<◌, ◌∷◌, List, length, IfOk, OnOk, Some, None, Ok, true, false};
 ghost use Rattle.farm_vcf.specs.declared.rows.Listed.{Listed};
 ghost use Rattle.farm_vcf.specs.GrowingRows.{Finishes, begun, first_grown, grown_by, grown_on, later_grown, with_block};
-ghost use Rattle.farm_vcf.specs.Rows.{grid_of_rows};
+ghost use Rattle.farm_vcf.specs.Rows.{continues, grid_of_rows, next_column};
 
 use crate::Vcf;
-use crate::rows::{Listed, continues, next_column};
+use crate::rows::Listed;
 use farm_fixed::{Centi, Dens, Fac5, NoMemory};
 use std::alloc::Global;
 use std::marker::Model;
@@ -131,4 +131,26 @@ impl Growing {
         self.densities.push(density)?;
         Ok(())
     }
+}
+
+// Whether a row goes on with the blocks.
+fn continues(temperature: Centi, before: Dens, column: usize, row: &Listed) -> bool
+    ensures { result ≡ continues temperature before column row.now }
+{
+    let density = row.density.get();
+    row.temperature.get() == temperature.get()
+        && if column == 0 {
+            before.get() < density
+        } else {
+            density == before.get()
+        }
+}
+
+// The column after this one.
+fn next_column(width: usize, column: usize) -> usize
+    requires { column < width }
+    ensures value { result ≡ next_column width column }
+    ensures within { result < width }
+{
+    if column + 1 == width { 0 } else { column + 1 }
 }
