@@ -1,20 +1,9 @@
 -- A site and entries as the definitions of a history describe them.
 use Rattle.std.specs.Prelude.{List}
 use Rattle.farm_site.specs.declared.site.Site.{Site}
-use Rattle.farm_site.specs.Described.{Described}
+use Rattle.farm_site.specs.Sites.{described}
 use Rattle.farm_history.specs.declared.entry.Entry.{Entry}
 use Rattle.farm_history.specs.History.{History}
-
--- what a site says of itself
-abbrev pub described : Site → Described
-described site = record {
-  name = site.name;
-  rounds = site.rounds;
-  products = site.products;
-  parties = site.parties;
-  tanks = site.tanks;
-  lines = site.lines;
-}
 
 -- the history of a site with these entries
 abbrev pub history_of : Site → List Entry → History

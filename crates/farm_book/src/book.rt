@@ -5,7 +5,7 @@ ghost use Rattle.farm_history.specs.Desk.{reply_at};
 ghost use Rattle.farm_history.specs.History.{IsWellFormed, empty_history, last_moment, last_place, with_entry};
 ghost use Rattle.farm_history.specs.Verdicts.{IsLegal, IsNext, IsVerdict, verdict};
 ghost use Rattle.farm_history.specs.declared.limits.TheConstants.{GREATEST_LIMIT, STOPS_BEYOND_LIMIT};
-ghost use Rattle.farm_book.specs.Sites.{described};
+ghost use Rattle.farm_site.specs.Sites.{described};
 
 use crate::judging::verdict_of;
 use farm_base::NoMemory;

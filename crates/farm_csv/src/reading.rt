@@ -44,7 +44,7 @@ pub fn read_on(reader: &mut Reader<&[u8]>, fields: &mut ByteRecord) -> Result<()
     ensures even { OnOk result (is_even_left reader.old ≡ true) }
     ensures fault { IfErr result (IsFaultOfLengths (is_even_left reader.old)) }
 {
-    while next(reader, fields)? {}
+    'records: while next(reader, fields)? {}
     Ok(())
 }
 

@@ -1,3 +1,4 @@
 pub mod Rounds
 pub mod Described
 pub mod Members
+pub mod Sites
