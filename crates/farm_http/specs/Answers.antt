@@ -1,0 +1,37 @@
+-- The bodies of answers: JSON without blanks, its members in sorted order.
+use Rattle.std.specs.Prelude.{◌≡◌, ◌⊎◌, ◌↔◌, ◌++◌, ℕ, List, codes, decimal, IsSome}
+use Rattle.serde_json.specs.Data.{Data, Members, member, no_members, number, object, unsigned}
+use Rattle.serde_json.specs.Written.{compact_text}
+use Rattle.farm_history.specs.declared.reply.Reply.{Reply}
+use Rattle.farm_history.specs.declared.reply.Reply.TheVariants.{Placed, Refused}
+use Rattle.farm_history.specs.RuleTable.{rule_number, rule_value}
+use Rattle.farm_http.specs.declared.page.Page.{Page}
+use Rattle.farm_http.specs.declared.page.Page.TheVariants as pages
+
+-- a member that is a number
+abbrev pub numbered : List ℕ → ℕ → Members → Members
+numbered name value members = member name (number (unsigned value)) members
+
+-- the members of an answer
+abbrev pub members_of : Page → Members
+members_of (pages.Reply (Placed place)) = numbered (codes "place") place no_members
+members_of (pages.Reply (Refused rule)) = numbered (codes "rule") (rule_number rule) (numbered (codes "value") (rule_value rule) no_members)
+members_of (pages.Status status allow) = numbered (codes "error") status no_members
+
+-- the text of an answer's body
+unfoldable pub body_text : Page → List ℕ
+body_text page = compact_text (object (members_of page))
+
+-- a status that a request is answered with which the desk wasn't asked
+abbrev pub IsErrorStatus : ℕ → Type 0
+IsErrorStatus status =
+    (status ≡ 400) ⊎ (status ≡ 404) ⊎ (status ≡ 405) ⊎ (status ≡ 411) ⊎ (status ≡ 413) ⊎ (status ≡ 431) ⊎ (status ≡ 503) ⊎ (status ≡ 507)
+
+-- a page that may be answered: a reply, or one of those statuses, which names a method exactly where the method is at fault
+abbrev pub IsAnswer : Page → Type 0
+IsAnswer (pages.Reply reply) = Unit {0}
+IsAnswer (pages.Status status allow) = IsErrorStatus status × (IsSome allow ↔ (status ≡ 405))
+
+-- the body of a place, byte by byte
+abbrev pub PlaceInBytes : Type 0
+PlaceInBytes = (place : ℕ) → body_text (pages.Reply (Placed place)) ≡ codes "{\"place\":" ++ decimal place ++ codes "}"

@@ -1,0 +1,18 @@
+//! Requests to the desk and its answers, as JSON.
+//!
+//! A line of a batch is a JSON object: what is to be done, for which account and under which key, and the command's own
+//! members. An answer is a JSON object too. docs/formats.md has each member, its range and its fault.
+#![tactic(auto)]
+
+mod answers;
+mod commands;
+mod members;
+mod page;
+mod requests;
+
+pub use answers::{OUT_OF_MEMORY, body, laws};
+pub use page::{Allow, Page};
+pub use requests::{GREATEST_ACCOUNT, GREATEST_KEY, GREATEST_TANK, LineAsked, line};
+
+#[cfg(test)]
+mod tests;

@@ -1,0 +1,162 @@
+use super::*;
+use farm_history::{Ask, Command, Few, Reply, Rule};
+use std::alloc::{AllocError, Global};
+use std::test::Fail;
+
+fn shared<T: Send + Sync>(value: T) -> T {
+    value
+}
+
+// What a line asks for under account 1 and key 3.
+fn first(cmd: Command) -> LineAsked {
+    LineAsked::Ask(Ask::Do {
+        account: 1,
+        key: 3,
+        cmd,
+    })
+}
+
+// A Stop with a member that is passed over and nests this deep below the object.
+fn nested(alloc: Global, depth: usize) -> Result<String, AllocError> {
+    let (open, close) = ("[".repeat(alloc, depth)?, "]".repeat(alloc, depth)?);
+    format!(in alloc; "{{\"a\":{open}{close},\"do\":\"stop\",\"account\":1,\"key\":3}}")
+}
+
+#[test]
+fn each_command_is_read(rt: HostRuntime) {
+    let alloc = rt.alloc();
+    let sample = r#"{"do":"sample","account":1,"key":3,"tank":101,"density":8500,"sw":0}"#;
+    let want = first(Command::Sample {
+        tank: 101,
+        density: 8500,
+        sw: 0,
+    });
+    assert_eq!(rt; shared(line(alloc, sample.as_bytes())), want);
+    let gauge =
+        r#"{"do":"gauge","account":1,"key":3,"tank":65535,"level":9223372036854775807,"water":-1,"temperature":-9223372036854775808,"ambient":2150}"#;
+    let want = first(Command::Gauge {
+        tank: 65_535,
+        level: i64::MAX,
+        water: -1,
+        temperature: i64::MIN,
+        ambient: 2150,
+    });
+    assert_eq!(rt; line(alloc, gauge.as_bytes()), want);
+    let dip =
+        r#"{"do":"dip","account":1,"key":3,"tank":0,"kind":"outage","tapes":[1,2,3,4,5,6,7,8],"water":[],"temperatures":[-15,20],"ambient":7}"#;
+    let want = first(Command::Dip {
+        tank: 0,
+        outage: true,
+        tapes: Few {
+            count: 8,
+            values: [1, 2, 3, 4, 5, 6, 7, 8],
+        },
+        water: Few {
+            count: 0,
+            values: [0; 8],
+        },
+        temperatures: Few {
+            count: 2,
+            values: [-15, 20, 0, 0, 0, 0, 0, 0],
+        },
+        ambient: 7,
+    });
+    assert_eq!(rt; line(alloc, dip.as_bytes()), want);
+}
+
+#[test]
+fn a_stop_is_read(rt: HostRuntime) -> Result<(), Fail> {
+    let lines = [
+        r#"{"do":"stop","account":1,"key":3}"#,
+        " {\t\"key\" : 3 , \"account\" : 1 ,\r \"do\" : \"stop\" } ",
+        r#"{"do":"dip","do":"stop","account":0,"account":1,"key":-1,"key":3}"#,
+        r#"{"do":"stop","account":1,"key":3,"tank":null,"level":1.5}"#,
+    ];
+    for text in lines {
+        assert_eq!(rt;
+            line(rt.alloc(), text.as_bytes()),
+            first(Command::Stop),
+            "{text}"
+        );
+    }
+    let deep = nested(rt.alloc(), 126)?;
+    assert_eq!(rt; line(rt.alloc(), deep.as_bytes()), first(Command::Stop));
+    let last = LineAsked::Ask(Ask::Do {
+        account: 999_999,
+        key: 9_223_372_036_854_775_807,
+        cmd: Command::Stop,
+    });
+    let text = r#"{"do":"stop","account":999999,"key":9223372036854775807}"#;
+    assert_eq!(rt; line(rt.alloc(), text.as_bytes()), last);
+    Ok(())
+}
+
+#[test]
+fn other_lines_are_bad(rt: HostRuntime) -> Result<(), Fail> {
+    let lines = [
+        "",
+        "{}",
+        "[]",
+        r#"{"do":"open","account":1,"key":1}"#,
+        r#"{"do":"stop","account":0,"key":1}"#,
+        r#"{"do":"stop","account":1000000,"key":1}"#,
+        r#"{"do":"stop","account":1,"key":-1}"#,
+        r#"{"do":"stop","account":1,"key":9223372036854775808}"#,
+        r#"{"do":"stop","account":"1","key":1}"#,
+        r#"{"do":"stop","account":1}"#,
+        r#"{"do":"stop","account":1,"key":1} 1"#,
+        r#"{"do":"stop","account":1,"key":1,"a":"\ud800"}"#,
+        r#"{"do":"sample","account":1,"key":1,"tank":65536,"density":1,"sw":0}"#,
+        r#"{"do":"sample","account":1,"key":1,"tank":-1,"density":1,"sw":0}"#,
+        r#"{"do":"sample","account":1,"key":1,"tank":1,"density":1.0,"sw":0}"#,
+        r#"{"do":"sample","account":1,"key":1,"tank":1,"density":1e3,"sw":0}"#,
+        r#"{"do":"sample","account":1,"key":1,"tank":1,"density":1,"sw":-0}"#,
+        r#"{"do":"sample","account":1,"key":1,"tank":1,"density":9223372036854775808,"sw":0}"#,
+        r#"{"do":"gauge","account":1,"key":1,"tank":1,"level":1,"water":0,"temperature":0}"#,
+        r#"{"do":"dip","account":1,"key":1,"tank":1,"kind":"ullage","tapes":[],"water":[],"temperatures":[],"ambient":0}"#,
+        r#"{"do":"dip","account":1,"key":1,"tank":1,"kind":"innage","tapes":[1,2,3,4,5,6,7,8,9],"water":[],"temperatures":[],"ambient":0}"#,
+        r#"{"do":"dip","account":1,"key":1,"tank":1,"kind":"innage","tapes":[1,"2"],"water":[],"temperatures":[],"ambient":0}"#,
+    ];
+    for text in lines {
+        assert_eq!(rt; line(rt.alloc(), text.as_bytes()), LineAsked::Bad, "{text}");
+    }
+    let no_text = b"{\"do\":\"stop\",\"account\":1,\"key\":1,\"a\":\"\xff\"}";
+    assert_eq!(rt; line(rt.alloc(), no_text), LineAsked::Bad);
+    let deep = nested(rt.alloc(), 127)?;
+    assert_eq!(rt; line(rt.alloc(), deep.as_bytes()), LineAsked::Bad);
+    Ok(())
+}
+
+#[test]
+fn bodies_are_compact(rt: HostRuntime) -> Result<(), Fail> {
+    let replies = [
+        (Reply::Placed(1), r#"{"place":1}"#),
+        (
+            Reply::Refused(Rule::KeyReused(1)),
+            r#"{"rule":1,"value":1}"#,
+        ),
+        (Reply::Refused(Rule::UnknownTank), r#"{"rule":3,"value":0}"#),
+    ];
+    for (reply, want) in replies {
+        let mut out = Vec::new(rt.alloc());
+        body(rt.alloc(), &Page::Reply(reply), &mut out)?;
+        assert_eq!(rt; out.as_slice(), want.as_bytes());
+    }
+    Ok(())
+}
+
+#[test]
+fn a_status_has_its_body(rt: HostRuntime) -> Result<(), Fail> {
+    let alloc = rt.alloc();
+    let mut bad = Vec::new(alloc);
+    body(alloc, &Page::Status(400, None), &mut bad)?;
+    assert_eq!(rt; shared(bad).as_slice(), r#"{"error":400}"#.as_bytes());
+    let mut out = Vec::new(alloc);
+    body(alloc, &Page::Status(507, None), &mut out)?;
+    assert_eq!(rt; out.as_slice(), OUT_OF_MEMORY);
+    assert_eq!(rt;
+        shared(Page::Status(405, Some(Allow::Post))),
+        Page::Status(405, Some(Allow::Post))
+    );
+    Ok(())
+}
