@@ -1,0 +1,12 @@
+use Rattle.std.proofs.Common.{◌≡◌}
+use Rattle.batch_lines.proofs.Steps.{Comes, cuts_left}
+use Rattle.batch_lines.proofs.reader.LineReader.read.Given as goal
+
+abbrev pub invariant-loop-moved : goal.invariant-loop-moved
+invariant-loop-moved g l = record {
+  comes : Comes l.fn.self l.self (g.S.Port.stream l.fn.input) (g.S.Port.stream l.input) l.moved;
+  quiet : g.S.Port.faults l.input ≡ g.S.Port.faults l.fn.input;
+}
+
+abbrev pub decreases-loop-moved : goal.decreases-loop-moved
+decreases-loop-moved g l = cuts_left l.moved l.self.passed

@@ -1,0 +1,14 @@
+//! The lines of a batch, out of a source that gives them in pieces.
+//!
+//! A line ends before its line feed; what stands after the last line feed is a line too. A line of more than 65,536 bytes is read to
+//! its end and not kept. The reader takes no more while a whole line is in hand, so that a line is answered before the next is read.
+#![tactic(auto)]
+
+mod limits;
+mod reader;
+
+pub use limits::{LINE_FEED, LONGEST_LINE, MOST_BYTES};
+pub use reader::{Cut, LineReader};
+
+#[cfg(test)]
+mod tests;

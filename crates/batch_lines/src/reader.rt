@@ -1,0 +1,204 @@
+//! Lines out of a source, one after another.
+
+ghost use Rattle.std.specs.Prelude.{◌≡◌, ◌≢◌, ◌+◌, ◌≤◌, ℕ, List, [], length, take, drop, option_map, IfOk, OnErr, OnOk, Ok};
+ghost use Rattle.farm_base.specs.Counts.{HasCause};
+ghost use Rattle.farm_base.specs.Known.{Takes};
+ghost use Rattle.batch_lines.specs.declared.limits.TheConstants.{MOST_BYTES};
+ghost use Rattle.batch_lines.specs.Reader.{AtEnd, Extends, Holds, LooksOn, Moves, Reads, TakesOn, count_of};
+
+use crate::limits::{LINE_FEED, LONGEST_LINE, MOST_BYTES};
+use farm_base::NoMemory;
+use farm_ports::{Failed, Source};
+use memchr::memchr;
+use std::alloc::Global;
+use std::marker::Model;
+
+/// How many bytes are asked for in one take.
+const PIECE: usize = 8_192;
+
+/// What reading a line found.
+#[derive(Clone, Copy, Debug, PartialEq, Eq)]
+pub enum Cut {
+    /// A line, and the line feed after it.
+    Line,
+    /// The last line, which no line feed ends.
+    Last,
+    /// Nothing: the source ended.
+    End,
+    /// A line that holds a byte too many.
+    Long,
+    /// The source failed.
+    Failed,
+}
+
+/// What a cut into the bytes in hand found.
+#[derive(Clone, Copy, Debug, PartialEq, Eq)]
+pub(crate) enum Moved {
+    /// The end of a line.
+    Ended,
+    /// No line feed.
+    All,
+    /// A byte too many.
+    Long,
+}
+
+/// A reader of lines. It keeps one line, of at most 65,536 bytes, and the piece that it took last.
+#[derive(Drop)]
+pub struct LineReader {
+    piece: Vec<u8>,
+    start: usize,
+    end: usize,
+    line: Vec<u8>,
+    length: usize,
+    passed: usize,
+}
+
+impl Model for LineReader {
+    ghost use Rattle.std.specs.Prelude.{◌≡◌, ◌-◌, ◌≤◌, take, drop, nat_lt, if◌then◌else◌, None, Some, vec_len};
+    ghost use Rattle.batch_lines.specs.Reader.{Reading};
+    ghost use Rattle.batch_lines.specs.declared.limits.TheConstants.{LONGEST_LINE, MOST_BYTES};
+
+    ghost Value = { Reading };
+
+    ghost view = { λ reader. record {
+      in_hand = take (reader.end - reader.start) (drop reader.start reader.piece.items);
+      line = if nat_lt LONGEST_LINE reader.length then None else Some (take reader.length reader.line.items);
+      length = reader.length;
+      passed = reader.passed;
+    } };
+
+    ghost invariant = { λ reader. (reader.start ≤ reader.end) × (reader.end ≤ vec_len reader.piece) × (vec_len reader.piece ≡ 8192)
+        × (vec_len reader.line ≡ LONGEST_LINE) × (reader.length ≤ reader.passed) × (reader.passed ≤ MOST_BYTES) };
+}
+
+impl LineReader {
+    /// A reader that has read nothing.
+    pub fn new(alloc: Global) -> Result<Self, NoMemory>
+        ensures in_hand { IfOk result (λ reader. reader.in_hand ≡ []) }
+        ensures passed { IfOk result (λ reader. reader.passed ≡ 0) }
+    {
+        Ok(LineReader {
+            piece: vec![in alloc; 0; PIECE]?,
+            start: 0,
+            end: 0,
+            line: vec![in alloc; 0; LONGEST_LINE]?,
+            length: 0,
+            passed: 0,
+        })
+    }
+
+    /// The line that was read last, without its line feed; `None` where it is too long.
+    pub fn line(&self) -> Option<&[u8]>
+        ensures line { option_map (λ line. line.now) result ≡ self.now.line }
+    {
+        self.line.get(..self.length)
+    }
+
+    /// Reads a line.
+    pub fn read<S: Source>(&mut self, input: &mut S) -> Cut
+        ensures reads { Reads self.old self.new (S.stream input.old) (S.stream input.new) (count_of S.faults input.old input.new) result }
+        ensures never_falls { S.faults input.old ≤ S.faults input.new }
+        ensures quiet { result ≢ Cut.Failed → S.faults input.new ≡ S.faults input.old }
+    {
+        self.length = 0;
+        let mut moved = self.cut();
+        while moved == Moved::All {
+            match self.refill(input) {
+                Ok(0) => return if self.length == 0 {
+                    Cut::End
+                } else {
+                    Cut::Last
+                },
+                Ok(_) => moved = self.cut(),
+                Err(Failed) => return Cut::Failed,
+            }
+        }
+        if moved == Moved::Ended {
+            Cut::Line
+        } else {
+            Cut::Long
+        }
+    }
+
+    /// Whether the source has a byte more.
+    pub fn has_more<S: Source>(&mut self, input: &mut S) -> Result<bool, Failed>
+        ensures looks { LooksOn self.old (S.stream input.old) (S.stream input.new) (count_of S.faults input.old input.new) result }
+        ensures keeps { OnOk result (TakesOn self.old self.new (S.stream input.old) (S.stream input.new)) }
+        ensures never_falls { S.faults input.old ≤ S.faults input.new }
+        ensures quiet { OnOk result (S.faults input.new ≡ S.faults input.old) }
+    {
+        if self.start < self.end {
+            return Ok(true);
+        }
+        Ok(self.refill(input)? > 0)
+    }
+
+    // Takes a piece, where nothing is in hand, and says how many bytes it has; 0 is the end.
+    fn refill<S: Source>(&mut self, input: &mut S) -> Result<usize, Failed>
+        requires nothing { self.old.in_hand ≡ [] }
+        ensures taken { IfOk result (λ _. Takes (S.stream input.old) (S.stream input.new) self.new.in_hand) }
+        ensures count { IfOk result (λ count. count ≡ length self.new.in_hand) }
+        ensures at_end { result ≡ Ok 0 → AtEnd (S.stream input.new) }
+        ensures failed { OnErr result (Takes (S.stream input.old) (S.stream input.new) []) }
+        ensures line { self.new.line ≡ self.old.line }
+        ensures held { (line : List ℕ) → Holds self.old line → Holds self.new line }
+        ensures passed { self.new.passed ≡ self.old.passed }
+        ensures cause { HasCause (S.faults input.old) (S.faults input.new) result }
+        ensures quiet { OnOk result (S.faults input.new ≡ S.faults input.old) }
+    {
+        let count = input.take(&mut self.piece)?;
+        self.start = 0;
+        self.end = count;
+        Ok(count)
+    }
+
+    // Cuts off what is in hand up to the first line feed, or all of it.
+    fn cut(&mut self) -> Moved
+        ensures moves { Moves self.old self.new result }
+    {
+        let room = MOST_BYTES - self.passed;
+        let in_hand = self.end - self.start;
+        match memchr(LINE_FEED, &self.piece[self.start..self.end]) {
+            Some(count) if count < room => {
+                self.keep(count);
+                self.pass_line_feed();
+                Moved::Ended
+            }
+            None if in_hand <= room => {
+                self.keep(in_hand);
+                Moved::All
+            }
+            _ => Moved::Long,
+        }
+    }
+
+    // Cuts bytes off, and keeps them in the line as far as a line may have.
+    fn keep(&mut self, count: usize)
+        requires in_hand { count ≤ length self.old.in_hand }
+        requires room { self.old.passed + count ≤ MOST_BYTES }
+        ensures in_hand { self.new.in_hand ≡ drop count self.old.in_hand }
+        ensures extends { Extends self.old self.new (take count self.old.in_hand) }
+        ensures passed { self.new.passed ≡ self.old.passed + count }
+    {
+        let before = self.length;
+        self.length += count;
+        if self.length <= LONGEST_LINE {
+            let kept = &self.piece[self.start..self.start + count];
+            self.line[before..self.length].copy_from_slice(kept);
+        }
+        self.start += count;
+        self.passed += count;
+    }
+
+    // Cuts one byte off, and keeps it nowhere.
+    fn pass_line_feed(&mut self)
+        requires in_hand { 1 ≤ length self.old.in_hand }
+        requires room { self.old.passed + 1 ≤ MOST_BYTES }
+        ensures in_hand { self.new.in_hand ≡ drop 1 self.old.in_hand }
+        ensures held { (line : List ℕ) → Holds self.old line → Holds self.new line }
+        ensures passed { self.new.passed ≡ self.old.passed + 1 }
+    {
+        self.start += 1;
+        self.passed += 1;
+    }
+}
