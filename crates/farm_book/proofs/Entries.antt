@@ -1,5 +1,5 @@
 -- A book stays sound with one entry more, and has the moment of its last entry.
-use Rattle.std.proofs.Common.{◌≡◌, ◌⊎◌, inl, inr, ℕ, ◌+◌, ◌-◌, ◌<◌, ◌≤◌, Bool, true, false, List, [], ◌∷◌, ◌++◌, length, Option, Some, None, ℤ, refl, arith, ap, sym, subst, ◌∙◌, length-append}
+use Rattle.std.proofs.Common.{◌≡◌, ◌⊎◌, inl, inr, ℕ, ◌+◌, ◌-◌, ◌<◌, ◌≤◌, Bool, true, false, List, [], ◌∷◌, ◌++◌, length, Option, Some, None, ℤ, refl, arith, ap, sym, ◌∙◌, length-append}
 use Rattle.std.specs.Prelude.{if◌then◌else◌, slice_get}
 use native.Mathlib.Numerals.{unary_clauses}
 use Rattle.std.proofs.lemmas.Bool.Decides.{nat_tests}
@@ -115,3 +115,12 @@ last_moment_is before [] entry last = cc
 last_moment_is before (first ∷ []) entry last = let same : first ≡ entry = cc in ap (λ (entry : Entry). entry.at) same
 last_moment_is before (first ∷ second ∷ entries) entry last =
     last_moment_is first.at (second ∷ entries) entry (sym (last_later first second entries) ∙ last)
+
+-- the last of entries ends them
+pub last_ends : (entries : List Entry) (entry : Entry) → slice_get entries (length entries - 1) ≡ Some entry →
+    (front : List Entry) × (entries ≡ front ++ entry ∷ [])
+last_ends [] entry last = cc
+last_ends (first ∷ []) entry last = let same : first ≡ entry = cc in ([], ap (λ (entry : Entry). entry ∷ []) same)
+last_ends (first ∷ second ∷ entries) entry last =
+    let later = last_ends (second ∷ entries) entry (sym (last_later first second entries) ∙ last) in
+    (first ∷ later.0, ap (λ entries. first ∷ entries) later.1)

@@ -5,7 +5,6 @@ use Rattle.std.specs.List.{list_all}
 use Rattle.std.proofs.lemmas.Bool.Decides.{nat_tests}
 use Rattle.farm_fixed.specs.Range.{is_within}
 use Rattle.farm_history.specs.declared.few.Few.{Few}
-use Rattle.farm_history.specs.declared.command.Command.{Command}
 use Rattle.farm_history.specs.declared.command.Command.TheVariants.{Gauge, Dip}
 use Rattle.farm_history.specs.Commands.{numbers_of}
 use Rattle.farm_history.specs.Fields.{Field, fields_of, first_bad_field, heights, is_out_of_range, temperatures}

@@ -1,5 +1,5 @@
 -- Of the commands only a Stop names no tank, and it breaks no rule on commands.
-use Rattle.std.proofs.Common.{◌≡◌, ℕ, Some, None, refl}
+use Rattle.std.proofs.Common.{◌≡◌, None, refl}
 use Rattle.farm_history.specs.declared.command.Command.{Command}
 use Rattle.farm_history.specs.declared.command.Command.TheVariants.{Gauge, Dip, Sample, Stop}
 use Rattle.farm_history.specs.Commands.{tank_of}

@@ -2,7 +2,7 @@
 
 ghost use Rattle.std.specs.Prelude.{◌≡◌, ◌+◌, ◌≤◌, ℕ, IfOk, IsOk, OnErr, OnOk};
 ghost use Rattle.farm_history.specs.Desk.{reply_at};
-ghost use Rattle.farm_history.specs.History.{IsWellFormed, empty_history, last_moment, last_place, with_entry};
+ghost use Rattle.farm_history.specs.History.{IsMoment, IsWellFormed, empty_history, last_moment, last_place, with_entry};
 ghost use Rattle.farm_history.specs.Verdicts.{IsLegal, IsNext, IsVerdict, verdict};
 ghost use Rattle.farm_history.specs.declared.limits.TheConstants.{GREATEST_LIMIT, STOPS_BEYOND_LIMIT};
 ghost use Rattle.farm_site.specs.Sites.{described};
@@ -60,11 +60,12 @@ impl<const LIMIT: usize> Book<LIMIT> {
         verdict_of(LIMIT, &self.site, &self.entries, entry)
     }
 
-    /// Makes room for one entry more.
+    /// Makes room for one entry more. It fails only where there is none.
     pub fn reserve(&mut self) -> Result<(), NoMemory>
         ensures room { OnOk result (1 ≤ self.new.spare) }
         ensures history { self.new.history ≡ self.old.history }
         ensures refused { OnErr result (self.new.spare ≡ self.old.spare) }
+        ensures no_room { OnErr result (self.old.spare ≡ 0) }
     {
         self.entries.reserve(1)?;
         Ok(())
@@ -112,6 +113,7 @@ impl<const LIMIT: usize> Book<LIMIT> {
     /// The moment of the last entry, 0 where there is no entry.
     pub fn last_moment(&self) -> i64
         ensures moment { result ≡ last_moment self.now.history }
+        ensures within { IsMoment result }
     {
         match self.entries.last() {
             Some(entry) => entry.at,

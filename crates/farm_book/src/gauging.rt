@@ -1,13 +1,13 @@
 //! Gaugings: from tapes to a reading, and a reading against its tank.
 
-ghost use Rattle.std.specs.Prelude.{◌≡◌, ◌≤◌, IsTrue, None, length, option_and_then, take, pos, negsuc};
+ghost use Rattle.std.specs.Prelude.{◌≡◌, IsTrue, None, option_and_then, take, pos, negsuc};
 ghost use Rattle.std.specs.List.{list_all};
 ghost use Rattle.farm_fixed.specs.Range.{is_within};
-ghost use Rattle.farm_readings.specs.Readings.{AreTemperatures, mean_temperature, tape_reading};
+ghost use Rattle.farm_readings.specs.Readings.{AreTemperatures, tape_reading};
 ghost use Rattle.farm_history.specs.Commands.{IsShortList, IsWellFormedCommand, numbers_of};
 ghost use Rattle.farm_history.specs.Fields.{first_bad_field};
 ghost use Rattle.farm_history.specs.Gauging.{dip_level, dip_reading, dip_water, gauge_reading, gauged, gauging_in, tapes_numbered};
-ghost use Rattle.farm_history.specs.Rules.{refused_gauging, refused_in, refused_reading, top_of};
+ghost use Rattle.farm_history.specs.Rules.{refused_gauging, refused_reading, top_of};
 
 use farm_fixed::{Centi, Mm, Reading};
 use farm_history::{

@@ -102,7 +102,7 @@ fn same_key(entry: &Entry, other: &Entry) -> bool
     other.account == entry.account && other.key == entry.key
 }
 
-// Whether a history of so many entries takes no further command.
+// Whether a history of this many entries takes no further command.
 fn is_full(limit: usize, entries: usize, stop: bool) -> bool
     requires limit { limit ≤ GREATEST_LIMIT }
     ensures full { result ≡ is_full limit entries stop }

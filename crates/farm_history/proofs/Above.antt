@@ -128,7 +128,7 @@ pub value_of : List ℕ → ℕ
 value_of [] = 0
 value_of (byte ∷ bytes) = byte * 256 ^ length bytes + value_of bytes
 
--- a number of so many bytes is below the power
+-- the number of these bytes is below the power of 256 with as many factors
 value_below : (bytes : List ℕ) → ((i : ℕ) → get_or bytes i 0 < 256) → value_of bytes < 256 ^ length bytes
 unfolding value_of
 value_below [] fits = omega arith

@@ -6,6 +6,7 @@ pub mod GaugingRules
 pub mod Verdicts
 pub mod Repeats
 pub mod Dips
+pub mod Ranges
 pub mod Legal
 pub mod Lengths
 pub mod Joined

@@ -15,7 +15,7 @@ use Rattle.farm_history.proofs.Readers.{Takes, IsReader, made_reader, ok_is, the
 abbrev pub AllFit : List ℤ → Type 0
 AllFit numbers = AllByRecursion (SFits w64) numbers
 
--- so many numbers that fit
+-- this many numbers, each of which fits
 abbrev IsCounted : ℕ → List ℤ → Type 0
 IsCounted count numbers = (length numbers ≡ count) × AllFit numbers
 
@@ -55,7 +55,7 @@ unfolding first_and_others
 others_fit count [] h = absurd (omega (arith, h.0))
 others_fit count (number ∷ numbers) h = (h.1.0, (omega (arith, h.0), h.1.1))
 
--- reading so many numbers
+-- reading this many numbers
 numbers_reader : (count : ℕ) → IsReader (IsCounted count) (flat_map signed_bytes) (numbers_at count)
 numbers_reader zero = none_reader
 numbers_reader (suc count) =

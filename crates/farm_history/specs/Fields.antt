@@ -1,7 +1,7 @@
 -- The numbered fields of a command, and the first that is out of range.
-use Rattle.std.specs.Prelude.{ℕ, ◌&&◌, ◌||◌, ◌==◌, not, Bool, true, false, List, [], ◌∷◌, length, Option, ℤ, pos, negsuc}
+use Rattle.std.specs.Prelude.{◌≢◌, ℕ, ◌&&◌, ◌||◌, ◌==◌, not, Bool, true, false, All, IsTrue, List, [], ◌∷◌, length, Option, ℤ, pos, negsuc}
 use Rattle.std.specs.List.{list_all}
-use Rattle.farm_fixed.specs.Range.{is_within}
+use Rattle.farm_fixed.specs.Range.{IsWithin, is_within}
 use Rattle.farm_history.specs.declared.command.Command.{Command}
 use Rattle.farm_history.specs.declared.command.Command.TheVariants.{Gauge, Dip, Sample, Stop}
 use Rattle.farm_history.specs.Commands.{numbers_of}
@@ -43,6 +43,11 @@ fields_of Stop = []
 abbrev pub is_out_of_range : Field → Bool
 is_out_of_range field =
     not (list_all (λ number. is_within field.least field.most number) field.holds) || (field.needed && length field.holds == 0)
+
+-- each number of a field is within the field's range, and there is one where the field has to hold one
+pub record IsInRange (field : Field) : Type 0 where
+  pub numbers : All (IsWithin field.least field.most) field.holds
+  pub some : IsTrue field.needed → field.holds ≢ []
 
 -- the number of the first field that is out of range
 unfoldable pub first_bad_field : Command → Option ℕ

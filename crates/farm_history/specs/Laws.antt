@@ -1,5 +1,5 @@
 -- What follows from the definitions for every history.
-use Rattle.std.specs.Prelude.{◌≡◌, ◌↔◌, ℕ, Bool, IsTrue, List, ◌∷◌, ◌++◌, Err, ℤ}
+use Rattle.std.specs.Prelude.{◌≡◌, ◌↔◌, ℕ, Bool, IsFalse, IsTrue, List, ◌∷◌, ◌++◌, Err, ℤ}
 use Rattle.farm_site.specs.Described.{Described}
 use Rattle.farm_rounding.specs.Table.{Row}
 use Rattle.farm_history.specs.declared.ask.Ask.TheVariants.{Do}
@@ -9,6 +9,7 @@ use Rattle.farm_history.specs.declared.verdict.Verdict.{Verdict}
 use Rattle.farm_history.specs.declared.verdict.Verdict.TheVariants.{Accept}
 use Rattle.farm_history.specs.Commands.{IsWellFormedCommand, same_command}
 use Rattle.farm_history.specs.Desk.{desk_answer, stamped}
+use Rattle.farm_history.specs.Fields.{Field, IsInRange, is_out_of_range}
 use Rattle.farm_history.specs.Gauging.{IsDipFault, dip_reading}
 use Rattle.farm_history.specs.History.{History, empty_history, followed_by}
 use Rattle.farm_history.specs.Rules.{same_key}
@@ -17,6 +18,10 @@ use Rattle.farm_history.specs.Verdicts.{IsLegal, IsVerdict, verdict}
 -- two commands are the same by the test exactly where they are one
 abbrev pub SameCommandsAreOne : Type 0
 SameCommandsAreOne = (command other : Command) → IsTrue (same_command command other) ↔ (command ≡ other)
+
+-- a field isn't out of range by the test exactly where it is in its range in the words of the rule
+abbrev pub RangesMean : Type 0
+RangesMean = (field : Field) → IsFalse (is_out_of_range field) ↔ IsInRange field
 
 -- a dip has no reading exactly where something is wrong with its tapes, and the number is that of the first such thing
 abbrev pub DipFaultsMean : Type 0

@@ -28,7 +28,7 @@ is_repeat entry other = same_key entry other && same_command other.cmd entry.cmd
 unfoldable pub key_reused : History → Entry → Option Rule
 key_reused history entry = option_map KeyReused (first_place (same_key entry) history.entries)
 
--- a history of so many entries doesn't take the command: it has its limit and the command is no Stop, or it has its limit and as
+-- a history of this many entries doesn't take the command: it has its limit and the command is no Stop, or it has its limit and as
 -- many more as may be Stops
 abbrev pub is_full : ℕ → ℕ → Bool → Bool
 is_full limit entries stop = nat_le (limit + STOPS_BEYOND_LIMIT) entries || (nat_le limit entries && not stop)

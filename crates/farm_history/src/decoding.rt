@@ -1,7 +1,6 @@
 //! How an entry is read from its bytes.
 
 ghost use Rattle.std.specs.Prelude.{◌≡◌, IfErr, IfOk, Ok};
-ghost use Rattle.std.specs.Int.{w32, w64};
 ghost use Rattle.farm_history.specs.declared.entry.Entry.{Entry};
 ghost use Rattle.farm_history.specs.Decoding.{Gives, command_at, dip_at, entry_at, gauge_at, sample_at, whole_entry};
 ghost use Rattle.farm_history.specs.Encoding.{IsBadEntryAt, IsTyped, entry_encoding};

@@ -1,10 +1,10 @@
 //! How an entry is written as bytes.
 
-ghost use Rattle.std.specs.Prelude.{◌≡◌, ◌+◌, ◌≤◌, [], ◌∷◌, ◌++◌, length, ℤ};
+ghost use Rattle.std.specs.Prelude.{◌≡◌, ◌+◌, ◌<◌, ◌≤◌, [], ◌∷◌, ◌++◌, length, OnErr, vec_capacity, vec_len};
 ghost use Rattle.std.specs.Int.{w16, w32, w64, to_be_bytes};
 ghost use Rattle.farm_base.specs.Appended.{Appends};
 ghost use Rattle.farm_history.specs.Commands.{IsShortList, IsWellFormedCommand};
-ghost use Rattle.farm_history.specs.Encoding.{command_bytes, entry_encoding, kind_byte, list_bytes, signed_bytes};
+ghost use Rattle.farm_history.specs.Encoding.{command_bytes, entry_encoding, list_bytes, signed_bytes};
 ghost use Rattle.farm_history.specs.History.{IsWellFormed};
 ghost use Rattle.farm_history.specs.declared.limits.TheConstants.{MOST_ENTRY_BYTES};
 
@@ -15,10 +15,12 @@ use farm_base::NoMemory;
 use written::Written;
 
 impl Entry {
-    /// Appends the entry's bytes, of which there are at most `MOST_ENTRY_BYTES`. docs/formats.md has the format.
+    /// Appends the entry's bytes, of which there are at most `MOST_ENTRY_BYTES`. It fails only where the buffer has no room for them.
+    /// docs/formats.md has the format.
     pub fn write(&self, out: &mut Vec<u8>) -> Result<(), NoMemory>
         requires well_formed { IsWellFormed self.now }
         ensures appended { Appends out.old.items out.new.items (entry_encoding self.now) result }
+        ensures no_room { OnErr result (vec_capacity out.old < vec_len out.old + length (entry_encoding self.now)) }
         ensures few { length (entry_encoding self.now) ≤ MOST_ENTRY_BYTES }
     {
         let mut written = Written::new();

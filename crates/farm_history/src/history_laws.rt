@@ -1,10 +1,11 @@
 //! What follows from the definitions for every history.
 
-ghost use Rattle.farm_history.specs.Laws.{DeskKeepsLegal, DipFaultsMean, EmptyIsLegal, KeysActOnce, RepeatsChangeNothing, SameCommandsAreOne, VerdictsAreOne, VerdictsMean};
+ghost use Rattle.farm_history.specs.Laws.{DeskKeepsLegal, DipFaultsMean, EmptyIsLegal, KeysActOnce, RangesMean, RepeatsChangeNothing, SameCommandsAreOne, VerdictsAreOne, VerdictsMean};
 
 /// Does nothing: its contract is the laws of a history.
 pub fn laws()
     ensures same_commands_are_one { SameCommandsAreOne }
+    ensures ranges_mean { RangesMean }
     ensures dip_faults_mean { DipFaultsMean }
     ensures verdicts_mean { VerdictsMean }
     ensures verdicts_are_one { VerdictsAreOne }

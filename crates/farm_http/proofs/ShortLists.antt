@@ -8,7 +8,6 @@ use Rattle.serde_json.specs.Data.{Data}
 use Rattle.serde_json.specs.View.{items_of, view}
 use Rattle.serde_json.specs.declared.value.Value.{Value}
 use Rattle.farm_history.specs.Commands.{IsShortList}
-use Rattle.farm_history.specs.declared.few.Few.{Few}
 use Rattle.farm_http.specs.Members.{few_of, few_of_items, whole_of, wholes_of}
 
 -- the numbers of the first n items stand in front of zeros
@@ -85,7 +84,7 @@ not_many n few = grind (arith, nat_tests)
 many : (n : ℕ) → 8 < n → nat_lt 8 n ≡ true
 many n long = grind (arith, nat_tests)
 
--- the short list of so many numbers
+-- the short list of this many numbers
 few_from : (numbers : List ℤ) (n : ℕ) (values : List ℤ) → length numbers ≡ n → n ≤ 8 → numbers ++ replicate (8 - n) (pos 0) ≡ values → few_of numbers ≡ Some (record { count = n; values = values })
 few_from numbers n values size few whole = rw (size, not_many n few, whole) refl
 

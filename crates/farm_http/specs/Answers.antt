@@ -1,8 +1,7 @@
 -- The bodies of answers: JSON without blanks, its members in sorted order.
 use Rattle.std.specs.Prelude.{◌≡◌, ◌⊎◌, ◌↔◌, ◌++◌, ℕ, List, codes, decimal, IsSome}
-use Rattle.serde_json.specs.Data.{Data, Members, member, no_members, number, object, unsigned}
+use Rattle.serde_json.specs.Data.{Members, member, no_members, number, object, unsigned}
 use Rattle.serde_json.specs.Written.{compact_text}
-use Rattle.farm_history.specs.declared.reply.Reply.{Reply}
 use Rattle.farm_history.specs.declared.reply.Reply.TheVariants.{Placed, Refused}
 use Rattle.farm_history.specs.RuleTable.{rule_number, rule_value}
 use Rattle.farm_http.specs.declared.page.Page.{Page}

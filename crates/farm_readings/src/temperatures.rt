@@ -1,6 +1,6 @@
 //! The mean of temperatures taken at several heights of a tank.
 
-ghost use Rattle.std.specs.Prelude.{◌≡◌, ◌≤◌, ◌*◌, length, pos, negsuc, ◌+ℤ◌, ◌≤ℤ◌};
+ghost use Rattle.std.specs.Prelude.{◌≡◌, ◌≤◌, ◌*◌, length, pos, ◌+ℤ◌, ◌≤ℤ◌};
 ghost use Rattle.std.specs.Int.RustNames.{unsigned_abs};
 ghost use Rattle.farm_rounding.specs.Multiple.{IsAllowedStep, IsNearest, nearest_multiple};
 ghost use Rattle.farm_rounding.specs.Table.{row_at};

@@ -1,4 +1,4 @@
-use Rattle.std.proofs.Common.{rules, ◌≡◌, ◌≤◌, IsTrue, Some, None, Ok, List, length, take, length-take, ap, ◌∙◌, pos, negsuc, ℤ, sym, subst, to_z, of_z, arith}
+use Rattle.std.proofs.Common.{rules, ◌≡◌, IsTrue, Some, None, Ok, List, take, length-take, ap, ◌∙◌, pos, negsuc, ℤ, sym, subst, arith}
 use Rattle.std.specs.Int.{w64}
 use Rattle.std.proofs.lemmas.Int.{to_z-of_z}
 use Rattle.farm_fixed.specs.Range.{is_within}
@@ -6,8 +6,8 @@ use Rattle.farm_readings.specs.Readings.{AreTemperatures}
 use Rattle.farm_history.specs.declared.command.Command.{Command}
 use Rattle.farm_history.specs.Commands.{IsShortList, IsWellFormedCommand, numbers_of}
 use Rattle.farm_history.specs.Fields.{first_bad_field}
-use Rattle.farm_history.specs.Gauging.{gauge_reading, gauged}
-use Rattle.farm_book.proofs.Ranges.{DipWithin, GaugeWithin, dip_within, gauge_within}
+use Rattle.farm_history.specs.Gauging.{gauge_reading}
+use Rattle.farm_book.proofs.Ranges.{dip_within, gauge_within}
 use Rattle.farm_book.proofs.gauging.gauged.Goals as goal
 
 -- a number that is the same as one of 64 bits is in range with it

@@ -1,5 +1,3 @@
-use Rattle.std.proofs.Common.{◌≡◌, None, sym}
-use Rattle.farm_history.specs.Commands.{tank_of}
 use Rattle.farm_book.specs.Sites.{history_of}
 use Rattle.farm_book.proofs.Stops.{no_tank_unbroken}
 use Rattle.farm_book.proofs.judging.broken_by_command.Goals as goal

@@ -1,5 +1,6 @@
 use Rattle.farm_history.proofs.Legal.{desk_keeps_legal, empty_is_legal}
 use Rattle.farm_history.proofs.Dips.{dip_faults_mean}
+use Rattle.farm_history.proofs.Ranges.{ranges_mean}
 use Rattle.farm_history.proofs.Verdicts.{verdicts_are_one, verdicts_mean}
 use Rattle.farm_history.proofs.SameCommands.{same_commands_are_one}
 use Rattle.farm_history.proofs.Repeats.{keys_act_once, repeats_change_nothing}
@@ -7,6 +8,9 @@ use Rattle.farm_history.proofs.history_laws.laws.Goals as goal
 
 pub returns-clause-same_commands_are_one : goal.returns-clause-same_commands_are_one
 returns-clause-same_commands_are_one c = same_commands_are_one
+
+pub returns-clause-ranges_mean : goal.returns-clause-ranges_mean
+returns-clause-ranges_mean c = ranges_mean
 
 pub returns-clause-dip_faults_mean : goal.returns-clause-dip_faults_mean
 returns-clause-dip_faults_mean c = dip_faults_mean

@@ -1,4 +1,4 @@
-use Rattle.std.proofs.Common.{◌≡◌, sym, subst}
+use Rattle.std.proofs.Common.{sym, subst}
 use Rattle.farm_history.specs.History.{History}
 use Rattle.farm_history.specs.Verdicts.{IsNext}
 use Rattle.farm_book.specs.Kept.{Kept}
