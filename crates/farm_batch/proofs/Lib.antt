@@ -1,0 +1,11 @@
+pub mod LineParts
+pub mod Meant
+pub mod Moments
+pub mod MoreSteps
+pub mod OneOutcome
+pub mod OutOfMemory
+pub mod OutcomeSteps
+pub mod Puts
+pub mod SoFar
+pub mod Taken
+pub mod WithinLimits

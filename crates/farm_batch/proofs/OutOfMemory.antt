@@ -1,0 +1,11 @@
+-- The text of the answer that stands where there was no memory for another.
+use Rattle.std.proofs.Common.{◌≡◌, codes, refl}
+use Rattle.std.specs.Fmt.{digits}
+use Rattle.serde_json.proofs.OnLiterals.{serde_json_on_literals}
+use Rattle.farm_http.specs.Answers.{body_text}
+use Rattle.farm_batch.specs.Answers.{answer_text, out_of_memory}
+
+-- the answer of the status 507, with its line feed
+pub out_of_memory_text : answer_text out_of_memory ≡ codes "{\"error\":507}\n"
+unfolding body_text serde_json_on_literals digits
+out_of_memory_text = refl

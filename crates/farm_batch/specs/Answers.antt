@@ -1,0 +1,129 @@
+-- What a line of a batch is answered with, and what lines are answered with one after another.
+use Rattle.std.specs.Prelude.{◌≡◌, ◌⊎◌, ℕ, nat_lt, Bool, true, false, if◌then◌else◌, List, [], ◌∷◌, ◌++◌, flat_map, length, take, Option, None, Some, ℤ}
+use Rattle.farm_history.specs.declared.ask.Ask.{Ask}
+use Rattle.farm_history.specs.declared.ask.Ask.TheVariants.{Do}
+use Rattle.farm_history.specs.declared.verdict.Verdict.{Verdict}
+use Rattle.farm_history.specs.declared.verdict.Verdict.TheVariants.{Accept}
+use Rattle.farm_history.specs.Commands.{is_stop}
+use Rattle.farm_history.specs.Desk.{Answered, desk_answer, stamped}
+use Rattle.farm_history.specs.History.{History}
+use Rattle.farm_history.specs.Verdicts.{verdict}
+use Rattle.farm_http.specs.Answers.{body_text}
+use Rattle.farm_http.specs.Requests.{ask_of_line}
+use Rattle.farm_http.specs.declared.page.Page.{Page}
+use Rattle.farm_http.specs.declared.page.Page.TheVariants as pages
+use Rattle.batch_lines.specs.declared.limits.TheConstants.{LINE_FEED, LONGEST_LINE}
+use Rattle.farm_batch.specs.declared.limits.TheConstants.{BATCH_CALLER}
+
+-- no request
+abbrev pub no_request : Page
+no_request = pages.Status 400 None
+
+-- a line that is too long
+abbrev pub line_too_long : Page
+line_too_long = pages.Status 413 None
+
+-- what stands in place of an answer where there was no memory for it
+abbrev pub out_of_memory : Page
+out_of_memory = pages.Status 507 None
+
+-- an answer, the history that it leaves, and whether the batch ends with it
+pub record LineAnswer : Type 0 where
+  pub page : Page
+  pub history : History
+  pub stops : Bool
+
+-- the answer with which the desk wasn't asked
+abbrev pub unasked : History → Page → LineAnswer
+unasked history page = record { page = page; history = history; stops = false }
+
+-- a verdict is acceptance
+abbrev pub is_accepted : Verdict → Bool
+is_accepted Accept = true
+is_accepted verdict = false
+
+-- a request is a Stop, and its command would be accepted
+abbrev pub is_accepted_stop : ℕ → History → ℤ → Ask → Bool
+is_accepted_stop limit history now (Do account key command) =
+    if is_stop command then is_accepted (verdict limit history (stamped history BATCH_CALLER now account key command)) else false
+
+-- what the desk answered, as the answer to a line
+abbrev pub replied : Answered → Bool → LineAnswer
+replied answered stops = record { page = pages.Reply answered.reply; history = answered.history; stops = stops }
+
+-- the answer to what a line asks for: the desk's, or that it is no request
+abbrev pub answer_to : ℕ → History → ℤ → Option Ask → LineAnswer
+answer_to limit history now None = unasked history no_request
+answer_to limit history now (Some ask) = replied (desk_answer limit history BATCH_CALLER now ask) (is_accepted_stop limit history now ask)
+
+-- The answer to a line: one of more than 65,536 bytes is too long whatever it holds, and any other is answered as what it asks for.
+unfoldable pub line_answer : ℕ → History → ℤ → List ℕ → LineAnswer
+line_answer limit history now line =
+    if nat_lt LONGEST_LINE (length line) then unasked history line_too_long else answer_to limit history now (ask_of_line line)
+
+-- a line that was asked: its bytes, what was answered, the history that was left, and whether the batch ended with it
+pub record Step : Type 0 where
+  pub line : List ℕ
+  pub page : Page
+  pub history : History
+  pub stops : Bool
+
+-- a line was answered as it is to be
+pub record IsAnswered (meant : LineAnswer) (step : Step) : Type 0 where
+  pub page : step.page ≡ meant.page
+  pub history : step.history ≡ meant.history
+  pub stops : step.stops ≡ meant.stops
+
+-- out of memory was answered in place of what is to be, and what was asked for was done or not; the batch goes on
+pub record LacksMemory (before : History) (meant : LineAnswer) (step : Step) : Type 0 where
+  pub page : step.page ≡ out_of_memory
+  pub history : (step.history ≡ before) ⊎ (step.history ≡ meant.history)
+  pub stops : step.stops ≡ false
+
+-- a line was answered as it is to be, or out of memory was
+abbrev pub Meets : History → LineAnswer → Step → Type 0
+Meets before meant step = IsAnswered meant step ⊎ LacksMemory before meant step
+
+-- a line was answered after a history, at a number that the clock may give
+pub record AnswersLine (may_give : ℤ → Type 0) (limit : ℕ) (before : History) (step : Step) : Type 0 where
+  pub now : ℤ
+  pub given : may_give now
+  pub meets : Meets before (line_answer limit before now step.line) step
+
+-- the same of a page, the history that was left and whether the batch ends, of a line whose bytes are another's matter
+abbrev pub MeetsLine : History → History → LineAnswer → Page → Bool → Type 0
+MeetsLine before after meant page stops = (line : List ℕ) → Meets before meant (record { line = line; page = page; history = after; stops = stops })
+
+-- lines were answered one after another, each after the history that the line before left, and none after one that ends the batch
+abbrev pub AnswersEach : (ℤ → Type 0) → ℕ → History → List Step → Type 0
+AnswersEach may_give limit before [] = Unit {0}
+AnswersEach may_give limit before (step ∷ steps) =
+    AnswersLine may_give limit before step × ((step.stops ≡ false) ⊎ (steps ≡ [])) × AnswersEach may_give limit step.history steps
+
+-- the history that lines left
+abbrev pub history_after : History → List Step → History
+history_after before [] = before
+history_after before (step ∷ steps) = history_after step.history steps
+
+-- the last line that was asked ended the batch
+pub record EndsInStop (steps : List Step) : Type 0 where
+  pub front : List Step
+  pub last : Step
+  pub split : steps ≡ front ++ last ∷ []
+  pub stops : last.stops ≡ true
+
+-- the text of an answer, a line
+abbrev pub answer_text : Page → List ℕ
+answer_text page = body_text page ++ LINE_FEED ∷ []
+
+-- the texts of the answers
+abbrev pub answers_text : List Step → List ℕ
+answers_text steps = flat_map (λ step. answer_text step.page) steps
+
+-- bytes are the answers before the last one, whole, and a front of the last one
+pub record IsCutAtLast (steps : List Step) (bytes : List ℕ) : Type 0 where
+  pub front : List Step
+  pub last : Step
+  pub split : steps ≡ front ++ last ∷ []
+  pub count : ℕ
+  pub bytes_are : bytes ≡ answers_text front ++ take count (answer_text last.page)

@@ -1,0 +1,84 @@
+-- What a batch does over its ports.
+use Rattle.std.specs.Prelude.{◌≡◌, ◌≢◌, ◌⊎◌, ℕ, ◌+◌, ◌≤◌, All, true, false, Bool, List, [], length, take, map, Option, None, Some, Result, Ok, Err, ℤ}
+use Rattle.farm_base.specs.Counts.{Count, HasRisen, IsQuiet}
+use Rattle.farm_base.specs.Known.{Adds, Stream, Takes}
+use Rattle.farm_history.specs.History.{History}
+use Rattle.farm_batch.specs.declared.batch.BatchEnd.{BatchEnd}
+use Rattle.farm_batch.specs.declared.batch.BatchEnd.TheVariants.{Done, Long, Failed}
+use Rattle.farm_batch.specs.declared.limits.TheConstants.{MOST_LINES}
+use Rattle.farm_http.specs.declared.page.Page.{Page}
+use Rattle.farm_batch.specs.Answers.{AnswersEach, AnswersLine, EndsInStop, IsCutAtLast, Step, answer_text, answers_text, history_after, out_of_memory}
+use Rattle.batch_lines.specs.declared.limits.TheConstants.{MOST_BYTES}
+use Rattle.batch_lines.specs.Lines.{BeginsWith, EndsWithin, HasByteTooMany, ended}
+use Rattle.batch_lines.specs.Reader.{AtEnd}
+
+-- What follows these lines begins a line that isn't read any more: as many lines as may be stand before it, or it holds a byte
+-- before which as many bytes stand as may be, line feeds counted.
+abbrev pub IsTooMuch : List (List ℕ) → List ℕ → Type 0
+IsTooMuch lines rest = ((length lines ≡ MOST_LINES) × (rest ≢ [])) ⊎ HasByteTooMany (length (ended lines)) rest
+
+-- the lines of steps
+abbrev pub lines_of : List Step → List (List ℕ)
+lines_of steps = map (λ step. step.line) steps
+
+-- These are the first lines of what was taken, and the rest is in hand. No line feed is after the last one only where nothing is in
+-- hand and nothing is left.
+abbrev pub TakesLines : List ℕ → List ℕ → Option Stream → List (List ℕ) → Type 0
+TakesLines taken in_hand to lines = BeginsWith taken lines in_hand ⊎ ((in_hand ≡ []) × AtEnd to × EndsWithin taken lines)
+
+-- Of the bytes that were taken these lines were asked, within the limits, and the rest is in hand.
+pub record Asks (may_give : ℤ → Type 0) (limit : ℕ) (before : History) (taken in_hand : List ℕ) (to : Option Stream) (steps : List Step) : Type 0 where
+  pub answered : AnswersEach may_give limit before steps
+  pub lines : TakesLines taken in_hand to (lines_of steps)
+  pub few : length steps ≤ MOST_LINES
+  pub short : length taken ≤ MOST_BYTES + length in_hand
+
+-- no step ended the batch
+abbrev pub GoesOn : List Step → Type 0
+GoesOn steps = All (λ step. step.stops ≡ false) steps
+
+-- every line was asked, or the last line that was asked ended the batch
+abbrev pub AskedAll : List ℕ → Option Stream → List Step → Type 0
+AskedAll in_hand to steps = (GoesOn steps × (in_hand ≡ []) × AtEnd to) ⊎ EndsInStop steps
+
+-- how a batch ended: done with its lines, at a line too many by its number, or where a port failed
+abbrev pub EndsAs : List ℕ → Option Stream → List Step → Count → Count → BatchEnd → Type 0
+EndsAs in_hand to steps source sink Done = AskedAll in_hand to steps
+EndsAs in_hand to steps source sink (Long number) = GoesOn steps × IsTooMuch (lines_of steps) in_hand × (number ≡ length steps + 1)
+EndsAs in_hand to steps source sink Failed = HasRisen source ⊎ HasRisen sink
+
+-- A batch, from a history to another: the lines that it asked, what it took and put, and how it ended.
+pub record Batch (may_give : ℤ → Type 0) (limit : ℕ) (before after : History) (from to : Option Stream) (source : Count)
+    (old new : Option (List ℕ)) (sink : Count) (end : BatchEnd) : Type 0 where
+  pub steps : List Step
+  pub taken : List ℕ
+  pub in_hand : List ℕ
+  pub moved : Takes from to taken
+  pub asks : Asks may_give limit before taken in_hand to steps
+  pub left : after ≡ history_after before steps
+  -- the answers were put whole, but for the last one where a put failed
+  pub put : Adds old new (answers_text steps) ⊎ ((end ≡ Failed) × HasRisen sink × (bytes : List ℕ) × IsCutAtLast steps bytes × Adds old new bytes)
+  pub ends : EndsAs in_hand to steps source sink end
+  pub quiet : end ≢ Failed → IsQuiet source × IsQuiet sink
+
+-- An answer was put, whole or else out of memory in its place; or the put failed, and a front of one of these was added.
+abbrev pub PutsPage : {E : Type 0} → Page → Option (List ℕ) → Option (List ℕ) → Result Bool E → Type 0
+PutsPage page old new (Ok true) = Adds old new (answer_text page)
+PutsPage page old new (Ok false) = Adds old new (answer_text out_of_memory)
+PutsPage page old new (Err e) = (shown : Page) × ((shown ≡ page) ⊎ (shown ≡ out_of_memory)) × (count : ℕ) × Adds old new (take count (answer_text shown))
+
+-- what was put of a line's answer, by how the batch ends with it, or that it goes on
+abbrev pub PutsStep : Step → Option (List ℕ) → Option (List ℕ) → Count → Option BatchEnd → Type 0
+PutsStep step old new sink None = (step.stops ≡ false) × Adds old new (answer_text step.page)
+PutsStep step old new sink (Some Done) = (step.stops ≡ true) × Adds old new (answer_text step.page)
+PutsStep step old new sink (Some (Long number)) = ⊥
+PutsStep step old new sink (Some Failed) = HasRisen sink × (count : ℕ) × Adds old new (take count (answer_text step.page))
+
+-- a line was asked, from a history to another, and answered
+pub record Answers (may_give : ℤ → Type 0) (limit : ℕ) (before after : History) (line : List ℕ) (old new : Option (List ℕ)) (sink : Count)
+    (end : Option BatchEnd) : Type 0 where
+  pub step : Step
+  pub line_is : step.line ≡ line
+  pub history_is : step.history ≡ after
+  pub answered : AnswersLine may_give limit before step
+  pub puts : PutsStep step old new sink end

@@ -1,0 +1,67 @@
+-- What a batch prints and how it ends, as a function of its site and its input alone, where there is memory and no port fails. No answer
+-- depends on the clock.
+use Rattle.std.specs.Prelude.{◌≡◌, ◌≢◌, ◌+◌, ◌==◌, ◌||◌, ℕ, All, nat_lt, Bool, true, false, if◌then◌else◌, List, [], ◌∷◌, ◌++◌, length, Some, ℤ, pos}
+use Rattle.farm_base.specs.Bytes.{parts_at}
+use Rattle.farm_base.specs.Counts.{Count}
+use Rattle.farm_base.specs.Known.{Stream}
+use Rattle.farm_site.specs.Described.{Described}
+use Rattle.farm_history.specs.History.{History, empty_history}
+use Rattle.batch_lines.specs.declared.limits.TheConstants.{LINE_FEED, MOST_BYTES}
+use Rattle.farm_batch.specs.declared.batch.BatchEnd.{BatchEnd}
+use Rattle.farm_batch.specs.declared.batch.BatchEnd.TheVariants.{Done, Long, Failed}
+use Rattle.farm_batch.specs.declared.limits.TheConstants.{MOST_LINES}
+use Rattle.farm_batch.specs.Answers.{LineAnswer, Step, answer_text, answers_text, line_answer, out_of_memory}
+use Rattle.farm_batch.specs.Batches.{Asks, EndsAs}
+
+-- what is printed, and how the batch ends
+pub record Outcome : Type 0 where
+  pub text : List ℕ
+  pub end : BatchEnd
+
+-- nothing is printed
+abbrev pub ends_here : BatchEnd → Outcome
+ends_here end = record { text = []; end = end }
+
+-- the part after the last line feed is empty, and so no line
+abbrev pub is_no_line : List ℕ → List (List ℕ) → Bool
+is_no_line [] [] = true
+is_no_line part parts = false
+
+-- the bytes of a part with its line feed; the last part has none
+abbrev pub size_of : List ℕ → List (List ℕ) → ℕ
+size_of part [] = length part
+size_of part (next ∷ parts) = length part + 1
+
+-- a line of this size isn't read any more, where this many lines and bytes are before it
+abbrev pub is_too_much : ℕ → ℕ → ℕ → Bool
+is_too_much lines passed size = lines == MOST_LINES || nat_lt MOST_BYTES (passed + size)
+
+-- an answer is printed, and then what comes after it, unless it ends the batch
+abbrev pub printed_before : LineAnswer → Outcome → Outcome
+printed_before answer later =
+    if answer.stops then record { text = answer_text answer.page; end = Done }
+    else record { text = answer_text answer.page ++ later.text; end = later.end }
+
+-- the outcome of the parts that are left, after a history, where this many lines and bytes are before them
+unfoldable pub outcome_from : ℕ → History → ℕ → ℕ → List (List ℕ) → Outcome
+outcome_from limit history lines passed [] = ends_here Done
+outcome_from limit history lines passed (part ∷ parts) =
+    if is_no_line part parts then ends_here Done
+    else (if is_too_much lines passed (size_of part parts) then ends_here (Long (lines + 1))
+    else (let answer = line_answer limit history (pos 0) part in
+    printed_before answer (outcome_from limit answer.history (lines + 1) (passed + size_of part parts) parts)))
+
+-- the outcome of an input on a site, from an empty history
+unfoldable pub outcome : ℕ → Described → List ℕ → Outcome
+outcome limit site text = outcome_from limit (empty_history site) 0 0 (parts_at LINE_FEED text)
+
+-- out of memory was answered nowhere
+abbrev pub HadMemory : List Step → Type 0
+HadMemory steps = All (λ step. step.page ≢ out_of_memory) steps
+
+-- A batch that had memory and whose ports didn't fail has the outcome of its site and its input, whatever the clock gave.
+abbrev pub OutcomesAreOne : (ℤ → Type 0) → Type 0
+OutcomesAreOne may_give =
+    (limit : ℕ) (site : Described) (taken in_hand : List ℕ) (steps : List Step) (to : Stream) (source sink : Count) (end : BatchEnd) →
+    Asks may_give limit (empty_history site) taken in_hand (Some to) steps → EndsAs in_hand (Some to) steps source sink end → end ≢ Failed →
+    HadMemory steps → outcome limit site (taken ++ to.left) ≡ record { text = answers_text steps; end = end }

@@ -1,0 +1,17 @@
+//! Batches: lines of requests, each answered before the next one is read.
+//!
+//! A batch asks the lines of a source one after another, as caller 0, and puts each answer whole before it takes on. It ends at the
+//! end of the source, after a Stop that was accepted and answered, at a line too many, or where a port fails.
+#![tactic(auto)]
+
+mod answers;
+mod batch;
+mod batch_laws;
+mod limits;
+
+pub use batch::{BatchEnd, answer_lines};
+pub use batch_laws::laws;
+pub use limits::{BATCH_CALLER, MOST_LINES};
+
+#[cfg(test)]
+mod tests;
