@@ -22,10 +22,9 @@ answered_by_form bytes short =
     ap (λ b. cond b (Err (refused_at (over_line bytes) Form)) (answer_of_form (form_of (lines_of bytes)))) (isnt_over limit (length bytes) short)
 
 -- and by its figures, once its form is known
-pub answered_by_figures : (bytes : List ℕ) (lines : List (List ℕ)) (input : Input) → length bytes ≤ limit → lines ≡ lines_of bytes → form_of lines ≡ Ok input →
+pub answered_by_figures : (bytes : List ℕ) (input : Input) → length bytes ≤ limit → form_of (lines_of bytes) ≡ Ok input →
     answer_of bytes ≡ figures_or_refused (last_line input) (figures_of_form input)
-answered_by_figures bytes lines input short are_lines form =
-    answered_by_form bytes short ∙ ap (λ ls. answer_of_form (form_of ls)) (sym are_lines) ∙ ap answer_of_form form
+answered_by_figures bytes input short form = answered_by_form bytes short ∙ ap answer_of_form form
 
 -- figures of an answer are those of an equal one
 pub figures_along : {E : Type 0} (result : Result Quantities E) (mine other : Result Quantities Refused) → mine ≡ other →

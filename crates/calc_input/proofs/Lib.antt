@@ -1,9 +1,9 @@
 pub mod Digits
 pub mod Parts
+pub mod LinesTaken
 pub mod VolumeRows
 pub mod FactorFronts
 pub mod TableRead
-pub mod UsedLines
 pub mod Answering
 pub mod DueBlanks
 pub mod DueVolumes

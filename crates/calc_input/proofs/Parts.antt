@@ -1,13 +1,13 @@
 -- A text in parts at a separator, and the lines of an input one after another.
-use Rattle.std.proofs.Common.{◌≡◌, ℕ, ◌+◌, ◌==◌, Bool, true, false, nat_lt, cond, Some, None, take, drop, List, [], ◌∷◌, ◌++◌, length, map, Bor, ◌-◌, append_assoc, length-drop, ◌<◌, ◌≤◌, refl, sym, ap, subst, ◌∙◌, arith}
-use Rattle.std.proofs.lemmas.List.{take_all, map-append}
+use Rattle.std.proofs.Common.{◌≡◌, ℕ, ◌+◌, ◌==◌, Bool, true, false, nat_lt, cond, Some, None, take, drop, List, [], ◌∷◌, length, ◌-◌, length-drop, ◌<◌, ◌≤◌, refl, subst, arith}
+use Rattle.std.proofs.lemmas.List.{take_all}
 use Rattle.std.proofs.lemmas.List.Splits.{length-slice_split, slice_split_first, slice_split_none}
-use Rattle.std.proofs.lemmas.List.Sums.{fails_before_first}
+use Rattle.std.proofs.lemmas.List.Sums.{count_by-le-length, fails_before_first}
 use Rattle.std.proofs.lemmas.Bool.Decides.{nat_tests}
 use Rattle.std.specs.List.{position, position_or_len}
 use Rattle.std.specs.Str.Lines.{strip_carriage_return}
 use Rattle.farm_base.specs.Bytes.{parts_at}
-use Rattle.calc_input.specs.Lines.{ended_lines}
+use Rattle.calc_input.specs.Lines.{ended_lines, lines_of}
 
 -- what the tests of two numbers say
 lt_from : (n m : ℕ) → nat_lt n m ≡ true → n < m
@@ -54,9 +54,13 @@ ended_line_first line after = parts_after line (parts_at 10 after) (omega (arith
 pub whole_rest : (n : ℕ) (bytes : List ℕ) → take (length bytes - n) (drop n bytes) ≡ drop n bytes
 whole_rest n bytes = take_all (length bytes - n) (drop n bytes) (omega (arith, length-drop n bytes))
 
--- a line more, before those that follow
-pub one_line_more : (lines : List (Bor (List ℕ))) (line : Bor (List ℕ)) (rest before all : List (List ℕ)) (ended : List ℕ) →
-    line.now ≡ ended → map (λ l. l.now) lines ++ before ≡ all → before ≡ ended ∷ rest → map (λ l. l.now) (lines ++ line ∷ []) ++ rest ≡ all
-one_line_more lines line rest before all ended is_line sum split =
-    ap (λ ls. ls ++ rest) (map-append (λ l. l.now) lines (line ∷ [])) ∙ append_assoc (map (λ l. l.now) lines) (line.now ∷ []) rest
-    ∙ ap (λ e. map (λ l. l.now) lines ++ (e ∷ rest)) is_line ∙ ap (λ b. map (λ l. l.now) lines ++ b) (sym split) ∙ sum
+-- each part is a line
+length-ended_lines : (parts : List (List ℕ)) → length (ended_lines parts) ≡ length parts
+length-ended_lines [] = refl
+length-ended_lines (part ∷ parts) = omega (arith, length-ended_lines parts)
+
+-- an input has at most one line more than bytes
+pub few_lines : (bytes : List ℕ) → length (lines_of bytes) ≤ length bytes + 1
+unfolding lines_of
+few_lines bytes =
+    omega (arith, length-ended_lines (parts_at 10 bytes), length-slice_split (λ byte. byte == 10) bytes, count_by-le-length (λ byte. byte == 10) bytes)

@@ -1,5 +1,6 @@
 -- An input as lines, and a line as words. Lines count from 0 here.
-use Rattle.std.specs.Prelude.{ℕ, ◌==◌, ◌&&◌, Bool, true, not, List, [], ◌∷◌, length, filter, slice_index_or}
+use Rattle.std.specs.Prelude.{ℕ, ◌==◌, ◌&&◌, Bool, true, not, List, [], ◌∷◌, Option, Some, None, length, filter, slice_index_or}
+use Rattle.std.specs.Borrow.{Bor}
 use Rattle.std.specs.List.{slice_split}
 use Rattle.std.specs.Str.Lines.{strip_carriage_return}
 use Rattle.farm_base.specs.Bytes.{is_blank, parts_at}
@@ -26,6 +27,11 @@ ended_lines (part ∷ parts) = ended_line part parts ∷ ended_lines parts
 -- the lines of an input
 unfoldable pub lines_of : List ℕ → List (List ℕ)
 lines_of bytes = ended_lines (parts_at 10 bytes)
+
+-- the lines that are left, where these bytes are left, and none after the last line
+abbrev pub lines_left : Option (Bor (List ℕ)) → List (List ℕ)
+lines_left None = []
+lines_left (Some bytes) = lines_of bytes.now
 
 -- line n of an input, an empty one where there is no such line
 abbrev pub line_at : List (List ℕ) → ℕ → List ℕ

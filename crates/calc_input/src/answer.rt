@@ -16,7 +16,7 @@ ghost use Rattle.calc_input.specs.RefusedLine.{AreInForm, IsRefusal, OneRefusedL
 use crate::fault::FormFault;
 use crate::forms::{Input, TableInput};
 use crate::levels_line::Levels;
-use crate::lines::{line_feeds, lines_of};
+use crate::lines::line_feeds;
 use crate::volumes_line::Volumes;
 use crate::{Cause, Refused};
 use farm_chain::{figures, quantities};
@@ -82,8 +82,7 @@ fn answer_of(alloc: Global, bytes: &[u8]) -> Result<Quantities, Unanswered>
         let line = over_line(alloc, bytes)?;
         return Err(refused_at(line, Cause::Form));
     }
-    let lines = lines_of(alloc, bytes)?;
-    match Input::of_lines(alloc, &lines) {
+    match Input::of_bytes(alloc, bytes) {
         Ok(input) => figures_of_form(&input),
         Err(FormFault::NoMemory) => Err(Unanswered::NoMemory),
         Err(FormFault::Line(line)) => Err(refused_at(line, Cause::Form)),
@@ -120,8 +119,7 @@ fn over_line(alloc: Global, bytes: &[u8]) -> Result<usize, Unanswered>
 {
     let front = &bytes[..LIMIT];
     let over = line_feeds(front) + 1;
-    let lines = lines_of(alloc, front)?;
-    match Input::of_lines(alloc, &lines) {
+    match Input::of_bytes(alloc, front) {
         Ok(_) => Ok(over),
         Err(FormFault::NoMemory) => Err(Unanswered::NoMemory),
         Err(FormFault::Line(line)) => Ok(line.min(over)),

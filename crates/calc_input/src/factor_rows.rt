@@ -1,35 +1,36 @@
 //! The factor lines of the form `table`.
 
-ghost use Rattle.std.specs.Prelude.{◌≡◌, ◌+◌, ◌<◌, ◌≤◌, length, map, MatchResult, Some, None, Ok, true, false};
+ghost use Rattle.std.specs.Prelude.{◌≡◌, ℕ, ◌+◌, ◌<◌, ◌≤◌, List, drop, length, IfOk, MatchResult, Some, None, Ok, true, false};
 ghost use Rattle.farm_base.specs.Steps.{IsRefusedAs};
 ghost use Rattle.calc_input.specs.FactorRows.{grid_from, grown_line, listed_of};
 ghost use Rattle.calc_input.specs.Forms.{refused_line};
 
 use crate::fault::FormFault;
-use crate::lines::{first_field, line_at};
+use crate::lines::{Lines, first_field};
 use farm_fixed::NoMemory;
 use farm_vcf::{Growing, Listed, Vcf, row_of_fields};
 use std::alloc::Global;
 
-/// The grid of `count` lines from line `first` on, the first line being 0.
+/// The grid of the next `count` lines, after the first `first` ones.
 pub fn grid_from(
     alloc: Global,
     count: usize,
     first: usize,
-    lines: &[&[u8]],
+    lines: &mut Lines<'_>,
 ) -> Result<Vcf, FormFault>
     requires some { 0 < count }
     requires count { count ≤ 100000 }
     requires first { first ≤ 5003 }
-    ensures { MatchResult result (λ grid. grid_from count first (map (λ line. line.now) lines.now) ≡ Ok grid)
-        (λ fault. IsRefusedAs (refused_line fault) (grid_from count first (map (λ line. line.now) lines.now))) }
+    ensures grid { (all : List (List ℕ)) → lines.old ≡ drop first all → MatchResult result (λ grid. grid_from count first all ≡ Ok grid)
+        (λ fault. IsRefusedAs (refused_line fault) (grid_from count first all)) }
+    ensures rest { IfOk result (λ _. lines.new ≡ drop count lines.old) }
 {
-    let Some(row) = listed_of(line_at(lines, first)) else {
+    let Some(row) = listed_of(lines.due()) else {
         return Err(FormFault::Line(first + 1));
     };
     let mut growing = Growing::begin(alloc, row, count)?;
     for index in 1..count {
-        if !goes_on(&mut growing, line_at(lines, first + index))? {
+        if !goes_on(&mut growing, lines.due())? {
             return Err(FormFault::Line(first + index + 1));
         }
     }

@@ -1,8 +1,8 @@
 //! The two forms of an input: observed volumes, and levels with a capacity table and a factor grid.
 
-ghost use Rattle.std.specs.Prelude.{◌≡◌, ◌≤◌, ◌+◌, drop, map, pos, IfOk, MatchResult, Ok};
+ghost use Rattle.std.specs.Prelude.{◌≡◌, ℕ, ◌≤◌, ◌+◌, ◌^◌, List, drop, length, pos, IfOk, MatchResult, Ok};
 ghost use Rattle.farm_base.specs.Steps.{IsRefusedAs, or_fault};
-ghost use Rattle.calc_input.specs.Lines.{line_at, words_of};
+ghost use Rattle.calc_input.specs.Lines.{lines_of, words_of};
 ghost use Rattle.calc_input.specs.VolumesLine.{IsCalculable};
 ghost use Rattle.calc_input.specs.TableRows.{counted, rows_from};
 ghost use Rattle.calc_input.specs.LevelsLine.{IsGauged, levels_of};
@@ -11,7 +11,7 @@ ghost use Rattle.calc_input.specs.Forms.{CanBeCalculated, begins_table, first_us
 use crate::factor_rows::grid_from;
 use crate::fault::FormFault;
 use crate::levels_line::Levels;
-use crate::lines::{is_blank_line, line_at, words_of};
+use crate::lines::{Lines, is_blank_line, words_of};
 use crate::table_rows::{counted, rows_of};
 use crate::volumes_line::Volumes;
 use farm_vcf::Vcf;
@@ -41,35 +41,36 @@ pub enum Input {
 }
 
 impl Input {
-    /// The form of the lines, by the name that the first one begins with, or the first line that isn't in form.
+    /// The form of an input, by the name that its first line begins with, or the first line that isn't in form.
     #[tactic(auto, unfolding(crate::specs::Forms::form_of))]
-    pub fn of_lines(alloc: Global, lines: &[&[u8]]) -> Result<Input, FormFault>
-        ensures form { MatchResult result (λ form. form_of (map (λ line. line.now) lines.now) ≡ Ok form)
-            (λ fault. IsRefusedAs (refused_line fault) (form_of (map (λ line. line.now) lines.now))) }
+    pub fn of_bytes(alloc: Global, bytes: &[u8]) -> Result<Input, FormFault>
+        ensures form { MatchResult result (λ form. form_of (lines_of bytes.now) ≡ Ok form)
+            (λ fault. IsRefusedAs (refused_line fault) (form_of (lines_of bytes.now))) }
         ensures ranges { IfOk result CanBeCalculated }
     {
-        if begins_table(alloc, lines)? {
-            Ok(Input::Table(TableInput::of_lines(alloc, lines)?))
+        let mut lines = Lines::new(bytes);
+        if begins_table(alloc, bytes)? {
+            Ok(Input::Table(TableInput::of_lines(alloc, &mut lines)?))
         } else {
-            Ok(Input::Observed(volumes_of(alloc, lines)?))
+            Ok(Input::Observed(volumes_of(alloc, &mut lines)?))
         }
     }
 }
 
 impl TableInput {
-    /// What the lines of the form `table` say, or the first line that isn't in form.
+    /// What the lines of the form `table` say, from the first one on, or the first line that isn't in form.
     #[tactic(auto, unfolding(crate::specs::Forms::table_input_of))]
-    fn of_lines(alloc: Global, lines: &[&[u8]]) -> Result<TableInput, FormFault>
-        ensures form { MatchResult result (λ input. table_input_of (map (λ line. line.now) lines.now) ≡ Ok input)
-            (λ fault. IsRefusedAs (refused_line fault) (table_input_of (map (λ line. line.now) lines.now))) }
+    fn of_lines(alloc: Global, lines: &mut Lines<'_>) -> Result<TableInput, FormFault>
+        ensures form { MatchResult result (λ input. table_input_of lines.old ≡ Ok input)
+            (λ fault. IsRefusedAs (refused_line fault) (table_input_of lines.old)) }
         ensures ranges { IfOk result (λ input. IsGauged input.levels) }
     {
-        let count = count_due(alloc, lines, 0, b"table", 2, 5_001)?;
+        let count = count_due(alloc, lines.due(), 1, b"table", 2, 5_001)?;
         let table = table_of(alloc, count, lines)?;
-        let many = count_due(alloc, lines, count + 1, b"factors", 1, 100_000)?;
+        let many = count_due(alloc, lines.due(), count + 2, b"factors", 1, 100_000)?;
         let vcf = grid_from(alloc, many, count + 2, lines)?;
-        let levels = levels_due(alloc, lines, count + many + 2)?;
         let line = count + many + 3;
+        let levels = levels_due(alloc, lines.due(), line)?;
         match first_used(lines, line) {
             Some(number) => Err(FormFault::Line(number)),
             None => Ok(TableInput {
@@ -83,10 +84,10 @@ impl TableInput {
 }
 
 // Whether the first line begins with the name of the form `table`.
-fn begins_table(alloc: Global, lines: &[&[u8]]) -> Result<bool, AllocError>
-    ensures { IfOk result (λ begins. begins ≡ begins_table (map (λ line. line.now) lines.now)) }
+fn begins_table(alloc: Global, bytes: &[u8]) -> Result<bool, AllocError>
+    ensures { IfOk result (λ begins. begins ≡ begins_table (lines_of bytes.now)) }
 {
-    let words = words_of(alloc, line_at(lines, 0))?;
+    let words = words_of(alloc, Lines::new(bytes).due())?;
     match words.first() {
         Some(word) => Ok(*word == b"table".as_slice()),
         None => Ok(false),
@@ -95,12 +96,12 @@ fn begins_table(alloc: Global, lines: &[&[u8]]) -> Result<bool, AllocError>
 
 // What the one line of observed volumes says, or the first line that isn't in form.
 #[tactic(auto, unfolding(crate::specs::Forms::volumes_input_of))]
-fn volumes_of(alloc: Global, lines: &[&[u8]]) -> Result<Volumes, FormFault>
-    ensures form { MatchResult result (λ volumes. volumes_input_of (map (λ line. line.now) lines.now) ≡ Ok volumes)
-        (λ fault. IsRefusedAs (refused_line fault) (volumes_input_of (map (λ line. line.now) lines.now))) }
+fn volumes_of(alloc: Global, lines: &mut Lines<'_>) -> Result<Volumes, FormFault>
+    ensures form { MatchResult result (λ volumes. volumes_input_of lines.old ≡ Ok volumes)
+        (λ fault. IsRefusedAs (refused_line fault) (volumes_input_of lines.old)) }
     ensures ranges { IfOk result IsCalculable }
 {
-    let words = words_of(alloc, line_at(lines, 0))?;
+    let words = words_of(alloc, lines.due())?;
     let Some(volumes) = Volumes::of_words(&words) else {
         return Err(FormFault::Line(1));
     };
@@ -110,62 +111,64 @@ fn volumes_of(alloc: Global, lines: &[&[u8]]) -> Result<Volumes, FormFault>
     }
 }
 
-// The count that line `at`, the first being 0, gives after its name.
+// The count that a line gives after its name.
 fn count_due(
     alloc: Global,
-    lines: &[&[u8]],
-    at: usize,
+    line: &[u8],
+    number: usize,
     name: &[u8],
     least: u128,
     most: u128,
 ) -> Result<usize, FormFault>
-    requires most { most ≤ 100000 }
-    requires at { at ≤ 5002 }
-    ensures count { MatchResult result (λ count. or_fault (at + 1) (counted name.now least most (words_of (line_at (map (λ line. line.now) lines.now) at))) ≡ Ok count)
-        (λ fault. IsRefusedAs (refused_line fault) (or_fault (at + 1) (counted name.now least most (words_of (line_at (map (λ line. line.now) lines.now) at))))) }
+    requires { most ≤ 100000 }
+    ensures count { MatchResult result (λ count. or_fault number (counted name.now least most (words_of line.now)) ≡ Ok count)
+        (λ fault. IsRefusedAs (refused_line fault) (or_fault number (counted name.now least most (words_of line.now)))) }
     ensures least { IfOk result (λ count. least ≤ count) }
     ensures most { IfOk result (λ count. count ≤ most) }
 {
-    let words = words_of(alloc, line_at(lines, at))?;
+    let words = words_of(alloc, line)?;
     match counted(&words, name, least, most) {
         Some(count) => Ok(count as usize),
-        None => Err(FormFault::Line(at + 1)),
+        None => Err(FormFault::Line(number)),
     }
 }
 
 // The capacity table of `count` lines after the first.
-fn table_of(alloc: Global, count: usize, lines: &[&[u8]]) -> Result<CapTable, FormFault>
+fn table_of(alloc: Global, count: usize, lines: &mut Lines<'_>) -> Result<CapTable, FormFault>
     requires least { 2 ≤ count }
     requires most { count ≤ 5001 }
-    ensures { MatchResult result (λ table. rows_from count 1 (pos 0) (map (λ line. line.now) lines.now) ≡ Ok table)
-        (λ fault. IsRefusedAs (refused_line fault) (rows_from count 1 (pos 0) (map (λ line. line.now) lines.now))) }
+    ensures rows { (all : List (List ℕ)) → lines.old ≡ drop 1 all → MatchResult result (λ table. rows_from count 1 (pos 0) all ≡ Ok table)
+        (λ fault. IsRefusedAs (refused_line fault) (rows_from count 1 (pos 0) all)) }
+    ensures rest { IfOk result (λ _. lines.new ≡ drop count lines.old) }
 {
     let rows = rows_of(alloc, count, lines)?;
     Ok(CapTable::from_rows(rows).unwrap())
 }
 
-// The levels that line `at`, the first being 0, says.
-fn levels_due(alloc: Global, lines: &[&[u8]], at: usize) -> Result<Levels, FormFault>
-    requires { at ≤ 200000 }
-    ensures levels { MatchResult result (λ levels. or_fault (at + 1) (levels_of (words_of (line_at (map (λ line. line.now) lines.now) at))) ≡ Ok levels)
-        (λ fault. IsRefusedAs (refused_line fault) (or_fault (at + 1) (levels_of (words_of (line_at (map (λ line. line.now) lines.now) at))))) }
+// The levels that a line says.
+fn levels_due(alloc: Global, line: &[u8], number: usize) -> Result<Levels, FormFault>
+    ensures levels { MatchResult result (λ levels. or_fault number (levels_of (words_of line.now)) ≡ Ok levels)
+        (λ fault. IsRefusedAs (refused_line fault) (or_fault number (levels_of (words_of line.now)))) }
     ensures ranges { IfOk result IsGauged }
 {
-    let words = words_of(alloc, line_at(lines, at))?;
+    let words = words_of(alloc, line)?;
     match Levels::of_words(&words) {
         Some(levels) => Ok(levels),
-        None => Err(FormFault::Line(at + 1)),
+        None => Err(FormFault::Line(number)),
     }
 }
 
-// The number of the first line after the first `last` lines that isn't blank.
-fn first_used(lines: &[&[u8]], last: usize) -> Option<usize>
-    requires { last ≤ 200000 }
-    ensures { result ≡ first_used (last + 1) (drop last (map (λ line. line.now) lines.now)) }
+// The number of the first line that isn't blank, after the line with the number `last`.
+fn first_used(lines: &mut Lines<'_>, last: usize) -> Option<usize>
+    requires last { last ≤ 200000 }
+    requires few { length lines.old ≤ 2 ^ 63 }
+    ensures { result ≡ first_used (last + 1) lines.old }
 {
-    for index in last..lines.len() {
-        if !is_blank_line(lines[index]) {
-            return Some(index + 1);
+    let mut number = last;
+    while let Some(line) = lines.next() {
+        number += 1;
+        if !is_blank_line(line) {
+            return Some(number);
         }
     }
     None

@@ -1,37 +1,59 @@
 //! An input as lines, and a line as words.
 
-ghost use Rattle.std.specs.Prelude.{◌≡◌, ◌==◌, ◌+◌, ◌<◌, ◌≤◌, ◌∷◌, [], count_by, length, position, IfOk, IfSome, MatchOption, map};
+ghost use Rattle.std.specs.Prelude.{◌≡◌, ◌==◌, ◌+◌, ◌^◌, ◌<◌, ◌≤◌, ◌∷◌, [], count_by, drop, length, position, IfOk, IfSome, MatchOption, map};
 ghost use Rattle.std.specs.Str.Lines.{strip_carriage_return};
 ghost use Rattle.farm_base.specs.Bytes.{is_blank, parts_at};
-ghost use Rattle.calc_input.specs.Lines.{is_blank_line, line_at, lines_of, words_of};
+ghost use Rattle.calc_input.specs.Lines.{is_blank_line, line_at, lines_left, lines_of, words_of};
 
 use farm_base::is_blank;
 use memchr::memchr;
 use std::alloc::{AllocError, Global};
+use std::marker::Model;
 
-/// The bytes of a short line. Room for lines of this length is taken at first, without a count of them, and more as it is needed.
-const SHORT_LINE: usize = 8;
-
-/// The lines of an input, each without the line feed that ends it and a carriage return before that.
-#[tactic(auto, unfolding(crate::specs::Lines::lines_of))]
-pub fn lines_of(alloc: Global, bytes: &[u8]) -> Result<Vec<&[u8]>, AllocError>
-    ensures { IfOk result (λ lines. map (λ line. line.now) lines.items ≡ lines_of bytes.now) }
-{
-    let mut lines = Vec::with_capacity(alloc, bytes.len() / SHORT_LINE + 1)?;
-    let mut rest = bytes;
-    while let Some((line, after)) = first_line(rest) {
-        lines.push(without_return(line))?;
-        rest = after;
-    }
-    lines.push(rest)?;
-    Ok(lines)
+/// The lines of an input that are left, one after another: each without the line feed that ends it and a carriage return before
+/// that. A clause sees them as a list.
+#[derive(Drop)]
+pub struct Lines<'a> {
+    // The bytes from the next line on; `None` after the last line.
+    rest: Option<&'a [u8]>,
 }
 
-/// A line of an input, the first being 0; an empty one where there is no such line.
-pub fn line_at<'a>(lines: &[&'a [u8]], n: usize) -> &'a [u8]
-    ensures { result.now ≡ line_at (map (λ line. line.now) lines.now) n }
-{
-    if n < lines.len() { lines[n] } else { &[] }
+impl<'a> Model for Lines<'a> {
+    ghost use Rattle.std.specs.Prelude.{ℕ, List};
+    ghost use Rattle.calc_input.specs.Lines.{lines_left};
+
+    ghost Value = { List (List ℕ) };
+
+    ghost view = { λ lines. lines_left lines.rest };
+}
+
+impl<'a> Lines<'a> {
+    /// The lines of an input.
+    pub fn new(bytes: &'a [u8]) -> Lines<'a>
+        ensures { result ≡ lines_of bytes.now }
+    {
+        Lines { rest: Some(bytes) }
+    }
+
+    /// The next line; an empty one where no line is left.
+    pub fn due(&mut self) -> &'a [u8]
+        ensures line { result.now ≡ line_at self.old 0 }
+        ensures rest { self.new ≡ drop 1 self.old }
+        ensures few { length self.new ≤ 2 ^ 63 }
+    {
+        self.next().unwrap_or(&[])
+    }
+
+    /// The next line; `None` where no line is left.
+    pub fn next(&mut self) -> Option<&'a [u8]>
+        ensures line { MatchOption result (self.old ≡ []) (λ line. self.old ≡ line.now ∷ self.new) }
+        ensures rest { self.new ≡ drop 1 self.old }
+        ensures few { length self.new ≤ 2 ^ 63 }
+    {
+        let (line, after) = cut_line(self.rest?);
+        self.rest = after;
+        Some(line)
+    }
 }
 
 /// The words of a line, separated by one or more blanks.
@@ -53,12 +75,16 @@ pub fn first_field(bytes: &[u8]) -> Option<(&[u8], &[u8])>
     parts_around(bytes, b',', comma(bytes))
 }
 
-// What stands before the first line feed and what stands after it; `None` where there is no line feed.
-fn first_line(bytes: &[u8]) -> Option<(&[u8], &[u8])>
-    ensures parts { MatchOption result (parts_at 10 bytes.now ≡ bytes.now ∷ []) (λ parts. parts_at 10 bytes.now ≡ parts.0.now ∷ parts_at 10 parts.1.now) }
-    ensures shorter { IfSome result (λ parts. length parts.1.now < length bytes.now) }
+// The first line, and the bytes after it; `None` after the last line.
+#[tactic(auto, unfolding(crate::specs::Lines::lines_of))]
+fn cut_line(bytes: &[u8]) -> (&[u8], Option<&[u8]>)
+    ensures line { lines_of bytes.now ≡ result.0.now ∷ lines_left result.1 }
+    ensures few { length (lines_left result.1) ≤ 2 ^ 63 }
 {
-    parts_around(bytes, b'\n', line_feed(bytes))
+    match parts_around(bytes, b'\n', line_feed(bytes)) {
+        Some((line, after)) => (without_return(line), Some(after)),
+        None => (bytes, None),
+    }
 }
 
 // The parts of a text around its first separator, by the offset of that.

@@ -1,15 +1,18 @@
 //! The counted lines of the form `table`: a name and a count, and the volumes of the capacity table.
 
-ghost use Rattle.std.specs.Prelude.{◌≡◌, ◌≤◌, map, pos, IfOk, IfSome, MatchResult, Ok};
+ghost use Rattle.std.specs.Prelude.{◌≡◌, ℕ, ◌≤◌, List, drop, map, pos, IfOk, IfSome, MatchResult, Ok};
 ghost use Rattle.farm_base.specs.Steps.{IsRefusedAs};
+ghost use Rattle.farm_base.specs.Bytes.{is_blank};
+ghost use Rattle.calc_input.specs.Lines.{words_of};
 ghost use Rattle.calc_input.specs.Forms.{refused_line};
 ghost use Rattle.calc_input.specs.TableRows.{counted, row_of, rows_from, volume_in};
 
 use crate::fault::FormFault;
 use crate::fields::{digits_of, volume_of};
-use crate::lines::{line_at, words_of};
+use crate::lines::Lines;
+use farm_base::is_blank;
 use farm_fixed::Litres;
-use std::alloc::{AllocError, Global};
+use std::alloc::Global;
 
 /// A count in a range, after its name.
 pub fn counted(words: &[&[u8]], name: &[u8], least: u128, most: u128) -> Option<u128>
@@ -31,15 +34,16 @@ pub fn counted(words: &[&[u8]], name: &[u8], least: u128, most: u128) -> Option<
 }
 
 /// The volumes of a capacity table: this many lines after the first.
-pub fn rows_of(alloc: Global, count: usize, lines: &[&[u8]]) -> Result<Vec<i64>, FormFault>
+pub fn rows_of(alloc: Global, count: usize, lines: &mut Lines<'_>) -> Result<Vec<i64>, FormFault>
     requires { count ≤ 5001 }
-    ensures { MatchResult result (λ rows. rows_from count 1 (pos 0) (map (λ line. line.now) lines.now) ≡ Ok rows.items)
-        (λ fault. IsRefusedAs (refused_line fault) (rows_from count 1 (pos 0) (map (λ line. line.now) lines.now))) }
+    ensures rows { (all : List (List ℕ)) → lines.old ≡ drop 1 all → MatchResult result (λ rows. rows_from count 1 (pos 0) all ≡ Ok rows.items)
+        (λ fault. IsRefusedAs (refused_line fault) (rows_from count 1 (pos 0) all)) }
+    ensures rest { IfOk result (λ _. lines.new ≡ drop count lines.old) }
 {
     let mut rows = Vec::with_capacity(alloc, count)?;
     let mut before = Litres::new(0).unwrap();
     for index in 0..count {
-        match row_of(alloc, before, line_at(lines, index + 1))? {
+        match row_of(before, lines.due()) {
             Some(row) => {
                 rows.push(row.get())?;
                 before = row;
@@ -52,25 +56,26 @@ pub fn rows_of(alloc: Global, count: usize, lines: &[&[u8]]) -> Result<Vec<i64>,
 
 // A volume of the table, not below the one before.
 #[tactic(auto, unfolding(crate::specs::TableRows::row_of))]
-fn row_of(alloc: Global, before: Litres, line: &[u8]) -> Result<Option<Litres>, AllocError>
-    ensures { IfOk result (λ row. row ≡ row_of before line.now) }
+fn row_of(before: Litres, line: &[u8]) -> Option<Litres>
+    ensures { result ≡ row_of before line.now }
 {
-    let words = words_of(alloc, line)?;
-    let Some(row) = volume_in(&words) else {
-        return Ok(None);
-    };
+    let row = volume_in(line)?;
     if row.get() < before.get() {
-        return Ok(None);
+        return None;
     }
-    Ok(Some(row))
+    Some(row)
 }
 
 // The volume that is the only word of a line.
-fn volume_in(words: &[&[u8]]) -> Option<Litres>
-    ensures { result ≡ volume_in (map (λ word. word.now) words.now) }
+fn volume_in(line: &[u8]) -> Option<Litres>
+    ensures { result ≡ volume_in (words_of line.now) }
 {
-    match words {
-        [word] => volume_of(word),
-        _ => None,
+    let mut words = line
+        .split(|byte| is_blank(*byte))
+        .filter(|word| !word.is_empty());
+    let word = words.next()?;
+    match words.next() {
+        Some(_) => None,
+        None => volume_of(word),
     }
 }

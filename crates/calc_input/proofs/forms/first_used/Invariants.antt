@@ -1,7 +1,12 @@
-use Rattle.std.proofs.Common.{◌≡◌, ◌+◌, drop, map}
+use Rattle.std.proofs.Common.{◌≡◌, ◌+◌, ◌^◌, ◌≤◌, length}
 use Rattle.calc_input.specs.Forms.{first_used}
 use Rattle.calc_input.proofs.forms.first_used.Given as goal
 
-abbrev pub invariant-loop-index : goal.invariant-loop-index
-invariant-loop-index l =
-    first_used (l.index + 1) (drop l.index (map (λ line. line.now) l.lines)) ≡ first_used (l.last + 1) (drop l.last (map (λ line. line.now) l.lines))
+abbrev pub invariant-loop-line : goal.invariant-loop-line
+invariant-loop-line l = record {
+  same : first_used (l.number + 1) l.lines ≡ first_used (l.last + 1) l.fn.lines;
+  few : l.number + length l.lines ≤ 200000 + 2 ^ 63;
+}
+
+abbrev pub decreases-loop-line : goal.decreases-loop-line
+decreases-loop-line l = length l.lines
