@@ -1,4 +1,5 @@
-"""Writes two inputs of `calc` from levels, the greatest one and one of 100,000 short factor lines, and a factor file into a folder."""
+"""Writes into a folder two inputs of `calc` from levels, the greatest one and one of 100,000 short factor lines, a factor file, and
+batches: refused lines, repeated lines, and lines that are accepted."""
 
 import pathlib
 import sys
@@ -34,7 +35,16 @@ def short_levels():
     return f"table 5001\n{rows}factors 100000\n{lines}levels 43217 13 bare 20.25 31.00 15.00 112 85000 1000 1500 405.3 0.125\n"
 
 
+def gauge(key, tank):
+    """A gauge reading that is accepted where the site has the tank."""
+    return f'{{"do":"gauge","account":1,"key":{key},"tank":{tank},"level":1234,"water":10,"temperature":1850,"ambient":1200}}\n'
+
+
 folder = pathlib.Path(sys.argv[1])
+(folder / "refused.jsonl").write_text("".join(gauge(key, 99) for key in range(200_000)))
+(folder / "repeated.jsonl").write_text(gauge(1, 101) * 200_000)
+(folder / "accepted.jsonl").write_text("".join(gauge(key, 101) for key in range(10_000)))
+(folder / "many.jsonl").write_text("".join(gauge(key, 101) for key in range(100_000)))
 (folder / "levels.txt").write_text(levels())
 (folder / "short_levels.txt").write_text(short_levels())
 (folder / "factors.csv").write_text("density,temperature,factor\n" + "".join(factors(100_000, 4_000)))

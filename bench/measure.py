@@ -9,6 +9,7 @@ TOP, WORK = sys.argv[1:]
 PROGRAM = f"{TOP}/crates/farm/out/farm"
 FARM = [PROGRAM, "calc"]
 TABLE = [PROGRAM, "table", "--site"]
+BATCH = [PROGRAM, "batch", "--site", f"{TOP}/examples/site"]
 LINE = f"{TOP}/examples/calc/observed.txt"
 LEVELS = f"{WORK}/levels.txt"
 SHORT_LEVELS = f"{WORK}/short_levels.txt"
@@ -65,6 +66,12 @@ if os.path.exists(tables):
 compare("the issued tables of 64 table files, awk", [*TABLE, f"{WORK}/tables"], ["awk", "-f", f"{TOP}/bench/rows.awk"], 40)
 compare("the issued tables of 64 strapping files, C", [*TABLE, f"{WORK}/strappings"], [f"{WORK}/strapped"], 40)
 print(f"a site with every list at its limit: {least([*TABLE, f'{WORK}/limits'], 3):.0f} ms, {kilobytes([*TABLE, f'{WORK}/limits'], '/dev/null')} KB")
+# C with cJSON that reads the same lines and prints answers of the same text, where there is cJSON.
+if os.path.exists(f"{WORK}/batch"):
+    for name, text in (("refused", '{"rule":3,"value":0}'), ("repeated", '{"place":1}')):
+        compare(f"200,000 {name} lines of a batch, C with cJSON", BATCH, [f"{WORK}/batch", text], 9, f"{WORK}/{name}.jsonl")
+print(f"10,000 accepted lines of a batch: {least(BATCH, 3, f'{WORK}/accepted.jsonl'):.0f} ms")
+print(f"memory of a batch of 100,000 entries: {kilobytes(BATCH, f'{WORK}/many.jsonl')} KB")
 LOG = f"{TOP}/crates/shared_log/out/shared_log"
 for callers, turns in ((1, 200_000), (4, 50_000)):
     words = [str(callers), str(turns), "500"]

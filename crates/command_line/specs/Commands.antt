@@ -2,17 +2,21 @@
 use Rattle.std.specs.Prelude.{ℕ, Bool, List, [], ◌∷◌, Option, Some, None, codes, if◌then◌else◌}
 use Rattle.std.specs.Str.{bytes_eq}
 use Rattle.command_line.specs.declared.commands.Subcommand.{Subcommand}
-use Rattle.command_line.specs.declared.commands.Subcommand.TheVariants.{Calc, Table}
+use Rattle.command_line.specs.declared.commands.Subcommand.TheVariants.{Batch, Calc, Table}
 use Rattle.command_line.specs.Options.{Spelled, are_options, option_in}
 
 -- the command of this name
 abbrev pub command_named : List ℕ → Option Subcommand
-command_named word = if bytes_eq word (codes "calc") then Some Calc else (if bytes_eq word (codes "table") then Some Table else None)
+command_named word =
+    if bytes_eq word (codes "calc") then Some Calc
+    else (if bytes_eq word (codes "table") then Some Table
+    else (if bytes_eq word (codes "batch") then Some Batch else None))
 
 -- the options that a command takes
 abbrev pub option_names : Subcommand → List (List ℕ)
 option_names Calc = []
 option_names Table = codes "site" ∷ []
+option_names Batch = codes "site" ∷ []
 
 -- a command, where the words after its name are its options
 abbrev pub with_options : Option Subcommand → List (List ℕ) → Option Subcommand
@@ -39,6 +43,7 @@ abbrev pub folder_of : Option Subcommand → List (List ℕ) → List ℕ
 folder_of None words = []
 folder_of (Some Calc) words = []
 folder_of (Some Table) words = site_value words
+folder_of (Some Batch) words = site_value words
 
 -- the site folder that the arguments name, an empty text where they name none
 abbrev pub site_folder : List (List ℕ) → List ℕ

@@ -13,6 +13,8 @@ pub enum Subcommand {
     Calc,
     /// The issued capacity tables of a site; option `site`.
     Table,
+    /// Requests to the desk of a site, a line each; option `site`.
+    Batch,
 }
 
 impl Subcommand {
@@ -35,6 +37,7 @@ impl Subcommand {
         match word {
             "calc" => Some(Subcommand::Calc),
             "table" => Some(Subcommand::Table),
+            "batch" => Some(Subcommand::Batch),
             _ => None,
         }
     }
@@ -46,7 +49,7 @@ impl Subcommand {
     {
         match self {
             Subcommand::Calc => &[],
-            Subcommand::Table => &["site"],
+            Subcommand::Table | Subcommand::Batch => &["site"],
         }
     }
 }
@@ -68,7 +71,7 @@ fn site_folder(words: &[String]) -> &str
     ensures { result.now ≡ site_folder (map string_bytes words.now) }
 {
     match Subcommand::of_words(words) {
-        Some(Subcommand::Table) => site_value(words),
+        Some(Subcommand::Table | Subcommand::Batch) => site_value(words),
         Some(Subcommand::Calc) | None => "",
     }
 }

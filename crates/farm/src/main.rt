@@ -4,11 +4,12 @@
 //! command reads and prints.
 #![tactic(auto)]
 
-ghost use Rattle.std.specs.Prelude.{◌≡◌, IfSome, map, string_bytes};
-ghost use Rattle.command_line.specs.Commands.{site_folder};
+ghost use Rattle.std.specs.Prelude.{◌≡◌, ◌⊎◌, IfSome, None, Some, map, string_bytes};
+ghost use Rattle.command_line.specs.Commands.{command_of, site_folder};
+ghost use Rattle.command_line.specs.declared.commands.Subcommand.TheVariants.{Batch, Calc, Table};
 
 use command_line::places;
-use farm_ports::{DirFolder, StdSink, StdSource};
+use farm_ports::{DirFolder, StdSink, StdSource, SystemClock};
 use farm_run::{report_no_memory, run};
 use std::process::ExitCode;
 use std::rt::Env;
@@ -19,14 +20,28 @@ fn arguments(rt: &(impl Env + AllocGlobal)) -> io::Result<Vec<String>> {
     Ok(env::args(rt)?.skip(1).collect(rt.alloc())?)
 }
 
-// Runs the arguments over the real ports. What they don't name is opened by no command.
-fn run_arguments(rt: &HostRuntime, words: &[String]) -> u8 {
+// Runs the arguments over the real ports. What they don't name is opened by no command. Its status is one of their command's.
+fn run_arguments(rt: &HostRuntime, words: &[String]) -> u8
+    ensures calc { command_of (map string_bytes words.now) ≡ Some Calc → (result ≡ 0) ⊎ (result ≡ 4) ⊎ (result ≡ 6) ⊎ (result ≡ 7) }
+    ensures table { command_of (map string_bytes words.now) ≡ Some Table → (result ≡ 0) ⊎ (result ≡ 2) ⊎ (result ≡ 6) ⊎ (result ≡ 7) }
+    ensures batch { command_of (map string_bytes words.now) ≡ Some Batch →
+        (result ≡ 0) ⊎ (result ≡ 2) ⊎ (result ≡ 4) ⊎ (result ≡ 6) ⊎ (result ≡ 7) }
+    ensures usage { command_of (map string_bytes words.now) ≡ None → (result ≡ 1) ⊎ (result ≡ 6) ⊎ (result ≡ 7) }
+{
     let mut input = StdSource::new(rt.stdin());
     let mut output = StdSink::new(rt.stdout());
     let Some(mut folder) = folder_named(rt, words) else {
         return report_no_memory(&mut output);
     };
-    run(rt.alloc(), words, &mut input, &mut output, &mut folder)
+    let clock = SystemClock::new(rt);
+    run(
+        rt.alloc(),
+        words,
+        &mut input,
+        &mut output,
+        &mut folder,
+        &clock,
+    )
 }
 
 // The folder that the arguments name, of an empty path where they name none. `None` is out of memory alone.

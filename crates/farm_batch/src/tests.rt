@@ -68,24 +68,6 @@ fn a_repeated_stop_ends_no_batch(rt: HostRuntime) -> Result<(), Fail> {
 }
 
 #[test]
-fn a_line_of_65537_bytes_is_too_long(rt: HostRuntime) -> Result<(), Fail> {
-    let alloc = rt.alloc();
-    let mut book = Book::<4>::new(alloc, row_site(alloc)?)?;
-    let text = format!(in alloc;
-        "{}\n{}",
-        "a".repeat(alloc, 65_537)?,
-        "a".repeat(alloc, 65_536)?
-    )?;
-    let (end, output) = batch(alloc, &mut book, &text, Vec::new(alloc))?;
-    assert_eq!(rt; end, BatchEnd::Done);
-    assert_eq!(rt;
-        output.bytes(),
-        b"{\"error\":413}\n{\"error\":400}\n".as_slice()
-    );
-    Ok(())
-}
-
-#[test]
 fn a_failing_put_ends_the_batch(rt: HostRuntime) -> Result<(), Fail> {
     let alloc = rt.alloc();
     let mut book = Book::<4>::new(alloc, row_site(alloc)?)?;

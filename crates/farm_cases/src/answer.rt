@@ -7,7 +7,7 @@ use crate::fault::CaseFault;
 use crate::folder::folder_of;
 use crate::input::source_of;
 use crate::text::given_bytes;
-use farm_ports::{Folder, Gather};
+use farm_ports::{Fixed, Folder, Gather};
 use farm_run::run;
 use std::alloc::Global;
 use std::fmt;
@@ -96,7 +96,15 @@ fn answer_of<F: Folder>(
     let mut input = source_of(alloc, &input, case.piece_bytes, &case.input_fails)?;
     let mut folder = folder_of(alloc, data, sites, case)?;
     let mut output = Gather::new(alloc, case.output_fails.clone()?)?;
-    let status = run(alloc, &case.words, &mut input, &mut output, &mut folder);
+    let clock = Fixed::new(alloc, case.clock)?;
+    let status = run(
+        alloc,
+        &case.words,
+        &mut input,
+        &mut output,
+        &mut folder,
+        &clock,
+    );
     let output = Vec::from_slice(alloc, output.bytes())?;
     Ok(Answer { status, output })
 }

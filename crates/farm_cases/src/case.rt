@@ -50,6 +50,9 @@ pub struct Case {
     /// Texts in files, each standing once, and what stands in their place: file, old text, new text.
     #[serde(default)]
     pub replace: Vec<(String, String, String)>,
+    /// The moment that the clock gives, in seconds since 1970-01-01 00:00:00 UTC; 0 where it isn't given.
+    #[serde(default)]
+    pub clock: i64,
     /// The numbers of the takes of the input that fail, from 1.
     #[serde(default)]
     pub input_fails: Vec<u64>,

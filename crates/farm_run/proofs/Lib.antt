@@ -1,3 +1,4 @@
 pub mod Printing
 pub mod Runs
 pub mod CalcRuns
+mod BatchRuns

@@ -31,6 +31,10 @@ cause_word (Chain Negative) = codes "Negative"
 unfoldable pub refusal_text : Refused → List ℕ
 refusal_text why = codes "input refused at line " ++ (decimal why.line ++ (codes ": " ++ (cause_word why.cause ++ codes "\n")))
 
+-- 4: a batch is refused at a line that is one too many, or holds a byte too many
+unfoldable pub too_long_text : ℕ → List ℕ
+too_long_text number = codes "input refused at line " ++ (decimal number ++ codes ": long\n")
+
 -- 2: the folder describes no site
 unfoldable pub site_refused_text : SiteFault → List ℕ
 site_refused_text fault =

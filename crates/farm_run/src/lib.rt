@@ -5,6 +5,7 @@
 //! command reads and prints, README.md has the statuses.
 #![tactic(auto)]
 
+mod batch_run;
 mod program;
 mod texts;
 

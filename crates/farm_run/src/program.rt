@@ -7,26 +7,28 @@ ghost use Rattle.farm_report.specs.Issued.{issued_text};
 ghost use Rattle.command_line.specs.Commands.{command_of};
 ghost use Rattle.calc_input.specs.declared.refusal.Refused.{Refused};
 ghost use Rattle.farm_run.specs.Answers.{calc_of, calc_text};
+ghost use Rattle.farm_run.specs.BatchRuns.{BatchRun};
 ghost use Rattle.farm_run.specs.Texts.{port_fault, refusal_text};
 ghost use Rattle.farm_run.specs.Runs.{Answers, CalcRun, Delivers, LacksMemory, Puts, Refuses, StopsAtMissing, TableRun, UsageRun, count_of, given, output_of, uses_folder, uses_input};
 
+use crate::batch_run::batch;
 use crate::texts::{NO_MEMORY, PORT_FAULT, USAGE, refusal_text, site_refused_text};
 use calc_input::{LIMIT, Unanswered, figures_of_input};
 use command_line::Subcommand;
 use farm_fixed::{NoMemory, Quantities};
-use farm_ports::{Folder, PortFault, Sink, Source, put_all, read_up_to};
+use farm_ports::{Clock, Folder, PortFault, Sink, Source, put_all, read_up_to};
 use farm_report::{figures_text, issued};
 use farm_site::{Site, SiteReadFault};
 use std::alloc::Global;
 
 /// What was asked for was printed whole.
-const DONE: u8 = 0;
+pub(crate) const DONE: u8 = 0;
 /// The arguments are no command.
 const BAD_WORDS: u8 = 1;
 /// The folder describes no site.
-const SITE_REFUSED: u8 = 2;
+pub(crate) const SITE_REFUSED: u8 = 2;
 /// The input was refused.
-const REFUSED: u8 = 4;
+pub(crate) const REFUSED: u8 = 4;
 /// The input, the output or the folder failed.
 const FAULT: u8 = 6;
 /// There was no memory.
@@ -38,15 +40,19 @@ const MEMORY: u8 = 7;
 ///   are 0 where they were printed whole, 4 where the input was refused, 6 where a port failed and 7 where there was no memory.
 /// - `table` reads the site of the folder and prints the capacity table of each tank. Its statuses are 0 where they were printed
 ///   whole, 2 where the folder describes no site, 6 where the folder or the output failed and 7 where there was no memory.
+/// - `batch` reads the site of the folder and asks the desk the lines of the input, one after another, each answered by a line of its
+///   own; its history is empty at first and is kept in memory alone. Its statuses are 0 where every line was answered, or a Stop was
+///   accepted, 2 where the folder describes no site, 4 at a line too many, 6 where a port failed and 7 where there was no memory.
 /// - Arguments that are no command print the usage line, and end with 1.
 ///
 /// A command makes no call on a port that it doesn't use. A text follows what was printed before it.
-pub fn run<S: Source, K: Sink, F: Folder>(
+pub fn run<S: Source, K: Sink, F: Folder, C: Clock>(
     alloc: Global,
     words: &[String],
     input: &mut S,
     output: &mut K,
     folder: &mut F,
+    clock: &C,
 ) -> u8
     ensures usage { command_of (map string_bytes words.now) ≡ None → UsageRun (output_of K.held K.faults output.old output.new) result }
     ensures calc { command_of (map string_bytes words.now) ≡ Some Subcommand.Calc →
@@ -54,6 +60,9 @@ pub fn run<S: Source, K: Sink, F: Folder>(
         (output_of K.held K.faults output.old output.new) result }
     ensures table { command_of (map string_bytes words.now) ≡ Some Subcommand.Table →
         TableRun (F.files folder.new) (count_of F.faults folder.old folder.new) (output_of K.held K.faults output.old output.new) result }
+    ensures batch { command_of (map string_bytes words.now) ≡ Some Subcommand.Batch →
+        BatchRun (C.may_give clock.now) (F.files folder.new) (count_of F.faults folder.old folder.new) (S.stream input.old) (S.stream input.new)
+        (count_of S.faults input.old input.new) (output_of K.held K.faults output.old output.new) result }
 
     // Over a folder that lists no failure and an output that didn't fail, `table` ends with 6 only where a file is missing.
     ensures table_missing { command_of (map string_bytes words.now) ≡ Some Subcommand.Table → F.lists_no_failure folder.old →
@@ -71,6 +80,7 @@ pub fn run<S: Source, K: Sink, F: Folder>(
         None => print_usage(output),
         Some(Subcommand::Calc) => calc(alloc, input, output),
         Some(Subcommand::Table) => table(alloc, folder, output),
+        Some(Subcommand::Batch) => batch(alloc, input, output, folder, clock),
     }
 }
 
@@ -175,7 +185,7 @@ fn deliver<K: Sink>(output: &mut K, text: &[u8]) -> u8
 }
 
 // Puts the line of a refusal, and answers the status of it. A failing output changes nothing: it is refused all the same.
-fn refuse<K: Sink>(text: Result<Vec<u8>, NoMemory>, status: u8, output: &mut K) -> u8
+pub(crate) fn refuse<K: Sink>(text: Result<Vec<u8>, NoMemory>, status: u8, output: &mut K) -> u8
     ensures refuses { MatchResult text (λ text. Refuses (output_of K.held K.faults output.old output.new) status text.items result)
         (λ _. LacksMemory (output_of K.held K.faults output.old output.new) result) }
     ensures never_falls { K.faults output.old ≤ K.faults output.new }
@@ -201,7 +211,7 @@ pub fn report_no_memory<K: Sink>(output: &mut K) -> u8
 }
 
 // Reports that a port failed, as far as the output takes it.
-fn report_fault<K: Sink>(output: &mut K) -> u8
+pub(crate) fn report_fault<K: Sink>(output: &mut K) -> u8
     ensures status { result ≡ 6 }
     ensures puts { Puts (output_of K.held K.faults output.old output.new) port_fault }
     ensures never_falls { K.faults output.old ≤ K.faults output.new }

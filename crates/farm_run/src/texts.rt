@@ -1,7 +1,7 @@
 //! The lines that end a run with a status other than 0.
 
 ghost use Rattle.std.specs.Prelude.{◌≡◌, IfOk};
-ghost use Rattle.farm_run.specs.Texts.{cause_word, refusal_text, site_refused_text};
+ghost use Rattle.farm_run.specs.Texts.{cause_word, refusal_text, site_refused_text, too_long_text};
 
 use calc_input::{Cause, Refused};
 use farm_fixed::{ChainRule, NoMemory};
@@ -51,6 +51,23 @@ pub fn refusal_text(alloc: Global, why: Refused) -> Result<Vec<u8>, NoMemory>
             Piece::Text(b": "),
             Piece::Text(cause_word(why.cause)),
             Piece::Text(b"\n"),
+        ],
+    )?;
+    Ok(text)
+}
+
+/// The line of a batch that is refused at a line too many.
+#[tactic(auto, unfolding(crate::specs::Texts::too_long_text))]
+pub fn too_long_text(alloc: Global, number: u64) -> Result<Vec<u8>, NoMemory>
+    ensures line { IfOk result (λ text. text.items ≡ too_long_text number) }
+{
+    let mut text = Vec::new(alloc);
+    append(
+        &mut text,
+        &[
+            Piece::Text(b"input refused at line "),
+            Piece::Number(number),
+            Piece::Text(b": long\n"),
         ],
     )?;
     Ok(text)

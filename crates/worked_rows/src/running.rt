@@ -1,12 +1,15 @@
 //! Runs over ports in memory.
 
-use farm_ports::{Files, Gather, Script};
+use farm_ports::{Files, Fixed, Gather, Script};
 use farm_run::run;
 use std::alloc::Global;
 use std::test::Fail;
 
 /// What a run ends with: its status, and the bytes that it put.
 pub type Answer = (u8, Vec<u8>);
+
+/// The moment of the clock of the runs.
+const MOMENT: i64 = 1_700_000_000;
 
 /// What the words are answered with, over an input and a folder, no call on which fails.
 pub fn answer(
@@ -15,15 +18,33 @@ pub fn answer(
     input: &str,
     folder: &mut Files,
 ) -> Result<Answer, Fail> {
+    let mut source = source_of(alloc, &[input])?;
+    answer_from(alloc, words, &mut source, folder)
+}
+
+/// A source of texts, each a piece.
+pub fn source_of(alloc: Global, texts: &[&str]) -> Result<Script, Fail> {
+    let mut pieces = Vec::new(alloc);
+    for text in texts {
+        pieces.push(Vec::from_slice(alloc, text.as_bytes())?)?;
+    }
+    Ok(Script::new(alloc, pieces, Vec::new(alloc))?)
+}
+
+/// What the words are answered with, over a source and a folder.
+pub fn answer_from(
+    alloc: Global,
+    words: &[&str],
+    source: &mut Script,
+    folder: &mut Files,
+) -> Result<Answer, Fail> {
     let mut owned = Vec::new(alloc);
     for word in words {
         owned.push(String::from_str(alloc, word)?)?;
     }
-    let mut pieces = Vec::new(alloc);
-    pieces.push(Vec::from_slice(alloc, input.as_bytes())?)?;
-    let mut source = Script::new(alloc, pieces, Vec::new(alloc))?;
     let mut sink = Gather::new(alloc, Vec::new(alloc))?;
-    let status = run(alloc, &owned, &mut source, &mut sink, folder);
+    let clock = Fixed::new(alloc, MOMENT)?;
+    let status = run(alloc, &owned, source, &mut sink, folder, &clock);
     Ok((status, Vec::from_slice(alloc, sink.bytes())?))
 }
 

@@ -30,10 +30,12 @@ fn site_of(alloc: Global, words: &[&str]) -> Result<String, Fail> {
 
 #[test]
 fn places_of_words(rt: HostRuntime) -> Result<(), Fail> {
-    let cases: [(&[&str], &str); 4] = [
+    let cases: [(&[&str], &str); 6] = [
         (&["table", "--site", "d"], "d"),
         (&["table", "--site=d/e"], "d/e"),
         (&["table", "--site", "-d"], ""),
+        (&["batch", "--site=d"], "d"),
+        (&["batch", "--journal", "d"], ""),
         (&["calc"], ""),
     ];
     for (words, want) in cases {

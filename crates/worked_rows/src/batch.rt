@@ -1,0 +1,134 @@
+//! `batch` on the row site.
+
+use crate::running::{answer_from, source_of};
+use std::alloc::Global;
+use std::test::Fail;
+
+const BATCH: &[&str] = &["batch", "--site", "row"];
+
+// Lines and their answers, in one batch: after a Stop no line is asked.
+const FIRST_BATCH: &[(&str, &str)] = &[
+    (
+        r#"{"do":"sample","account":1,"key":1,"tank":101,"density":8500,"sw":0}"#,
+        r#"{"place":1}"#,
+    ),
+    (
+        r#"{"do":"sample","account":1,"key":1,"tank":101,"density":8500,"sw":0}"#,
+        r#"{"place":1}"#,
+    ),
+    (
+        r#"{"do":"sample","account":1,"key":1,"tank":101,"density":8500,"sw":1}"#,
+        r#"{"rule":1,"value":1}"#,
+    ),
+    (
+        r#"{"do":"sample","account":1,"key":2,"tank":99,"density":8500,"sw":0}"#,
+        r#"{"rule":3,"value":0}"#,
+    ),
+    ("", r#"{"error":400}"#),
+    (r#"{"do":"stop","account":1,"key":3}"#, r#"{"place":2}"#),
+];
+
+// Gauge readings of tank 101, its table up to 15,000 mm.
+const GAUGES: &[(&str, &str)] = &[
+    (
+        r#"{"do":"gauge","account":1,"key":1,"tank":101,"level":15001,"water":15002,"temperature":1500,"ambient":1500}"#,
+        r#"{"rule":7,"value":0}"#,
+    ),
+    (
+        r#"{"do":"gauge","account":1,"key":1,"tank":101,"level":10,"water":11,"temperature":1500,"ambient":1500}"#,
+        r#"{"rule":8,"value":0}"#,
+    ),
+    (
+        r#"{"do":"gauge","account":1,"key":1,"tank":101,"level":50001,"water":0,"temperature":1500,"ambient":1500}"#,
+        r#"{"rule":5,"value":1}"#,
+    ),
+    (
+        r#"{"do":"gauge","account":1,"key":1,"tank":101,"level":9223372036854775808,"water":0,"temperature":1500,"ambient":1500}"#,
+        r#"{"error":400}"#,
+    ),
+    (
+        r#"{"do":"gauge","account":1,"key":1,"tank":101,"level":1.0,"water":0,"temperature":1500,"ambient":1500}"#,
+        r#"{"error":400}"#,
+    ),
+    (
+        r#"{"do":"gauge","account":1,"key":1,"tank":101,"level":1e3,"water":0,"temperature":1500,"ambient":1500}"#,
+        r#"{"error":400}"#,
+    ),
+    (
+        r#"{"do":"gauge","account":1,"key":1,"tank":101,"level":-0,"water":0,"temperature":1500,"ambient":1500}"#,
+        r#"{"error":400}"#,
+    ),
+];
+
+// Dips of tank 101, its reference height 16,000 mm.
+const DIPS: &[(&str, &str)] = &[
+    (
+        r#"{"do":"dip","account":1,"key":1,"tank":101,"kind":"innage","tapes":[5000,5000],"water":[],"temperatures":[1500],"ambient":1500}"#,
+        r#"{"place":1}"#,
+    ),
+    (
+        r#"{"do":"dip","account":1,"key":2,"tank":101,"kind":"innage","tapes":[5000,5000],"water":[1],"temperatures":[1500],"ambient":1500}"#,
+        r#"{"rule":6,"value":4}"#,
+    ),
+    (
+        r#"{"do":"dip","account":1,"key":2,"tank":101,"kind":"innage","tapes":[5000,5000],"water":[1,2],"temperatures":[1500],"ambient":1500}"#,
+        r#"{"rule":6,"value":5}"#,
+    ),
+    (
+        r#"{"do":"dip","account":1,"key":2,"tank":101,"kind":"innage","tapes":[5000,5000],"water":[5001,5001],"temperatures":[1500],"ambient":1500}"#,
+        r#"{"rule":8,"value":0}"#,
+    ),
+    (
+        r#"{"do":"dip","account":1,"key":2,"tank":101,"kind":"outage","tapes":[16001,16001],"water":[],"temperatures":[1500],"ambient":1500}"#,
+        r#"{"rule":6,"value":3}"#,
+    ),
+    (
+        r#"{"do":"dip","account":1,"key":2,"tank":101,"kind":"outage","tapes":[999,999],"water":[],"temperatures":[1500],"ambient":1500}"#,
+        r#"{"rule":7,"value":0}"#,
+    ),
+    (
+        r#"{"do":"dip","account":1,"key":2,"tank":101,"kind":"outage","tapes":[1000,1000],"water":[],"temperatures":[1500],"ambient":1500}"#,
+        r#"{"place":2}"#,
+    ),
+];
+
+// The lines of rows, and their answers, each with its line feed.
+fn texts_of(alloc: Global, rows: &[(&str, &str)]) -> Result<(String, String), Fail> {
+    let mut lines = String::new(alloc);
+    let mut answers = String::new(alloc);
+    for (line, answer) in rows {
+        lines.push_str(line)?;
+        lines.push('\n')?;
+        answers.push_str(answer)?;
+        answers.push('\n')?;
+    }
+    Ok((lines, answers))
+}
+
+#[test]
+fn rows_of_batches(rt: HostRuntime) -> Result<(), Fail> {
+    for rows in [FIRST_BATCH, GAUGES, DIPS] {
+        let (lines, answers) = texts_of(rt.alloc(), rows)?;
+        let mut source = source_of(rt.alloc(), &[lines.as_str()])?;
+        let mut folder = row_site::row_folder(rt.alloc())?;
+        let (status, bytes) = answer_from(rt.alloc(), BATCH, &mut source, &mut folder)?;
+        assert_eq!(rt; status, 0);
+        assert_eq!(rt; bytes.as_slice(), answers.as_bytes());
+    }
+    Ok(())
+}
+
+#[test]
+fn nothing_is_taken_after_a_stop(rt: HostRuntime) -> Result<(), Fail> {
+    let stop = "{\"do\":\"stop\",\"account\":1,\"key\":3}\n";
+    let mut source = source_of(rt.alloc(), &["\n", stop, "\n"])?;
+    let mut folder = row_site::row_folder(rt.alloc())?;
+    let (status, bytes) = answer_from(rt.alloc(), BATCH, &mut source, &mut folder)?;
+    assert_eq!(rt; status, 0);
+    assert_eq!(rt;
+        bytes.as_slice(),
+        b"{\"error\":400}\n{\"place\":1}\n".as_slice()
+    );
+    assert_eq!(rt; source.left(), b"\n".as_slice());
+    Ok(())
+}
