@@ -1,0 +1,8 @@
+use Rattle.std.proofs.Common.{rules}
+use Rattle.farm_ticket.specs.Line.{single_line}
+use Rattle.farm_ticket.proofs.Reversals.{reversal_before}
+use Rattle.farm_ticket.proofs.ticket.Ticket.write_single.Goals as goal
+
+pub returns : goal.returns
+unfolding single_line
+returns c = search (rules, reversal_before c.reversal.result.0 c.reversal.result.1 c.args.self.now.reverses c.reversal.ensures)

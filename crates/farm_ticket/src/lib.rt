@@ -1,0 +1,15 @@
+//! Tickets: what moved on each side of a movement, and the line that a ticket is printed as.
+//!
+//! Volumes are whole litres and masses whole kilograms. docs/definitions.md states the rules under "Movements and tickets",
+//! docs/formats.md the line under "The ticket line".
+#![tactic(auto)]
+
+mod amounts;
+mod line;
+mod ticket;
+
+pub use amounts::{WrongWay, moved};
+pub use ticket::{Moved, Side, Ticket, Way};
+
+#[cfg(test)]
+mod tests;

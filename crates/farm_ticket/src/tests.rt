@@ -1,0 +1,141 @@
+ghost use Rattle.std.specs.Prelude.{◌≡◌, IfOk, ◌+ℤ◌};
+
+use super::*;
+use farm_fixed::{Fac5, Kg, Litres, Quantities};
+use std::test::Fail;
+
+fn shared<T: Send + Sync>(value: T) -> T {
+    value
+}
+
+/// The side of a receipt into a tank between these figures, unless it went the wrong way.
+fn received(tank: u16, opening: Quantities, closing: Quantities) -> Result<Side, WrongWay>
+    ensures { IfOk result (λ side. opening.nsv +ℤ side.moved.nsv ≡ closing.nsv) }
+{
+    Ok(Side {
+        tank,
+        way: Way::Inward,
+        opening,
+        closing,
+        moved: moved(&opening, &closing, Way::Inward)?,
+    })
+}
+
+// The figures of a tank with no free water, roof or sediment and water: TOV, CTSH, VCF, GOV, NSV, mass.
+fn figures(of: [i64; 6]) -> Result<Quantities, Fail> {
+    let [tov, ctsh, vcf, gov, nsv, mass] = of;
+    let none = Litres::new(0)?;
+    Ok(Quantities {
+        tov: Litres::new(tov)?,
+        fw: none,
+        ctsh: Fac5::new(ctsh)?,
+        vcf: Fac5::new(vcf)?,
+        fra: none,
+        gov: Litres::new(gov)?,
+        gsv: Litres::new(nsv)?,
+        nsv: Litres::new(nsv)?,
+        swv: none,
+        mass: Kg::new(mass)?,
+    })
+}
+
+const EIGHT_MILLION: [i64; 6] = [8_000_000, 100_000, 100_000, 8_000_000, 8_000_000, 6_800_000];
+
+const NINE_MILLION: [i64; 6] = [9_000_000, 100_022, 99_150, 9_001_980, 8_925_463, 7_586_644];
+
+#[test]
+fn a_ticket_has_one_line(rt: HostRuntime) -> Result<(), Fail> {
+    let side = shared(received(101, figures(EIGHT_MILLION)?, figures(NINE_MILLION)?)?);
+    let receipt = Ticket {
+        place: 5,
+        number: 1,
+        movement: 2,
+        reverses: 0,
+        party: 7,
+        first: side,
+        second: None,
+    };
+    let mut out = Vec::new(rt.alloc());
+    shared(receipt).write(&mut out)?;
+    // The figures of the other tickets' sides are not printed.
+    let amount = |nsv, mass| Moved {
+        gsv: nsv,
+        nsv,
+        swv: 0,
+        mass,
+    };
+    let sent = Side {
+        way: Way::Outward,
+        moved: amount(495_859, 421_481),
+        ..side
+    };
+    let arrived = Side {
+        tank: 102,
+        moved: amount(495_000, 420_750),
+        ..side
+    };
+    Ticket {
+        number: 2,
+        place: 11,
+        first: sent,
+        second: Some(arrived),
+        ..receipt
+    }
+    .write(&mut out)?;
+    let sold = Side {
+        tank: 102,
+        moved: amount(1_495_000, 1_270_750),
+        ..sent
+    };
+    let delivery = Ticket {
+        number: 3,
+        place: 14,
+        party: 8,
+        first: sold,
+        ..receipt
+    };
+    delivery.write(&mut out)?;
+    let back = Side {
+        moved: amount(-1_495_000, -1_270_750),
+        ..sold
+    };
+    Ticket {
+        number: 4,
+        place: 15,
+        reverses: 14,
+        first: back,
+        ..delivery
+    }
+    .write(&mut out)?;
+    let lines = "ticket 1 place 5 receipt tank 101 party 7 nsv 925463 kg 786644
+ticket 2 place 11 transfer tank 101 to 102 nsv 495859 kg 421481 received 495000 kg 420750
+ticket 3 place 14 delivery tank 102 party 8 nsv 1495000 kg 1270750
+ticket 4 place 15 delivery tank 102 party 8 nsv -1495000 kg -1270750 reverses 14
+";
+    assert_eq!(rt; out.as_slice(), lines.as_bytes());
+    Ok(())
+}
+
+#[test]
+fn the_net_volume_alone_decides_the_way(rt: HostRuntime) -> Result<(), Fail> {
+    let cases = [
+        (8_000_000, 6_800_000, Way::Inward, Ok((0, 0))),
+        (8_000_000, 6_799_999, Way::Inward, Ok((0, -1))),
+        (7_999_999, 6_800_001, Way::Inward, Err(WrongWay)),
+        (8_000_001, 6_799_999, Way::Inward, Ok((1, -1))),
+        (8_000_000, 6_800_001, Way::Outward, Ok((0, -1))),
+        (8_000_001, 6_799_999, Way::Outward, Err(WrongWay)),
+        (7_999_999, 6_799_000, Way::Outward, Ok((1, 1_000))),
+    ];
+    let opening = figures(EIGHT_MILLION)?;
+    for (nsv, mass, way, want) in cases {
+        let closing = figures([8_000_000, 100_000, 100_000, 8_000_000, nsv, mass])?;
+        let moved = shared(moved(&opening, &closing, shared(way)));
+        assert_eq!(rt;
+            moved.map(|moved| (moved.nsv, moved.mass)),
+            want,
+            "{nsv} l {mass} kg"
+        );
+    }
+    Ok(())
+}
