@@ -52,22 +52,6 @@ fn a_full_book_takes_repeats_and_a_stop(rt: HostRuntime) -> Result<(), Fail> {
 }
 
 #[test]
-fn a_repeated_stop_ends_no_batch(rt: HostRuntime) -> Result<(), Fail> {
-    let alloc = rt.alloc();
-    let mut book = Book::<4>::new(alloc, row_site(alloc)?)?;
-    let stop = "{\"do\":\"stop\",\"account\":1,\"key\":6}";
-    let (end, output) = batch(alloc, &mut book, stop, Vec::new(alloc))?;
-    assert_eq!(rt; end, BatchEnd::Done);
-    assert_eq!(rt; output.bytes(), b"{\"place\":1}\n".as_slice());
-    let text = format!(in alloc; "{stop}\n\n{}", sample(alloc, 7)?)?;
-    let (end, output) = batch(alloc, &mut book, &text, Vec::new(alloc))?;
-    let want = "{\"place\":1}\n{\"error\":400}\n{\"place\":2}\n";
-    assert_eq!(rt; end, BatchEnd::Done);
-    assert_eq!(rt; output.bytes(), want.as_bytes());
-    Ok(())
-}
-
-#[test]
 fn a_failing_put_ends_the_batch(rt: HostRuntime) -> Result<(), Fail> {
     let alloc = rt.alloc();
     let mut book = Book::<4>::new(alloc, row_site(alloc)?)?;
