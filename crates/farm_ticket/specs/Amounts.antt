@@ -3,9 +3,9 @@ use Rattle.std.specs.Prelude.{◌≡◌, if◌then◌else◌, Result, Ok, Err, �
 use Rattle.std.specs.Int.RustNames.{int_lt}
 use Rattle.farm_fixed.specs.declared.records.Quantities.{Quantities}
 use Rattle.farm_ticket.specs.declared.amounts.WrongWay.{WrongWay}
-use Rattle.farm_ticket.specs.declared.ticket.Moved.{Moved}
-use Rattle.farm_ticket.specs.declared.ticket.Way.{Way}
-use Rattle.farm_ticket.specs.declared.ticket.Way.TheVariants.{Inward, Outward}
+use Rattle.farm_ticket.specs.declared.side.Moved.{Moved}
+use Rattle.farm_ticket.specs.declared.side.Way.{Way}
+use Rattle.farm_ticket.specs.declared.side.Way.TheVariants.{Inward, Outward}
 
 -- the change of a figure: closing less opening on an inward side, opening less closing on an outward one
 abbrev pub change : Way → ℤ → ℤ → ℤ

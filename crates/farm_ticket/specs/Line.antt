@@ -2,10 +2,10 @@
 use Rattle.std.specs.Prelude.{ℕ, if◌then◌else◌, List, [], ◌∷◌, ◌++◌, codes, ◌==◌, decimal, Option, Some, None}
 use Rattle.std.specs.Fmt.{signed_decimal}
 use Rattle.std.specs.List.{concat}
-use Rattle.farm_ticket.specs.declared.ticket.Side.{Side}
-use Rattle.farm_ticket.specs.declared.ticket.Ticket.{Ticket}
-use Rattle.farm_ticket.specs.declared.ticket.Way.{Way}
-use Rattle.farm_ticket.specs.declared.ticket.Way.TheVariants.{Inward, Outward}
+use Rattle.farm_ticket.specs.declared.side.Side.{Side}
+use Rattle.farm_ticket.specs.Tickets.{Ticket}
+use Rattle.farm_ticket.specs.declared.side.Way.{Way}
+use Rattle.farm_ticket.specs.declared.side.Way.TheVariants.{Inward, Outward}
 
 -- the kind of a movement of one side: a receipt is inward, a delivery outward
 abbrev pub kind_of : Way → List ℕ

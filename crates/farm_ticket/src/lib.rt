@@ -6,10 +6,12 @@
 
 mod amounts;
 mod line;
+mod side;
 mod ticket;
 
 pub use amounts::{WrongWay, moved};
-pub use ticket::{Moved, Side, Ticket, Way};
+pub use side::{Moved, Side, Way};
+pub use ticket::Ticket;
 
 #[cfg(test)]
 mod tests;

@@ -21,6 +21,12 @@ fn received(tank: u16, opening: Quantities, closing: Quantities) -> Result<Side,
     })
 }
 
+// Keeps a ticket in a list.
+fn keep(tickets: &mut Vec<Ticket>, ticket: Ticket) -> Result<(), Fail> {
+    tickets.push(ticket)?;
+    Ok(())
+}
+
 // The figures of a tank with no free water, roof or sediment and water: TOV, CTSH, VCF, GOV, NSV, mass.
 fn figures(of: [i64; 6]) -> Result<Quantities, Fail> {
     let [tov, ctsh, vcf, gov, nsv, mass] = of;
@@ -46,7 +52,7 @@ const NINE_MILLION: [i64; 6] = [9_000_000, 100_022, 99_150, 9_001_980, 8_925_463
 #[test]
 fn a_ticket_has_one_line(rt: HostRuntime) -> Result<(), Fail> {
     let side = shared(received(101, figures(EIGHT_MILLION)?, figures(NINE_MILLION)?)?);
-    let receipt = Ticket {
+    let receipt = shared(Ticket {
         place: 5,
         number: 1,
         movement: 2,
@@ -54,9 +60,7 @@ fn a_ticket_has_one_line(rt: HostRuntime) -> Result<(), Fail> {
         party: 7,
         first: side,
         second: None,
-    };
-    let mut out = Vec::new(rt.alloc());
-    shared(receipt).write(&mut out)?;
+    });
     // The figures of the other tickets' sides are not printed.
     let amount = |nsv, mass| Moved {
         gsv: nsv,
@@ -74,14 +78,13 @@ fn a_ticket_has_one_line(rt: HostRuntime) -> Result<(), Fail> {
         moved: amount(495_000, 420_750),
         ..side
     };
-    Ticket {
+    let transfer = Ticket {
         number: 2,
         place: 11,
         first: sent,
         second: Some(arrived),
         ..receipt
-    }
-    .write(&mut out)?;
+    };
     let sold = Side {
         tank: 102,
         moved: amount(1_495_000, 1_270_750),
@@ -94,19 +97,26 @@ fn a_ticket_has_one_line(rt: HostRuntime) -> Result<(), Fail> {
         first: sold,
         ..receipt
     };
-    delivery.write(&mut out)?;
     let back = Side {
         moved: amount(-1_495_000, -1_270_750),
         ..sold
     };
-    Ticket {
+    let reversal = Ticket {
         number: 4,
         place: 15,
         reverses: 14,
         first: back,
         ..delivery
+    };
+    let mut tickets = Vec::new(rt.alloc());
+    keep(&mut tickets, receipt)?;
+    keep(&mut tickets, transfer)?;
+    keep(&mut tickets, delivery)?;
+    keep(&mut tickets, reversal)?;
+    let mut out = Vec::new(rt.alloc());
+    for ticket in &tickets {
+        ticket.write(&mut out)?;
     }
-    .write(&mut out)?;
     let lines = "ticket 1 place 5 receipt tank 101 party 7 nsv 925463 kg 786644
 ticket 2 place 11 transfer tank 101 to 102 nsv 495859 kg 421481 received 495000 kg 420750
 ticket 3 place 14 delivery tank 102 party 8 nsv 1495000 kg 1270750

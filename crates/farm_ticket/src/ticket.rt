@@ -1,43 +1,7 @@
 //! The ticket of a movement.
 
-use farm_fixed::Quantities;
-
-/// Which way a side of a movement goes: into its tank, or out of it.
-#[derive(Clone, Copy, Debug, PartialEq, Eq)]
-pub enum Way {
-    /// Into the tank.
-    Inward,
-    /// Out of the tank.
-    Outward,
-}
-
-/// What moved on a side, in its way. Each may have either sign.
-#[derive(Clone, Copy, Debug, PartialEq, Eq)]
-pub struct Moved {
-    /// Whole litres of gross standard volume.
-    pub gsv: i64,
-    /// Whole litres of net standard volume.
-    pub nsv: i64,
-    /// Whole litres of sediment and water.
-    pub swv: i64,
-    /// Whole kilograms.
-    pub mass: i64,
-}
-
-/// A side of a movement: a tank, its figures at opening and at closing, and what moved.
-#[derive(Clone, Copy, Debug, PartialEq, Eq)]
-pub struct Side {
-    /// The number of the tank.
-    pub tank: u16,
-    /// Into the tank, or out of it.
-    pub way: Way,
-    /// The figures of the tank when the movement was opened.
-    pub opening: Quantities,
-    /// The figures of the tank when it was closed.
-    pub closing: Quantities,
-    /// What moved.
-    pub moved: Moved,
-}
+use crate::Side;
+use std::marker::Model;
 
 /// The ticket of a movement: a receipt or a delivery, which have one side, or a transfer, which has two.
 #[derive(Clone, Copy, Debug, PartialEq, Eq)]
@@ -56,4 +20,15 @@ pub struct Ticket {
     pub first: Side,
     /// The second side of a transfer, which is inward.
     pub second: Option<Side>,
+}
+
+// Without it a ticket can't be handed to a generic call, as `push`, by a function that has no local of type `Option<Side>`.
+impl Model for Ticket {
+    ghost use Rattle.farm_ticket.specs.Tickets.{Ticket};
+
+    ghost Value = { Ticket };
+
+    ghost view = { λ t. record { place = t.place; number = t.number; movement = t.movement; reverses = t.reverses; party = t.party; first = t.first; second = t.second } };
+
+    ghost inverse = { λ t. record { place = t.place; number = t.number; movement = t.movement; reverses = t.reverses; party = t.party; first = t.first; second = t.second } };
 }

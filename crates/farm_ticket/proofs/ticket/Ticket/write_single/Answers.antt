@@ -5,4 +5,4 @@ use Rattle.farm_ticket.proofs.ticket.Ticket.write_single.Goals as goal
 
 pub returns : goal.returns
 unfolding single_line
-returns c = search (rules, reversal_before c.reversal.result.0 c.reversal.result.1 c.args.self.now.reverses c.reversal.ensures)
+returns c = search (rules, reversal_before c.reversal.result.0 c.reversal.result.1 c.self.inside.reverses c.reversal.ensures)
