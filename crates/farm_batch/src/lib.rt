@@ -12,6 +12,3 @@ mod limits;
 pub use batch::{BatchEnd, answer_lines};
 pub use batch_laws::laws;
 pub use limits::{BATCH_CALLER, MOST_LINES};
-
-#[cfg(test)]
-mod tests;
