@@ -1,3 +1,4 @@
 pub mod Amounts
 pub mod Tickets
+pub mod Reversing
 pub mod Line

@@ -6,6 +6,7 @@
 
 mod amounts;
 mod line;
+mod reversing;
 mod side;
 mod ticket;
 

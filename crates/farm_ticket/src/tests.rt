@@ -149,3 +149,36 @@ fn the_net_volume_alone_decides_the_way(rt: HostRuntime) -> Result<(), Fail> {
     }
     Ok(())
 }
+
+#[test]
+fn a_reversal_moves_the_opposite_amounts(rt: HostRuntime) -> Result<(), Fail> {
+    let (opening, closing) = (figures(EIGHT_MILLION)?, figures(NINE_MILLION)?);
+    let moved = moved(&opening, &closing, Way::Inward)?;
+    let receipt = Ticket {
+        place: 5,
+        number: 1,
+        movement: 2,
+        reverses: 0,
+        party: 7,
+        first: Side {
+            tank: 101,
+            way: Way::Inward,
+            opening,
+            closing,
+            moved,
+        },
+        second: None,
+    };
+    let reversal = receipt.reversal(6, 2);
+    let back = Moved {
+        gsv: -925_463,
+        nsv: -925_463,
+        swv: 0,
+        mass: -786_644,
+    };
+    assert_eq!(&rt; reversal.first.moved, back);
+    assert_eq!(&rt; (reversal.place, reversal.number), (6, 2));
+    assert_eq!(&rt; (reversal.movement, reversal.reverses), (2, 5));
+    assert_eq!(&rt; reversal.party, 7);
+    Ok(())
+}
