@@ -1,0 +1,5 @@
+pub mod Amounts
+pub mod Places
+pub mod Added
+pub mod AddUp
+pub mod Tanks

@@ -1,0 +1,79 @@
+-- Places in a list of books.
+use Rattle.std.proofs.Common.{◌≡◌, ◌≢◌, ◌<◌, ◌≤◌, ℕ, ℤ, true, false, List, [], ◌∷◌, get_or, set, length, Some, None, ◌==◌, zero, suc, refl, ap, sym, ◌∙◌, ◌+ℤ◌, ◌^◌, arith}
+use Rattle.std.proofs.lemmas.Bool.Decides.{nat_tests}
+use Rattle.std.specs.Int.RustNames.{unsigned_abs}
+use Rattle.farm_fixed.specs.declared.records.Amount.{Amount}
+use Rattle.farm_stock.specs.declared.book.Book.{Book}
+use Rattle.farm_stock.specs.Books.{book_of, plus}
+use Rattle.farm_stock.specs.Places.{IsPlaceOf}
+use Rattle.farm_stock.specs.Postings.{added, raised}
+use Rattle.farm_stock.specs.Sums.{AreWithinSums, magnitudes}
+
+-- a number tests as itself
+pub tests_same : (first second : ℕ) → first ≡ second → (first == second) ≡ true
+tests_same first second same = grind (arith, nat_tests)
+
+-- and not as another
+pub tests_other : (first second : ℕ) → first ≢ second → (first == second) ≡ false
+tests_other first second other = grind (arith, nat_tests)
+
+-- a place after the first is one of the books after the first
+later : (tank : ℕ) (book : Book) (books : List Book) (place : ℕ) → IsPlaceOf tank (book ∷ books) (suc place) → IsPlaceOf tank books place
+later tank book books place at = record {
+  inside = let inside = at.inside in omega arith;
+  here = at.here;
+  before = λ earlier default below. at.before (suc earlier) default (omega arith);
+}
+
+-- at the place of a tank is its book
+pub book_at_place : (tank : ℕ) (books : List Book) (place : ℕ) (default : Book) → IsPlaceOf tank books place →
+    book_of tank books ≡ Some (get_or books place default).amount
+book_at_place tank [] place default at = let inside = at.inside in absurd (omega arith)
+book_at_place tank (book ∷ books) zero default at = rw (tests_same book.tank tank (at.here default)) refl
+book_at_place tank (book ∷ books) (suc place) default at =
+    rw (tests_other book.tank tank (at.before 0 default (omega arith))) (book_at_place tank books place default (later tank book books place at))
+
+-- what is added to a tank's book is added at its place
+pub added_at_place : (tank : ℕ) (amount : Amount) (books : List Book) (place : ℕ) (default : Book) → IsPlaceOf tank books place →
+    added tank amount books ≡ set books place (raised amount (get_or books place default))
+added_at_place tank amount [] place default at = let inside = at.inside in absurd (omega arith)
+added_at_place tank amount (book ∷ books) zero default at = rw (tests_same book.tank tank (at.here default)) refl
+added_at_place tank amount (book ∷ books) (suc place) default at =
+    rw (tests_other book.tank tank (at.before 0 default (omega arith)))
+    (ap (λ rest. book ∷ rest) (added_at_place tank amount books place default (later tank book books place at)))
+
+-- where no book is that of a tank, it isn't there
+pub no_book : (tank : ℕ) (books : List Book) →
+    ((place : ℕ) (default : Book) → place < length books → (get_or books place default).tank ≢ tank) → book_of tank books ≡ None
+no_book tank [] none = refl
+no_book tank (book ∷ books) none =
+    rw (tests_other book.tank tank (none 0 book (omega arith))) (no_book tank books (λ place default below. none (suc place) default (omega arith)))
+
+-- what a tank's book comes to is within the sum of the magnitudes
+pub raised_within : (unit : Amount → ℤ) (tank : ℕ) (amount : Amount) (books : List Book) (place : ℕ) (default : Book) → IsPlaceOf tank books place →
+    unsigned_abs (unit (plus (get_or books place default).amount amount)) ≤ magnitudes unit (added tank amount books)
+raised_within unit tank amount [] place default at = let inside = at.inside in absurd (omega arith)
+raised_within unit tank amount (book ∷ books) zero default at = rw (tests_same book.tank tank (at.here default)) (omega arith)
+raised_within unit tank amount (book ∷ books) (suc place) default at =
+    let rest = raised_within unit tank amount books place default (later tank book books place at) in
+    rw (tests_other book.tank tank (at.before 0 default (omega arith))) (omega arith)
+
+-- where an amount may be added to a tank's book, the sum fits
+pub raised_fits : (tank : ℕ) (amount : Amount) (books : List Book) (place : ℕ) (default : Book) → IsPlaceOf tank books place →
+    AreWithinSums (added tank amount books) →
+    let found = (get_or books place default).amount in
+    (unsigned_abs (found.litres +ℤ amount.litres) ≤ 10 ^ 17) × (unsigned_abs (found.kg +ℤ amount.kg) ≤ 10 ^ 17)
+raised_fits tank amount books place default at within =
+    let litres = raised_within (λ (a : Amount). a.litres) tank amount books place default at in
+    let kg = raised_within (λ (a : Amount). a.kg) tank amount books place default at in
+    let most_litres = within.litres in
+    let most_kg = within.kg in
+    (omega arith, omega arith)
+
+-- the book that is written back is the one with the amount added
+pub written_back : (tank : ℕ) (amount : Amount) (books : List Book) (place : ℕ) (default : Book) (sum : Amount) → IsPlaceOf tank books place →
+    sum ≡ plus (get_or books place default).amount amount →
+    set books place (record { tank = (get_or books place default).tank; amount = sum }) ≡ added tank amount books
+written_back tank amount books place default sum at sum_is =
+    ap (λ (a : Amount). set books place (record { tank = (get_or books place default).tank; amount = a })) sum_is
+    ∙ sym (added_at_place tank amount books place default at)

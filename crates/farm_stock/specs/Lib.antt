@@ -1,0 +1,5 @@
+pub mod Books
+pub mod Places
+pub mod Sums
+pub mod Postings
+pub mod Laws

@@ -1,0 +1,21 @@
+-- How great the books may be together.
+use Rattle.std.specs.Prelude.{ℕ, ◌+◌, ◌^◌, ◌≤◌, List, [], ◌∷◌, ℤ}
+use Rattle.std.specs.Int.RustNames.{unsigned_abs}
+use Rattle.farm_fixed.specs.declared.records.Amount.{Amount}
+use Rattle.farm_stock.specs.declared.book.Book.{Book}
+use Rattle.farm_stock.specs.Books.{IsRising}
+
+-- the magnitudes of all books in a unit, added up
+abbrev pub magnitudes : (Amount → ℤ) → List Book → ℕ
+magnitudes unit [] = 0
+magnitudes unit (book ∷ books) = unsigned_abs (unit book.amount) + magnitudes unit books
+
+-- the magnitudes of the books add up to at most 10^17, in litres and in kg
+pub record AreWithinSums (books : List Book) : Type 0 where
+  pub litres : magnitudes (λ amount. amount.litres) books ≤ 10 ^ 17
+  pub kg : magnitudes (λ amount. amount.kg) books ≤ 10 ^ 17
+
+-- the books of a stock: the numbers of the tanks rise, and the sums are within their limits
+pub record IsSound (books : List Book) : Type 0 where
+  pub rising : IsRising books
+  pub sums : AreWithinSums books

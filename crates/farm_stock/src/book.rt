@@ -1,0 +1,89 @@
+//! The book of a tank, and lists of them.
+
+ghost use Rattle.std.specs.Prelude.{◌≡◌, ◌^◌, ◌≤◌, ◌+ℤ◌, IfOk, IsSome, MatchOption, None};
+ghost use Rattle.std.specs.Int.RustNames.{unsigned_abs};
+ghost use Rattle.farm_stock.specs.Books.{book_of, opened, plus, total_of};
+ghost use Rattle.farm_stock.specs.Places.{IsPlaceOf};
+ghost use Rattle.farm_stock.specs.Postings.{added};
+ghost use Rattle.farm_stock.specs.Sums.{AreWithinSums};
+
+use farm_fixed::Amount;
+use std::alloc::{AllocError, Global};
+
+/// A tank and the amount that it holds by the book.
+#[derive(Clone, Copy, Debug, PartialEq, Eq)]
+pub struct Book {
+    /// The number of the tank.
+    pub tank: u16,
+    /// What it holds.
+    pub amount: Amount,
+}
+
+/// The books of these tanks, each with its opening.
+pub fn opened(alloc: Global, openings: &[(u16, Amount)]) -> Result<Vec<Book>, AllocError>
+    ensures opened { IfOk result (λ books. books.items ≡ opened openings.now) }
+{
+    openings
+        .iter()
+        .map(|opening| Book {
+            tank: opening.0,
+            amount: opening.1,
+        })
+        .collect(alloc)
+}
+
+/// Adds an amount to the book of a tank, which is there.
+pub fn add(books: &mut [Book], tank: u16, amount: Amount)
+    requires tank { IsSome (book_of tank books.old) }
+    requires sums { AreWithinSums (added tank amount books.old) }
+    ensures added { books.new ≡ added tank amount books.old }
+{
+    if let Some(place) = place_of(books, tank) {
+        let book = &mut books[place];
+        book.amount = plus(book.amount, amount);
+    }
+}
+
+/// The place of a tank's book among these, None where the tank isn't there.
+pub fn place_of(books: &[Book], tank: u16) -> Option<usize>
+    ensures place { MatchOption result (book_of tank books.now ≡ None) (IsPlaceOf tank books.now) }
+{
+    for (place, book) in books.iter().enumerate() {
+        if book.tank == tank {
+            return Some(place);
+        }
+    }
+    None
+}
+
+/// What a tank holds by its book among these, None exactly where the tank isn't there.
+pub fn book_of(books: &[Book], tank: u16) -> Option<Amount>
+    ensures book { result ≡ book_of tank books.now }
+{
+    let place = place_of(books, tank)?;
+    Some(books[place].amount)
+}
+
+/// The sum of these books, litres and kg apart.
+pub fn total_of(books: &[Book]) -> Amount
+    requires sums { AreWithinSums books.now }
+    ensures total { result ≡ total_of books.now }
+{
+    let mut total = Amount { litres: 0, kg: 0 };
+    for book in books {
+        total = plus(total, book.amount);
+    }
+    total
+}
+
+/// The sum of two amounts, litres and kg apart.
+pub fn plus(first: Amount, second: Amount) -> Amount
+    requires litres { unsigned_abs (first.litres +ℤ second.litres) ≤ 10 ^ 17 }
+    requires kg { unsigned_abs (first.kg +ℤ second.kg) ≤ 10 ^ 17 }
+    ensures sum { result ≡ plus first second }
+{
+    Amount {
+        litres: first.litres + second.litres,
+        kg: first.kg + second.kg,
+    }
+}
