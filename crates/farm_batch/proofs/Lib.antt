@@ -1,6 +1,8 @@
 pub mod LineParts
 pub mod Meant
 pub mod Moments
+pub mod Timeless
+pub mod TimelessRules
 pub mod MoreSteps
 pub mod OneOutcome
 pub mod OutOfMemory

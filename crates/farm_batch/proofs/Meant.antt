@@ -1,12 +1,13 @@
 -- What an answer has to be so that it meets the one that is meant.
 use Rattle.std.proofs.Common.{◌≡◌, inl, ℕ, nat_lt, Bool, true, false, cond, ◌&&◌, List, length, Option, None, Some, ℤ, refl, sym, ap, subst, ◌∙◌}
 use Rattle.farm_history.specs.declared.ask.Ask.{Ask}
-use Rattle.farm_history.specs.declared.ask.Ask.TheVariants.{Do}
+use Rattle.farm_history.specs.declared.ask.Ask.TheVariants.{Do, Look}
 use Rattle.farm_history.specs.declared.command.Command.{Command}
 use Rattle.farm_history.specs.declared.entry.Entry.{Entry}
+use Rattle.farm_history.specs.declared.query.Query.{Query}
 use Rattle.farm_history.specs.declared.reply.Reply.{Reply}
 use Rattle.farm_history.specs.Commands.{is_stop}
-use Rattle.farm_history.specs.Desk.{Answered, answered_on, desk_answer, stamped}
+use Rattle.farm_history.specs.Desk.{Answered, answered_on, desk_answer, looked_up, stamped}
 use Rattle.farm_history.specs.History.{History}
 use Rattle.farm_history.specs.Verdicts.{verdict}
 use Rattle.farm_http.specs.Requests.{ask_of_line}
@@ -61,6 +62,14 @@ desk_is_meant limit before after now ask account key command entry reply stop ac
     subst Meant (sym ask_is)
     (command_is_meant limit before after now account key command reply accepted stops
     (subst Gives entry_is answered) (subst Judges entry_is accepted_is) (stops_is ∙ ap (λ stop. stop && accepted) stop_is))
+
+-- what the desk answers to a look-up is what is meant
+pub look_is_meant : (limit : ℕ) (before : History) (now : ℤ) (ask : Ask) (query : Query) (reply : Reply) → ask ≡ Look query →
+    reply ≡ looked_up before query → IsMeant (answer_to limit before now (Some ask)) before (pages.Reply reply) false
+unfolding desk_answer
+look_is_meant limit before now ask query reply ask_is reply_is =
+    let Meant : Ask → Type 0 = λ ask. IsMeant (answer_to limit before now (Some ask)) before (pages.Reply reply) false in
+    subst Meant (sym ask_is) (record { page_is = ap (λ reply. pages.Reply reply) reply_is; history_is = refl; stops_is = refl })
 
 -- a line that is kept whole isn't too long
 kept_whole : (long : Bool) (line text : List ℕ) → cond long None (Some line) ≡ Some text → (long ≡ false) × (text ≡ line)

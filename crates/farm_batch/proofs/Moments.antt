@@ -3,49 +3,29 @@ use Rattle.std.proofs.Common.{◌≡◌, ℕ, ◌+◌, nat_lt, Bool, true, false
 use Rattle.std.proofs.lemmas.List.{length-map, map-append}
 use Rattle.farm_base.specs.Steps.{or_else}
 use Rattle.farm_history.specs.declared.ask.Ask.{Ask}
-use Rattle.farm_history.specs.declared.ask.Ask.TheVariants.{Do}
+use Rattle.farm_history.specs.declared.ask.Ask.TheVariants.{Do, Look}
 use Rattle.farm_history.specs.declared.command.Command.{Command}
 use Rattle.farm_history.specs.declared.entry.Entry.{Entry}
-use Rattle.farm_history.specs.declared.reply.Reply.TheVariants.{Placed}
+use Rattle.farm_history.specs.declared.query.Query.{Query}
 use Rattle.farm_history.specs.declared.rule.Rule.TheVariants.{KeyReused, HistoryFull}
 use Rattle.farm_history.specs.declared.verdict.Verdict.{Verdict}
 use Rattle.farm_history.specs.declared.verdict.Verdict.TheVariants.{Repeat, Refused, Accept}
 use Rattle.farm_history.specs.Commands.{is_stop}
-use Rattle.farm_history.specs.Desk.{Answered, answered_on, desk_answer, reply_at, stamped}
-use Rattle.farm_history.specs.Gauging.{gauging_after}
-use Rattle.farm_history.specs.History.{History, tank_after}
-use Rattle.farm_history.specs.Places.{first_from}
-use Rattle.farm_history.specs.Rules.{broken_by_command, broken_rule, history_full, is_full, is_repeat, key_reused, same_key, unknown_tank}
+use Rattle.farm_history.specs.Desk.{Answered, answered_on, desk_answer, looked_up, reply_at, stamped}
+use Rattle.farm_history.specs.History.{History, last_place, with_entry}
+use Rattle.farm_history.specs.Rules.{broken_rule, history_full, is_full, is_repeat, key_reused, same_key}
 use Rattle.farm_history.specs.Verdicts.{refused_or_accepted, repeated_or, verdict}
 use Rattle.farm_http.specs.Requests.{ask_of_line}
 use Rattle.farm_http.specs.declared.page.Page.TheVariants as pages
 use Rattle.batch_lines.specs.declared.limits.TheConstants.{LONGEST_LINE}
 use Rattle.farm_batch.specs.declared.limits.TheConstants.{BATCH_CALLER}
+use Rattle.farm_batch.proofs.Timeless.{place_of_image, without_moment, without_moments}
+use Rattle.farm_batch.proofs.TimelessRules.{same_by_command, same_look, same_reply}
 use Rattle.farm_batch.specs.Answers.{LineAnswer, answer_to, is_accepted, line_answer, line_too_long, unasked}
-
--- an entry at moment 0
-abbrev pub without_moment : Entry → Entry
-without_moment entry = record { caller = entry.caller; account = entry.account; key = entry.key; at = pos 0; cmd = entry.cmd }
-
--- a history whose entries are all at moment 0
-abbrev pub without_moments : History → History
-without_moments history = record { site = history.site; entries = map without_moment history.entries }
 
 -- the answer to a line, with the history that it leaves at moment 0
 abbrev pub without_clock : LineAnswer → LineAnswer
 without_clock answer = record { page = answer.page; history = without_moments answer.history; stops = answer.stops }
-
--- the first place in a list of images is the first place in the list
-place_of_image : {A B : Type 0} (image : A → B) (holds : B → Bool) (place : ℕ) (items : List A) →
-    first_from place holds (map image items) ≡ first_from place (λ item. holds (image item)) items
-place_of_image image holds place [] = refl
-place_of_image image holds place (item ∷ items) =
-    ap (λ later. if holds (image item) then Some place else later) (place_of_image image holds (place + 1) items)
-
--- what a command breaks by itself doesn't depend on the entries
-same_by_command : (history : History) (command : Command) → broken_by_command (without_moments history) command ≡ broken_by_command history command
-unfolding broken_by_command unknown_tank tank_after gauging_after
-same_by_command history command = refl
 
 -- whether the key stands in the history doesn't depend on the moments
 same_keys : (history : History) (entry : Entry) → key_reused (without_moments history) (without_moment entry) ≡ key_reused history entry
@@ -77,15 +57,28 @@ verdict_at_zero limit history entry =
 abbrev answered_at_zero : Answered → Answered
 answered_at_zero answered = record { reply = answered.reply; history = without_moments answered.history }
 
+-- a history with one entry more is the same but for the moments
+with_entry_at_zero : (history : History) (entry : Entry) →
+    without_moments (with_entry history entry) ≡ with_entry (without_moments history) (without_moment entry)
+with_entry_at_zero history entry =
+    ap {B = History} (λ entries. record { site = history.site; entries = entries }) (map-append without_moment history.entries (entry ∷ []))
+
+-- the reply for a further entry doesn't depend on the moments
+reply_at_zero : (history : History) (entry : Entry) →
+    reply_at (with_entry history entry) (last_place history + 1)
+    ≡ reply_at (with_entry (without_moments history) (without_moment entry)) (last_place (without_moments history) + 1)
+reply_at_zero history entry =
+    sym (same_reply (with_entry history entry) (last_place history + 1))
+    ∙ ap₂ (λ past count. reply_at past (count + 1)) (with_entry_at_zero history entry) (sym (length-map history.entries without_moment))
+
 -- what is answered on a verdict doesn't depend on the moments
 answered_on_at_zero : (history : History) (entry : Entry) (verdict : Verdict) →
     answered_at_zero (answered_on history entry verdict) ≡ answered_on (without_moments history) (without_moment entry) verdict
-unfolding reply_at
-answered_on_at_zero history entry (Repeat place) = refl
+answered_on_at_zero history entry (Repeat place) =
+    ap {B = Answered} (λ reply. record { reply = reply; history = without_moments history }) (sym (same_reply history place))
 answered_on_at_zero history entry (Refused rule) = refl
 answered_on_at_zero history entry Accept =
-    ap₂ {C = Answered} (λ (count : ℕ) entries. record { reply = Placed (count + 1); history = record { site = history.site; entries = entries } })
-    (sym (length-map history.entries without_moment)) (map-append without_moment history.entries (entry ∷ []))
+    ap₂ {C = Answered} (λ reply after. record { reply = reply; history = after }) (reply_at_zero history entry) (with_entry_at_zero history entry)
 
 -- the verdict on a command is the same after histories that differ in moments alone, whatever the clock gave
 same_verdict : (limit : ℕ) (first second : History) (caller account key : ℕ) (now later : ℤ) (command : Command) →
@@ -110,9 +103,14 @@ same_desk limit first second caller account key now later command same =
     (same_verdict limit first second caller account key now later command same)
     ∙ sym (answered_on_at_zero second other (verdict limit second other))
 
+-- the reply to a look-up is the same after such histories
+same_looked_up : (first second : History) (query : Query) → without_moments first ≡ without_moments second → looked_up first query ≡ looked_up second query
+same_looked_up first second query same = sym (same_look first query) ∙ ap (λ history. looked_up history query) same ∙ same_look second query
+
 -- the answer to what a line asks for is the same after such histories
 same_answer_to : (limit : ℕ) (first second : History) (now later : ℤ) (ask : Option Ask) → without_moments first ≡ without_moments second →
     without_clock (answer_to limit first now ask) ≡ without_clock (answer_to limit second later ask)
+unfolding desk_answer
 same_answer_to limit first second now later None same =
     ap {B = LineAnswer} (λ history. record { page = pages.Status 400 None; history = history; stops = false }) same
 same_answer_to limit first second now later (Some (Do account key command)) same =
@@ -120,6 +118,9 @@ same_answer_to limit first second now later (Some (Do account key command)) same
     (same_desk limit first second BATCH_CALLER account key now later command same)
     (ap (λ verdict. if is_stop command then is_accepted verdict else false)
     (same_verdict limit first second BATCH_CALLER account key now later command same))
+same_answer_to limit first second now later (Some (Look query)) same =
+    ap₂ {C = LineAnswer} (λ reply history. record { page = pages.Reply reply; history = history; stops = false })
+    (same_looked_up first second query same) same
 
 -- the answer to a line is the same after histories that differ in moments alone, whatever the clock gave, and so are the histories left
 pub same_answer : (limit : ℕ) (first second : History) (now later : ℤ) (line : List ℕ) → without_moments first ≡ without_moments second →

@@ -7,7 +7,8 @@ use Rattle.farm_batch.specs.declared.batch.BatchEnd.TheVariants.{Done}
 use Rattle.farm_batch.specs.Answers.{AnswersEach, AnswersLine, EndsInStop, LineAnswer, Step, answer_text, answers_text, line_answer, out_of_memory}
 use Rattle.farm_batch.specs.Batches.{GoesOn, lines_of}
 use Rattle.farm_batch.specs.Outcomes.{HadMemory, Outcome, is_no_line, is_too_much, outcome_from, printed_before, size_of}
-use Rattle.farm_batch.proofs.Moments.{same_answer, without_moments}
+use Rattle.farm_batch.proofs.Moments.{same_answer}
+use Rattle.farm_batch.proofs.Timeless.{without_moments}
 use Rattle.farm_batch.proofs.WithinLimits.{EndsAfter, Fits}
 
 -- a step has the page of an answer, and ends the batch where that does; the histories that they leave differ in moments at most

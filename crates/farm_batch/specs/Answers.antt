@@ -1,7 +1,7 @@
 -- What a line of a batch is answered with, and what lines are answered with one after another.
 use Rattle.std.specs.Prelude.{◌≡◌, ◌⊎◌, ℕ, nat_lt, Bool, true, false, if◌then◌else◌, List, [], ◌∷◌, ◌++◌, flat_map, length, take, Option, None, Some, ℤ}
 use Rattle.farm_history.specs.declared.ask.Ask.{Ask}
-use Rattle.farm_history.specs.declared.ask.Ask.TheVariants.{Do}
+use Rattle.farm_history.specs.declared.ask.Ask.TheVariants.{Do, Look}
 use Rattle.farm_history.specs.declared.verdict.Verdict.{Verdict}
 use Rattle.farm_history.specs.declared.verdict.Verdict.TheVariants.{Accept}
 use Rattle.farm_history.specs.Commands.{is_stop}
@@ -46,6 +46,7 @@ is_accepted verdict = false
 abbrev pub is_accepted_stop : ℕ → History → ℤ → Ask → Bool
 is_accepted_stop limit history now (Do account key command) =
     if is_stop command then is_accepted (verdict limit history (stamped history BATCH_CALLER now account key command)) else false
+is_accepted_stop limit history now (Look query) = false
 
 -- what the desk answered, as the answer to a line
 abbrev pub replied : Answered → Bool → LineAnswer
@@ -68,19 +69,19 @@ pub record Step : Type 0 where
   pub history : History
   pub stops : Bool
 
--- a line was answered as it is to be
+-- a line got the answer that is meant for it
 pub record IsAnswered (meant : LineAnswer) (step : Step) : Type 0 where
   pub page : step.page ≡ meant.page
   pub history : step.history ≡ meant.history
   pub stops : step.stops ≡ meant.stops
 
--- out of memory was answered in place of what is to be, and what was asked for was done or not; the batch goes on
+-- Out of memory was answered in place of what is meant, and what was asked for was done or not. The batch goes on.
 pub record LacksMemory (before : History) (meant : LineAnswer) (step : Step) : Type 0 where
   pub page : step.page ≡ out_of_memory
   pub history : (step.history ≡ before) ⊎ (step.history ≡ meant.history)
   pub stops : step.stops ≡ false
 
--- a line was answered as it is to be, or out of memory was
+-- a line got the answer that is meant for it, or out of memory
 abbrev pub Meets : History → LineAnswer → Step → Type 0
 Meets before meant step = IsAnswered meant step ⊎ LacksMemory before meant step
 

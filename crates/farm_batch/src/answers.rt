@@ -1,7 +1,8 @@
 //! The answer to a line: what the desk says, or why it wasn't asked.
 
 ghost use Rattle.std.specs.Prelude.{◌≡◌, ◌≢◌, ◌≤ℤ◌, ℕ, false, List, None, Some, option_map, IfOk, OnErr};
-ghost use Rattle.farm_history.specs.Commands.{IsWellFormedCommand, is_stop};
+ghost use Rattle.farm_history.specs.Commands.{IsWellFormedCommand};
+ghost use Rattle.farm_history.specs.declared.ask.Ask.TheVariants.{Do};
 ghost use Rattle.farm_history.specs.Desk.{answered_on, brought_into_range, later_of, stamped};
 ghost use Rattle.farm_history.specs.History.{IsMoment, IsWellFormed, last_moment};
 ghost use Rattle.farm_history.specs.Verdicts.{verdict};
@@ -67,14 +68,34 @@ fn unasked(status: u16) -> Meant
     }
 }
 
-// The answer to a request, which ends the batch where it is a Stop that was accepted.
+// The answer to a request.
 fn answer_ask<const LIMIT: usize>(book: &mut Book<LIMIT>, now: i64, ask: Ask) -> Meant
     requires well_formed { IsWellFormedAsk ask }
     ensures meant { MeetsLine book.old.history book.new.history (answer_to LIMIT book.old.history now (Some ask)) result.page result.stops }
     ensures page { IsAnswer result.page }
 {
-    let (account, key, cmd) = parts(ask);
-    let stop = is_stop(&cmd);
+    match ask {
+        Ask::Do { account, key, cmd } => answer_command(book, now, account, key, cmd),
+        Ask::Look(query) => Meant {
+            page: Page::Reply(book.look(&query)),
+            stops: false,
+        },
+    }
+}
+
+// The answer to a command, which ends the batch where it is a Stop that was accepted.
+fn answer_command<const LIMIT: usize>(
+    book: &mut Book<LIMIT>,
+    now: i64,
+    account: u32,
+    key: u64,
+    cmd: Command,
+) -> Meant
+    requires well_formed { IsWellFormedCommand cmd }
+    ensures meant { MeetsLine book.old.history book.new.history (answer_to LIMIT book.old.history now (Some (Do account key cmd))) result.page result.stops }
+    ensures page { IsAnswer result.page }
+{
+    let stop = cmd.is_stop();
     let entry = entry_of(book, now, account, key, cmd);
     match ask_desk(book, entry) {
         Ok(replied) => Meant {
@@ -83,21 +104,6 @@ fn answer_ask<const LIMIT: usize>(book: &mut Book<LIMIT>, now: i64, ask: Ask) ->
         },
         Err(NoMemory) => unasked(507),
     }
-}
-
-// The account, the key and the command of a request.
-fn parts(ask: Ask) -> (u32, u64, Command)
-    ensures parts { ask ≡ Ask.Do result.0 result.1 result.2 }
-{
-    let Ask::Do { account, key, cmd } = ask;
-    (account, key, cmd)
-}
-
-// Whether a command is a Stop.
-fn is_stop(command: &Command) -> bool
-    ensures stop { result ≡ is_stop command.now }
-{
-    matches!(command, Command::Stop)
 }
 
 // Asks the desk. What is accepted is entered; where there is no room for it, nothing is.

@@ -45,6 +45,7 @@ pub fn answer_lines<const LIMIT: usize, S: Source, K: Sink, C: Clock>(
     ensures batch { IfOk result (λ end. Batch (C.may_give clock.now) LIMIT book.old.history book.new.history
         (S.stream input.old) (S.stream input.new) (count_of S.faults input.old input.new)
         (K.held output.old) (K.held output.new) (count_of K.faults output.old output.new) end) }
+    ensures book_kept { OnErr result (book.new ≡ book.old) }
     ensures input_kept { OnErr result (input.new ≡ input.old) }
     ensures output_kept { OnErr result (output.new ≡ output.old) }
     ensures input_never_falls { S.faults input.old ≤ S.faults input.new }

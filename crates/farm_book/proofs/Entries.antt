@@ -1,21 +1,28 @@
 -- A book stays sound with one entry more, and has the moment of its last entry.
-use Rattle.std.proofs.Common.{◌≡◌, ◌⊎◌, inl, inr, ℕ, ◌+◌, ◌-◌, ◌<◌, ◌≤◌, Bool, true, false, List, [], ◌∷◌, ◌++◌, length, Option, Some, None, ℤ, refl, arith, ap, sym, ◌∙◌, length-append}
-use Rattle.std.specs.Prelude.{if◌then◌else◌, slice_get}
+use Rattle.std.proofs.Common.{◌≡◌, ◌⊎◌, inl, inr, ℕ, suc, take, drop, get_or, ◌+◌, ◌-◌, ◌<◌, ◌≤◌, Bool, true, false, List, [], ◌∷◌, ◌++◌, length, Option, Some, None, ℤ, refl, arith, ap, sym, ◌∙◌, length-append}
+use Rattle.std.specs.Prelude.{if◌then◌else◌, option_and_then, option_map, slice_get}
+use Rattle.std.proofs.Math.Seq.{split_at}
 use native.Mathlib.Numerals.{unary_clauses}
 use Rattle.std.proofs.lemmas.Bool.Decides.{nat_tests}
 use Rattle.farm_base.specs.Steps.{or_else}
 use Rattle.farm_site.specs.Described.{Described}
+use Rattle.farm_history.specs.declared.command.Command.{Command}
 use Rattle.farm_history.specs.declared.entry.Entry.{Entry}
 use Rattle.farm_history.specs.declared.limits.TheConstants.{GREATEST_LIMIT, STOPS_BEYOND_LIMIT}
 use Rattle.farm_history.specs.declared.rule.Rule.{Rule}
-use Rattle.farm_history.specs.declared.rule.Rule.TheVariants.{HistoryFull}
+use Rattle.farm_history.specs.declared.rule.Rule.TheVariants.{HistoryFull, OutOfRange}
 use Rattle.farm_history.specs.declared.verdict.Verdict.{Verdict}
 use Rattle.farm_history.specs.declared.verdict.Verdict.TheVariants.{Accept}
 use Rattle.farm_history.specs.Commands.{is_stop}
+use Rattle.farm_history.specs.Fields.{first_bad_field}
+use Rattle.farm_history.specs.Gauging.{gauging_after}
+use Rattle.farm_history.specs.MovementRules.{unknown_party}
 use Rattle.farm_history.specs.History.{History, empty_history, last_place, moment_after, with_entry}
 use Rattle.farm_history.specs.Places.{first_place}
-use Rattle.farm_history.specs.Rules.{broken_by_command, broken_rule, history_full, is_full, is_repeat, key_reused}
+use Rattle.farm_history.specs.Rules.{broken_by_command, broken_by_movement, broken_rule, out_of_range, refused_gauging, unknown_tank, history_full, is_full, is_repeat, key_reused}
+use Rattle.farm_history.specs.Sites.{AreComputable}
 use Rattle.farm_history.specs.Verdicts.{IsLegal, IsNext, refused_or_accepted, repeated_or, verdict}
+use Rattle.farm_entries.specs.Pasts.{IsInRange, IsReadable}
 use Rattle.farm_book.specs.Kept.{IsSound}
 
 -- entries with one among them aren't none
@@ -75,23 +82,63 @@ not_full false none = refl
 fewer : (limit entries : ℕ) (stop : Bool) → is_full limit entries stop ≡ false → entries < limit + STOPS_BEYOND_LIMIT
 fewer limit entries stop room = grind (arith, nat_tests)
 
+-- an accepted entry isn't of a full history, and its command breaks no rule
+unbroken : (limit : ℕ) (history : History) (entry : Entry) → verdict limit history entry ≡ Accept →
+    or_else (history_full limit history entry.cmd) (broken_by_command history entry.cmd) ≡ None
+unfolding verdict broken_rule
+unbroken limit history entry accepted =
+    let later : Option Rule = or_else (history_full limit history entry.cmd) (broken_by_command history entry.cmd) in
+    let rules : Option Rule = or_else (key_reused history entry) later in
+    let by_rules = accepted_by_rules (first_place (is_repeat entry) history.entries) (refused_or_accepted rules) accepted in
+    later_unbroken (key_reused history entry) later (none_broken rules by_rules)
+
 -- an entry is accepted only where the history has fewer entries than it may have
 room_of_accepted : (limit : ℕ) (history : History) (entry : Entry) → verdict limit history entry ≡ Accept →
     last_place history < limit + STOPS_BEYOND_LIMIT
-unfolding verdict broken_rule history_full
+unfolding history_full
 room_of_accepted limit history entry accepted =
     let stop = is_stop entry.cmd in
     let full : Option Rule = if is_full limit (last_place history) stop then Some HistoryFull else None in
-    let later : Option Rule = or_else full (broken_by_command history entry.cmd) in
-    let rules : Option Rule = or_else (key_reused history entry) later in
-    let by_rules = accepted_by_rules (first_place (is_repeat entry) history.entries) (refused_or_accepted rules) accepted in
-    let with_room = later_unbroken (key_reused history entry) later (none_broken rules by_rules) in
-    let unfilled = first_unbroken full (broken_by_command history entry.cmd) with_room in
+    let unfilled = first_unbroken full (broken_by_command history entry.cmd) (unbroken limit history entry accepted) in
     fewer limit (last_place history) stop (not_full (is_full limit (last_place history) stop) unfilled)
 
+-- a field that isn't refused is none
+no_field : (field : Option ℕ) → option_map OutOfRange field ≡ None → field ≡ None
+no_field None none = refl
+no_field (Some field) none = cc
+
+-- a command that breaks no rule has no field out of range
+no_bad_field : (history : History) (command : Command) → broken_by_command history command ≡ None → first_bad_field command ≡ None
+unfolding broken_by_command out_of_range
+no_bad_field history command none =
+    let gauging : Option Rule = option_and_then refused_gauging (gauging_after history command) in
+    let after : Option Rule = or_else gauging (broken_by_movement history command) in
+    let fields : Option Rule = or_else (option_map OutOfRange (first_bad_field command)) after in
+    let parties : Option Rule = or_else (unknown_party history command) fields in
+    let with_tanks = later_unbroken (unknown_tank history command) parties none in
+    let with_party = later_unbroken (unknown_party history command) fields with_tanks in
+    no_field (first_bad_field command) (first_unbroken (option_map OutOfRange (first_bad_field command)) after with_party)
+
+-- no field of an entry that could come next is out of range
+next_in_range : (limit : ℕ) (history : History) (entry : Entry) → IsNext limit history entry → IsInRange entry
+next_in_range limit history entry next =
+    let command = later_unbroken (history_full limit history entry.cmd) (broken_by_command history entry.cmd) (unbroken limit history entry next.accepted) in
+    record { well_formed = next.well_formed.command; fields = no_bad_field history entry.cmd command }
+
+-- what a sound history's entries say can be computed
+pub sound_readable : (limit : ℕ) (history : History) → IsSound limit history → IsReadable history
+sound_readable limit history sound = record {
+  few = let few = sound.few in let within = sound.limit_within in omega arith;
+  in_range = λ index default within.
+      let front = take index history.entries in
+      let entry = get_or history.entries index default in
+      let split = split_at history.entries index default within in
+      next_in_range limit (record { site = history.site; entries = front }) entry (sound.legal front (drop (suc index) history.entries) entry split);
+}
+
 -- a history without entries is sound
-pub sound_empty : (limit : ℕ) (site : Described) → limit ≤ GREATEST_LIMIT → IsSound limit (empty_history site)
-sound_empty limit site within = record { limit_within = within; legal = legal_empty limit site; few = omega arith }
+pub sound_empty : (limit : ℕ) (site : Described) → limit ≤ GREATEST_LIMIT → AreComputable site → IsSound limit (empty_history site)
+sound_empty limit site within computable = record { limit_within = within; legal = legal_empty limit site; few = omega arith; computable = computable }
 
 -- a sound history with an entry that could come next is sound
 pub sound_more : (limit : ℕ) (history : History) (entry : Entry) → IsSound limit history → IsNext limit history entry → IsSound limit (with_entry history entry)
@@ -101,6 +148,7 @@ sound_more limit history entry sound next =
       limit_within = sound.limit_within;
       legal = legal_more limit history entry sound.legal next;
       few = omega (arith, length-append {A = Entry}, room);
+      computable = sound.computable;
     }
 
 -- the last of entries is the last of those after the first

@@ -1,3 +1,3 @@
 pub mod Entries
-pub mod Ranges
-pub mod Stops
+pub mod Replies
+pub mod TablesRead

@@ -1,2 +1,3 @@
-pub mod Sites
 pub mod Kept
+pub mod Refusals
+pub mod Replies

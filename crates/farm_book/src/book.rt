@@ -1,15 +1,21 @@
 //! The book.
 
-ghost use Rattle.std.specs.Prelude.{◌≡◌, ◌+◌, ◌≤◌, ℕ, IfOk, IsOk, OnErr, OnOk};
-ghost use Rattle.farm_history.specs.Desk.{reply_at};
+ghost use Rattle.std.specs.Prelude.{◌≡◌, ◌+◌, ◌≤◌, ℕ, IfOk, IsFalse, IsOk, IsTrue, OnErr, OnOk};
+ghost use Rattle.farm_book.specs.Kept.{IsSound};
+ghost use Rattle.farm_book.specs.Replies.{IsTicketReply, IssuesAt};
+ghost use Rattle.farm_entries.specs.Pasts.{IsReadable, history_of};
+ghost use Rattle.farm_history.specs.Commands.{issues_ticket};
+ghost use Rattle.farm_history.specs.Desk.{looked_up, reply_at};
 ghost use Rattle.farm_history.specs.History.{IsMoment, IsWellFormed, empty_history, last_moment, last_place, with_entry};
 ghost use Rattle.farm_history.specs.Verdicts.{IsLegal, IsNext, IsVerdict, verdict};
 ghost use Rattle.farm_history.specs.declared.limits.TheConstants.{GREATEST_LIMIT, STOPS_BEYOND_LIMIT};
 ghost use Rattle.farm_site.specs.Sites.{described};
 
 use crate::judging::verdict_of;
+use crate::tables::are_computable;
 use farm_base::NoMemory;
-use farm_history::{Entry, Reply, Verdict, laws};
+use farm_entries::Past;
+use farm_history::{Entry, Query, Reply, Rule, Verdict, laws};
 use farm_site::Site;
 use std::alloc::Global;
 use std::marker::Model;
@@ -26,7 +32,7 @@ pub struct Book<const LIMIT: usize> {
 impl<const LIMIT: usize> Model for Book<LIMIT> {
     ghost use Rattle.std.specs.Prelude.{◌-◌, vec_capacity, vec_len};
     ghost use Rattle.farm_book.specs.Kept.{IsSound, Kept};
-    ghost use Rattle.farm_book.specs.Sites.{history_of};
+    ghost use Rattle.farm_entries.specs.Pasts.{history_of};
 
     ghost Value = { Kept };
 
@@ -42,6 +48,7 @@ impl<const LIMIT: usize> Book<LIMIT> {
         ensures made { IsOk result }
         ensures history { IfOk result (λ book. book.history ≡ empty_history (described site)) }
     {
+        are_computable(&site);
         Ok(Book {
             site,
             entries: Vec::new(alloc),
@@ -57,7 +64,7 @@ impl<const LIMIT: usize> Book<LIMIT> {
         ensures repeated { (place : ℕ) → result ≡ Verdict.Repeat place → (1 ≤ place) × (place ≤ last_place self.now.history) }
     {
         laws();
-        verdict_of(LIMIT, &self.site, &self.entries, entry)
+        verdict_of(LIMIT, &self.past(), entry)
     }
 
     /// Makes room for one entry more. It fails only where there is none.
@@ -78,10 +85,12 @@ impl<const LIMIT: usize> Book<LIMIT> {
         requires room { 1 ≤ self.old.spare }
         ensures entered { self.new.history ≡ with_entry self.old.history entry }
         ensures reply { result ≡ reply_at self.new.history (last_place self.new.history) }
+        ensures ticket { IsTrue (issues_ticket entry.cmd) → IsTicketReply self.new.history (last_place self.new.history) result }
+        ensures placed { IsFalse (issues_ticket entry.cmd) → result ≡ Reply.Placed (last_place self.new.history) }
         ensures spare { self.new.spare + 1 ≡ self.old.spare }
     {
         self.entries.push_reserved(entry);
-        Reply::Placed(self.entries.len() as u32)
+        self.reply_at(self.entries.len() as u32)
     }
 
     /// The reply for the entry at a place.
@@ -90,8 +99,43 @@ impl<const LIMIT: usize> Book<LIMIT> {
         requires low { 1 ≤ place }
         requires high { place ≤ last_place self.now.history }
         ensures reply { result ≡ reply_at self.now.history place }
+        ensures ticket { IssuesAt self.now.history place → IsTicketReply self.now.history place result }
+        ensures placed { ¬ (IssuesAt self.now.history place) → result ≡ Reply.Placed place }
     {
-        Reply::Placed(place)
+        match self.past().ticket_at(place) {
+            Some(ticket) => Reply::Ticket(ticket),
+            None => Reply::Placed(place),
+        }
+    }
+
+    /// The answer to a look-up: the ticket of the place, or `Refused(UnknownTicket)` exactly where no Closing and no Reverse stands
+    /// there. Takes no memory.
+    #[tactic(auto, unfolding(farm_history::specs::Desk::looked_up))]
+    pub fn look(&self, query: &Query) -> Reply
+        ensures looked_up { result ≡ looked_up self.now.history query.now }
+        ensures ticket { (place : ℕ) → query.now ≡ Query.Ticket place → IssuesAt self.now.history place →
+            IsTicketReply self.now.history place result }
+        ensures none { (place : ℕ) → query.now ≡ Query.Ticket place → ¬ (IssuesAt self.now.history place) →
+            result ≡ Reply.Refused Rule.UnknownTicket }
+    {
+        let Query::Ticket(place) = query;
+        match self.past().ticket_at(*place) {
+            Some(ticket) => Reply::Ticket(ticket),
+            None => Reply::Refused(Rule::UnknownTicket),
+        }
+    }
+
+    // The site and the entries.
+    fn past(&self) -> Past<'_>
+        ensures history { history_of result.site.now result.entries.now ≡ self.now.history }
+        ensures sound { IsSound LIMIT self.now.history }
+        ensures readable { IsReadable self.now.history }
+        ensures limit { LIMIT ≤ GREATEST_LIMIT }
+    {
+        Past {
+            site: &self.site,
+            entries: &self.entries,
+        }
     }
 
     /// The entries, in their order.

@@ -1,18 +1,21 @@
 //! What the rules say of a further entry, after the entries of a book.
 
-ghost use Rattle.std.specs.Prelude.{◌≡◌, ◌+◌, ◌≤◌, ℕ, if◌then◌else◌, IfSome, List, None, Some, length};
+ghost use Rattle.std.specs.Prelude.{◌≡◌, ◌+◌, ◌≤◌, ℕ, if◌then◌else◌, IfSome, None, Some, length, option_and_then};
+ghost use Rattle.std.specs.List.{list_any};
 ghost use Rattle.farm_base.specs.Steps.{or_else};
-ghost use Rattle.farm_history.specs.Commands.{IsWellFormedCommand, is_stop, same_command, tank_of};
+ghost use Rattle.farm_entries.specs.Pasts.{IsReadable, history_of};
+ghost use Rattle.farm_history.specs.Commands.{IsWellFormedCommand, same_command, tanks_given};
+ghost use Rattle.farm_history.specs.Fields.{first_bad_field};
+ghost use Rattle.farm_history.specs.Gauging.{gauging_after};
+ghost use Rattle.farm_history.specs.History.{tank_after};
 ghost use Rattle.farm_history.specs.Places.{first_place};
-ghost use Rattle.farm_history.specs.Rules.{broken_by_command, is_full, is_repeat, same_key};
+ghost use Rattle.farm_history.specs.Rules.{broken_by_command, is_full, is_missing, is_repeat, refused_gauging, same_key, unknown_tank};
 ghost use Rattle.farm_history.specs.Verdicts.{verdict};
 ghost use Rattle.farm_history.specs.declared.limits.TheConstants.{GREATEST_LIMIT, STOPS_BEYOND_LIMIT};
-ghost use Rattle.farm_book.specs.Sites.{history_of};
 
-use crate::fields::first_bad_field;
-use crate::gauging::refused_gauging;
-use farm_history::{Command, Entry, Rule, STOPS_BEYOND_LIMIT, Verdict};
-use farm_site::Site;
+use crate::movement_rules::{broken_by_movement, unknown_party};
+use farm_entries::{Past, first_bad_field, tank_of};
+use farm_history::{Command, Entry, Plan, Rule, STOPS_BEYOND_LIMIT, Verdict};
 
 // Where the account and the key of a further entry stand.
 #[derive(Drop)]
@@ -25,24 +28,24 @@ struct Places {
 
 /// What the rules say of a further entry, where there may be `limit` entries.
 #[tactic(auto, unfolding(farm_history::specs::Verdicts::verdict, farm_history::specs::Rules::broken_rule, farm_history::specs::Rules::key_reused, farm_history::specs::Rules::history_full))]
-pub fn verdict_of(limit: usize, site: &Site, entries: &[Entry], entry: &Entry) -> Verdict
+pub fn verdict_of(limit: usize, past: &Past<'_>, entry: &Entry) -> Verdict
     requires limit { limit ≤ GREATEST_LIMIT }
-    requires few { length entries.now ≤ GREATEST_LIMIT + STOPS_BEYOND_LIMIT }
+    requires readable { IsReadable (history_of past.now.site.now past.now.entries.now) }
     requires command { IsWellFormedCommand entry.now.cmd }
-    ensures verdict { result ≡ verdict limit (history_of site.now entries.now) entry.now }
-    ensures repeated { (place : ℕ) → result ≡ Verdict.Repeat place → (1 ≤ place) × (place ≤ length entries.now) }
+    ensures verdict { result ≡ verdict limit (history_of past.now.site.now past.now.entries.now) entry.now }
+    ensures repeated { (place : ℕ) → result ≡ Verdict.Repeat place → (1 ≤ place) × (place ≤ length past.now.entries.now) }
 {
-    let places = places_of(entries, entry);
+    let places = places_of(past.entries, entry);
     if let Some(place) = places.repeat {
         return Verdict::Repeat(place);
     }
     if let Some(place) = places.used {
         return Verdict::Refused(Rule::KeyReused(place));
     }
-    if is_full(limit, entries.len(), is_stop(&entry.cmd)) {
+    if is_full(limit, past.entries.len(), entry.cmd.is_stop()) {
         return Verdict::Refused(Rule::HistoryFull);
     }
-    match broken_by_command(site, &entry.cmd) {
+    match broken_by_command(past, &entry.cmd) {
         Some(rule) => Verdict::Refused(rule),
         None => Verdict::Accept,
     }
@@ -110,37 +113,70 @@ fn is_full(limit: usize, entries: usize, stop: bool) -> bool
     limit + STOPS_BEYOND_LIMIT <= entries || (limit <= entries && !stop)
 }
 
-// Whether a command is a Stop.
-fn is_stop(command: &Command) -> bool
-    ensures stop { result ≡ is_stop command.now }
-{
-    matches!(command, Command::Stop)
-}
-
 // The first rule that a command breaks whose key is new and for which there is room.
-#[tactic(auto, unfolding(farm_history::specs::Rules::broken_by_command, farm_history::specs::Rules::unknown_tank, farm_history::specs::Rules::out_of_range, farm_history::specs::Gauging::gauging_after, farm_history::specs::History::tank_after))]
-fn broken_by_command(site: &Site, command: &Command) -> Option<Rule>
-    requires { IsWellFormedCommand command.now }
-    ensures broken { (entries : List Entry) → result ≡ broken_by_command (history_of site.now entries) command.now }
+#[tactic(auto, unfolding(farm_history::specs::Rules::broken_by_command, farm_history::specs::Rules::out_of_range))]
+fn broken_by_command(past: &Past<'_>, command: &Command) -> Option<Rule>
+    requires command { IsWellFormedCommand command.now }
+    requires readable { IsReadable (history_of past.now.site.now past.now.entries.now) }
+    ensures broken { result ≡ broken_by_command (history_of past.now.site.now past.now.entries.now) command.now }
 {
-    let number = tank_of(command)?;
-    let Some(tank) = site.tank(number) else {
-        return Some(Rule::UnknownTank);
-    };
+    if let Some(rule) = unknown_tank(past, command) {
+        return Some(rule);
+    }
+    if let Some(rule) = unknown_party(past, command) {
+        return Some(rule);
+    }
     if let Some(field) = first_bad_field(command) {
         return Some(Rule::OutOfRange(field));
     }
-    refused_gauging(&site.rounds, tank, command)
+    if let Some(rule) = refused_gauging(past, command) {
+        return Some(rule);
+    }
+    broken_by_movement(past, command)
 }
 
-// The number of the tank that a command names.
-fn tank_of(command: &Command) -> Option<u16>
-    ensures tank { result ≡ tank_of command.now }
+// Rule 3: a tank that a command gives isn't of the site.
+#[tactic(auto, unfolding(farm_history::specs::Rules::unknown_tank))]
+fn unknown_tank(past: &Past<'_>, command: &Command) -> Option<Rule>
+    ensures rule { result ≡ unknown_tank (history_of past.now.site.now past.now.entries.now) command.now }
+{
+    if gives_unknown(past, command) {
+        return Some(Rule::UnknownTank);
+    }
+    None
+}
+
+// Whether a command gives a tank that isn't of the site.
+fn gives_unknown(past: &Past<'_>, command: &Command) -> bool
+    ensures unknown { result ≡ list_any (λ number. is_missing (tank_after (history_of past.now.site.now past.now.entries.now) number)) (tanks_given command.now) }
 {
     match command {
-        Command::Gauge { tank, .. } | Command::Dip { tank, .. } | Command::Sample { tank, .. } => {
-            Some(*tank)
+        Command::Gauge { tank, .. }
+        | Command::Dip { tank, .. }
+        | Command::Sample { tank, .. }
+        | Command::Opening(Plan::Outside { tank, .. }) => is_missing(past, *tank),
+        Command::Opening(Plan::Transfer { from, to, .. }) => {
+            is_missing(past, *from) || is_missing(past, *to)
         }
-        Command::Stop => None,
+        _ => false,
     }
+}
+
+// Whether the site has no tank of a number.
+#[tactic(auto, unfolding(farm_history::specs::History::tank_after))]
+fn is_missing(past: &Past<'_>, number: u16) -> bool
+    ensures missing { result ≡ is_missing (tank_after (history_of past.now.site.now past.now.entries.now) number) }
+{
+    past.site.tank(number).is_none()
+}
+
+// Why a gauging is refused: rules 6 to 8.
+#[tactic(auto, unfolding(farm_history::specs::Gauging::gauging_after, farm_history::specs::History::tank_after))]
+fn refused_gauging(past: &Past<'_>, command: &Command) -> Option<Rule>
+    requires command { IsWellFormedCommand command.now }
+    requires in_range { first_bad_field command.now ≡ None }
+    ensures refused { result ≡ option_and_then refused_gauging (gauging_after (history_of past.now.site.now past.now.entries.now) command.now) }
+{
+    let tank = past.site.tank(tank_of(command)?)?;
+    farm_entries::refused_gauging(&past.site.rounds, tank, command)
 }

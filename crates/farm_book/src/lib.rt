@@ -5,9 +5,11 @@
 #![tactic(auto)]
 
 mod book;
-mod fields;
-mod gauging;
+mod figure_rules;
 mod judging;
+mod movement_rules;
+mod named_rules;
+mod tables;
 
 pub use book::Book;
 

@@ -4,7 +4,7 @@ ghost use Rattle.farm_history.specs.History.{IsWellFormed, last_moment};
 
 use super::*;
 use farm_base::NoMemory;
-use farm_history::{Command, Entry, Few, Reply, Rule, Verdict};
+use farm_history::{Command, Entry, Few, Query, Reply, Rule, Verdict};
 use row_site::row_site;
 use std::test::Fail;
 
@@ -148,6 +148,8 @@ fn a_full_book_takes_repeats_and_stops(rt: HostRuntime) -> Result<(), Fail> {
     assert_eq!(rt; repeat, Reply::Placed(2));
     assert_eq!(rt; reused, Reply::Refused(Rule::KeyReused(2)));
     assert_eq!(rt; stop, Reply::Placed(5));
+    let look = book.look(&Query::Ticket(1));
+    assert_eq!(rt; look, Reply::Refused(Rule::UnknownTicket));
     assert_eq!(rt; book.entries().len(), 5);
     assert_eq!(rt; book.site().tanks.get().len(), 6);
     Ok(())

@@ -1,14 +1,14 @@
--- The readers of gauge readings, dips and samples after their tags.
+-- The tags of commands and the bytes after them; the readers of gauge readings, dips and samples after their tags.
 use Rattle.std.proofs.Common.{◌≡◌, ℕ, ◌^◌, ◌<◌, Bool, false, List, [], ◌∷◌, ◌++◌, refl, append_assoc, arith, ℤ, pos}
-use Rattle.std.specs.Int.{w16, w64, to_be_bytes}
+use Rattle.std.specs.Int.{w16, w32, w64, to_be_bytes}
 use mir.Val.{SFits}
 use Rattle.std.proofs.lemmas.List.Elements.{All-from_recursion, recursion_from_All}
 use Rattle.farm_history.specs.declared.few.Few.{Few}
 use Rattle.farm_history.specs.declared.command.Command.{Command}
-use Rattle.farm_history.specs.declared.command.Command.TheVariants.{Gauge, Dip, Sample, Stop}
+use Rattle.farm_history.specs.declared.command.Command.TheVariants.{Gauge, Dip, Sample, Opening, Closing, Cancel, Reverse, Stop}
 use Rattle.farm_history.specs.Commands.{IsShortList, IsWellFormedCommand}
 use Rattle.farm_history.specs.Decoding.{dip_at, gauge_at, sample_at}
-use Rattle.farm_history.specs.Encoding.{IsTypedCommand, IsTypedList, command_bytes, kind_byte, list_bytes, signed_bytes}
+use Rattle.farm_history.specs.Encoding.{IsTypedCommand, IsTypedList, command_bytes, gauged_bytes, kind_byte, list_bytes, plan_bytes, second_bytes, signed_bytes}
 use Rattle.farm_history.proofs.ListReaders.{IsGoodList, kind_reader, list_reader}
 use Rattle.farm_history.proofs.NumberReaders.{number_reader, signed_reader, wide16}
 use Rattle.farm_history.proofs.Readers.{IsReader, made_reader, then_reader}
@@ -22,6 +22,10 @@ unfoldable pub tag_of : Command → ℕ
 tag_of (Gauge tank level water temperature ambient) = 1
 tag_of (Dip tank outage tapes water temperatures ambient) = 2
 tag_of (Sample tank density sw) = 3
+tag_of (Opening plan) = 4
+tag_of (Closing movement first second) = 5
+tag_of (Cancel movement) = 6
+tag_of (Reverse ticket) = 8
 tag_of Stop = 9
 
 -- the bytes after it
@@ -31,6 +35,10 @@ fields_bytes (Gauge tank level water temperature ambient) =
 fields_bytes (Dip tank outage tapes water temperatures ambient) =
     to_be_bytes w16 tank ++ ((kind_byte outage ∷ []) ++ (list_bytes tapes ++ (list_bytes water ++ (list_bytes temperatures ++ signed_bytes ambient))))
 fields_bytes (Sample tank density sw) = to_be_bytes w16 tank ++ (signed_bytes density ++ signed_bytes sw)
+fields_bytes (Opening plan) = plan_bytes plan
+fields_bytes (Closing movement first second) = to_be_bytes w32 movement ++ (gauged_bytes first ++ second_bytes second)
+fields_bytes (Cancel movement) = to_be_bytes w32 movement
+fields_bytes (Reverse ticket) = to_be_bytes w32 ticket
 fields_bytes Stop = []
 
 -- a command's bytes are its tag and those after it
@@ -39,6 +47,10 @@ unfolding tag_of fields_bytes command_bytes
 tag_and_fields (Gauge tank level water temperature ambient) = refl
 tag_and_fields (Dip tank outage tapes water temperatures ambient) = simp append_assoc
 tag_and_fields (Sample tank density sw) = refl
+tag_and_fields (Opening plan) = refl
+tag_and_fields (Closing movement first second) = refl
+tag_and_fields (Cancel movement) = refl
+tag_and_fields (Reverse ticket) = refl
 tag_and_fields Stop = refl
 
 -- a command of a tag
@@ -47,40 +59,36 @@ IsOf tag command = (tag_of command ≡ tag) × IsGoodCommand command
 
 -- ---- gauge readings
 
-abbrev Gauged : Type 0
-Gauged = ℕ × (ℤ × (ℤ × (ℤ × ℤ)))
+abbrev GaugeRead : Type 0
+GaugeRead = ℕ × (ℤ × (ℤ × (ℤ × ℤ)))
 
-abbrev gauge_of : Gauged → Command
+abbrev gauge_of : GaugeRead → Command
 gauge_of f = Gauge f.0 f.1.0 f.1.1.0 f.1.1.1.0 f.1.1.1.1
 
-abbrev FitsGauge : Gauged → Type 0
+abbrev FitsGauge : GaugeRead → Type 0
 FitsGauge f = (f.0 < 2 ^ 16) × (SFits w64 f.1.0 × (SFits w64 f.1.1.0 × (SFits w64 f.1.1.1.0 × SFits w64 f.1.1.1.1)))
 
-gauge_parts : Command → Gauged
+gauge_parts : Command → GaugeRead
 gauge_parts (Gauge tank level water temperature ambient) = (tank, (level, (water, (temperature, ambient))))
 gauge_parts command = (0, (pos 0, (pos 0, (pos 0, pos 0))))
 
-gauge_to : (f : Gauged) → FitsGauge f → IsOf 1 (gauge_of f)
+gauge_to : (f : GaugeRead) → FitsGauge f → IsOf 1 (gauge_of f)
 unfolding tag_of
 gauge_to f h = (refl, ((h.0, All-from_recursion (SFits w64) (f.1.0 ∷ f.1.1.0 ∷ f.1.1.1.0 ∷ f.1.1.1.1 ∷ []) (h.1.0, (h.1.1.0, (h.1.1.1.0, (h.1.1.1.1, tt))))), tt))
 
 gauge_back : (c : Command) → IsOf 1 c → gauge_of (gauge_parts c) ≡ c
 unfolding tag_of gauge_parts
 gauge_back (Gauge tank level water temperature ambient) h = refl
-gauge_back (Dip tank outage tapes water temperatures ambient) h = absurd (omega (arith, h.0))
-gauge_back (Sample tank density sw) h = absurd (omega (arith, h.0))
-gauge_back Stop h = absurd (omega (arith, h.0))
+gauge_back c h = absurd (omega (arith, h.0))
 
 gauge_fits : (c : Command) → IsOf 1 c → FitsGauge (gauge_parts c)
 unfolding tag_of gauge_parts
 gauge_fits (Gauge tank level water temperature ambient) h =
     let all = recursion_from_All (SFits w64) (level ∷ water ∷ temperature ∷ ambient ∷ []) h.1.0.1 in
     (h.1.0.0, (all.0, (all.1.0, (all.1.1.0, all.1.1.1.0))))
-gauge_fits (Dip tank outage tapes water temperatures ambient) h = absurd (omega (arith, h.0))
-gauge_fits (Sample tank density sw) h = absurd (omega (arith, h.0))
-gauge_fits Stop h = absurd (omega (arith, h.0))
+gauge_fits c h = absurd (omega (arith, h.0))
 
-gauge_same : (f : Gauged) → fields_bytes (gauge_of f) ≡ to_be_bytes w16 f.0 ++ (signed_bytes f.1.0 ++ (signed_bytes f.1.1.0 ++ (signed_bytes f.1.1.1.0 ++ signed_bytes f.1.1.1.1)))
+gauge_same : (f : GaugeRead) → fields_bytes (gauge_of f) ≡ to_be_bytes w16 f.0 ++ (signed_bytes f.1.0 ++ (signed_bytes f.1.1.0 ++ (signed_bytes f.1.1.1.0 ++ signed_bytes f.1.1.1.1)))
 unfolding fields_bytes
 gauge_same f = refl
 
@@ -128,20 +136,16 @@ dip_to f h =
 
 dip_back : (c : Command) → IsOf 2 c → dip_of (dip_parts c) ≡ c
 unfolding tag_of dip_parts
-dip_back (Gauge tank level water temperature ambient) h = absurd (omega (arith, h.0))
 dip_back (Dip tank outage tapes water temperatures ambient) h = refl
-dip_back (Sample tank density sw) h = absurd (omega (arith, h.0))
-dip_back Stop h = absurd (omega (arith, h.0))
+dip_back c h = absurd (omega (arith, h.0))
 
 dip_fits : (c : Command) → IsOf 2 c → FitsDip (dip_parts c)
 unfolding tag_of dip_parts
-dip_fits (Gauge tank level water temperature ambient) h = absurd (omega (arith, h.0))
 dip_fits (Dip tank outage tapes water temperatures ambient) h =
     let typed = h.1.0 in
     let short = h.1.1 in
     (typed.0, (tt, (good_list tapes typed.1 short.0, (good_list water typed.2 short.1, (good_list temperatures typed.3 short.2, typed.4)))))
-dip_fits (Sample tank density sw) h = absurd (omega (arith, h.0))
-dip_fits Stop h = absurd (omega (arith, h.0))
+dip_fits c h = absurd (omega (arith, h.0))
 
 dip_same : (f : Dipped) → fields_bytes (dip_of f) ≡ to_be_bytes w16 f.0 ++ ((kind_byte f.1.0 ∷ []) ++ (list_bytes f.1.1.0 ++ (list_bytes f.1.1.1.0 ++ (list_bytes f.1.1.1.1.0 ++ signed_bytes f.1.1.1.1.1))))
 unfolding fields_bytes
@@ -176,19 +180,15 @@ sample_to f h = (refl, ((h.0, All-from_recursion (SFits w64) (f.1.0 ∷ f.1.1 �
 
 sample_back : (c : Command) → IsOf 3 c → sample_of (sample_parts c) ≡ c
 unfolding tag_of sample_parts
-sample_back (Gauge tank level water temperature ambient) h = absurd (omega (arith, h.0))
-sample_back (Dip tank outage tapes water temperatures ambient) h = absurd (omega (arith, h.0))
 sample_back (Sample tank density sw) h = refl
-sample_back Stop h = absurd (omega (arith, h.0))
+sample_back c h = absurd (omega (arith, h.0))
 
 sample_fits : (c : Command) → IsOf 3 c → FitsSample (sample_parts c)
 unfolding tag_of sample_parts
-sample_fits (Gauge tank level water temperature ambient) h = absurd (omega (arith, h.0))
-sample_fits (Dip tank outage tapes water temperatures ambient) h = absurd (omega (arith, h.0))
 sample_fits (Sample tank density sw) h =
     let all = recursion_from_All (SFits w64) (density ∷ sw ∷ []) h.1.0.1 in
     (h.1.0.0, (all.0, all.1.0))
-sample_fits Stop h = absurd (omega (arith, h.0))
+sample_fits c h = absurd (omega (arith, h.0))
 
 sample_same : (f : Sampled) → fields_bytes (sample_of f) ≡ to_be_bytes w16 f.0 ++ (signed_bytes f.1.0 ++ signed_bytes f.1.1)
 unfolding fields_bytes

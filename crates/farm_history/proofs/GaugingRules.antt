@@ -9,7 +9,7 @@ use Rattle.farm_history.specs.Gauging.{Gauging, gauging_after}
 use Rattle.farm_history.specs.History.{History}
 use Rattle.farm_history.specs.RuleTable.{rule_number}
 use Rattle.farm_history.specs.Rules.{refused_gauging, refused_in, refused_reading, top_of}
-use Rattle.farm_history.specs.Verdicts.{Breaks, HasFaultyTapes, HasReading}
+use Rattle.farm_history.specs.Breaking.{Breaks, HasFaultyTapes, HasReading}
 use Rattle.farm_history.proofs.Says.{Says}
 
 -- one number tests as less than another: it is

@@ -11,6 +11,10 @@ use Rattle.farm_history.specs.Encoding.{command_bytes, entry_encoding, kind_byte
 pub two_joined : (old a b first second : List ℕ) → first ≡ old ++ a → second ≡ first ++ b → second ≡ old ++ (a ++ b)
 two_joined old a b first second e1 e2 = e2 ∙ ap (λ text. text ++ b) e1 ∙ append_assoc old a b
 
+-- three texts after a front are one
+pub three_joined : (old a b c t1 t2 t3 : List ℕ) → t1 ≡ old ++ a → t2 ≡ t1 ++ b → t3 ≡ t2 ++ c → t3 ≡ old ++ (a ++ (b ++ c))
+three_joined old a b c t1 t2 t3 e1 e2 e3 = two_joined old a (b ++ c) t1 t3 e1 (two_joined t1 b c t2 t3 e2 e3)
+
 -- six texts after a front are one
 pub six_joined : (old a b c d e f t1 t2 t3 t4 t5 t6 : List ℕ) → t1 ≡ old ++ a → t2 ≡ t1 ++ b → t3 ≡ t2 ++ c → t4 ≡ t3 ++ d → t5 ≡ t4 ++ e → t6 ≡ t5 ++ f →
     t6 ≡ old ++ (a ++ (b ++ (c ++ (d ++ (e ++ f)))))

@@ -1,23 +1,24 @@
 -- A request that was accepted is answered again with its first reply, and in a legal history a key acts once.
-use Rattle.std.proofs.Common.{◌≡◌, ℕ, ◌+◌, ◌&&◌, ◌==◌, IsFalse, IsTrue, Contains, List, [], ◌∷◌, ◌++◌, Option, Some, None, ℤ, option_map, refl, ap, sym, ◌∙◌, append_assoc, subst, arith}
+use Rattle.std.proofs.Common.{◌≡◌, ℕ, ◌+◌, ◌≤◌, ◌&&◌, ◌==◌, IsFalse, IsTrue, Contains, List, [], ◌∷◌, ◌++◌, Option, Some, None, ℤ, option_map, refl, ap, sym, ◌∙◌, append_assoc, length-append, subst, arith}
 use Rattle.std.proofs.lemmas.Bool.{and_from, and_parts, both_ways, eq-eqb, eqb-true}
 use Rattle.std.proofs.lemmas.List.Elements.{All-contains, Contains-append_right}
 use Rattle.farm_base.specs.Steps.{or_else}
 use Rattle.farm_history.specs.declared.ask.Ask.TheVariants.{Do}
 use Rattle.farm_history.specs.declared.command.Command.{Command}
 use Rattle.farm_history.specs.declared.entry.Entry.{Entry}
-use Rattle.farm_history.specs.declared.reply.Reply.TheVariants.{Placed}
+use Rattle.farm_history.specs.declared.reply.Reply.{Reply}
 use Rattle.farm_history.specs.declared.rule.Rule.{Rule}
 use Rattle.farm_history.specs.declared.rule.Rule.TheVariants.{KeyReused}
 use Rattle.farm_history.specs.declared.verdict.Verdict.TheVariants.{Repeat, Accept}
 use Rattle.farm_history.specs.Commands.{same_command}
-use Rattle.farm_history.specs.Desk.{Answered, answered_on, desk_answer, reply_at, stamped}
+use Rattle.farm_history.specs.Desk.{Answered, answered_on, desk_answer, reply_at, stamped, ticket_or_place}
 use Rattle.farm_history.specs.History.{History, followed_by, last_place, with_entry}
 use Rattle.farm_history.specs.Places.{first_place}
 use Rattle.farm_history.specs.Rules.{broken_by_command, broken_rule, history_full, is_repeat, key_reused, same_key}
 use Rattle.farm_history.specs.Verdicts.{IsLegal, refused_or_accepted, repeated_or, verdict}
 use Rattle.farm_history.proofs.Places.{none_before, place_after}
 use Rattle.farm_history.proofs.SameCommands.{commands_decided}
+use Rattle.farm_history.proofs.Stays.{ticket_stays}
 
 -- an accepted entry repeats none, and breaks no rule
 record IsAccepted (limit : ℕ) (history : History) (entry : Entry) : Type 0 where
@@ -118,8 +119,8 @@ answered_first : (limit : ℕ) (history : History) (caller account key : ℕ) (n
     let entry = stamped history caller now account key command in
     verdict limit history entry ≡ Accept →
     desk_answer limit history caller now (Do account key command)
-    ≡ record { reply = Placed (last_place history + 1); history = with_entry history entry }
-unfolding desk_answer reply_at
+    ≡ record { reply = reply_at (with_entry history entry) (last_place history + 1); history = with_entry history entry }
+unfolding desk_answer
 answered_first limit history caller account key now command accepted =
     ap (answered_on history (stamped history caller now account key command)) accepted
 
@@ -128,11 +129,21 @@ answered_again : (limit : ℕ) (history later : History) (caller again account k
     let entry = stamped history caller now account key command in
     verdict limit history entry ≡ Accept → later.entries ≡ history.entries ++ entry ∷ back →
     desk_answer limit later again then (Do account key command)
-    ≡ record { reply = Placed (last_place history + 1); history = later }
-unfolding desk_answer reply_at
+    ≡ record { reply = reply_at later (last_place history + 1); history = later }
+unfolding desk_answer
 answered_again limit history later caller again account key now then command back accepted split =
     ap (answered_on later (stamped later again then account key command))
     (again_repeats limit history later caller again account key now then command back accepted split)
+
+-- the reply for an entry stays what it is when entries follow
+reply_stays : (history : History) (entry : Entry) (more : List Entry) →
+    reply_at (followed_by (with_entry history entry) more) (last_place history + 1)
+    ≡ reply_at (with_entry history entry) (last_place history + 1)
+unfolding reply_at
+reply_stays history entry more =
+    let place = last_place history + 1 in
+    let within : place ≤ last_place (with_entry history entry) = omega (arith, length-append history.entries (entry ∷ [])) in
+    ap (λ ticket. ticket_or_place ticket place) (ticket_stays (with_entry history entry) more place within)
 
 -- a request that was accepted is answered again with its first reply, and changes nothing
 pub repeats_change_nothing :
@@ -143,9 +154,11 @@ pub repeats_change_nothing :
     desk_answer limit later again then (Do account key command) ≡ record { reply = first.reply; history = later }
 repeats_change_nothing limit history caller again account key now then command more accepted =
     let entry = stamped history caller now account key command in
+    let after = followed_by (with_entry history entry) more in
+    let answered : Reply → Answered = λ reply. record { reply = reply; history = after } in
     let Same : Answered → Type 0 = λ first.
     let later = followed_by first.history more in
     desk_answer limit later again then (Do account key command) ≡ record { reply = first.reply; history = later } in
     subst Same (sym (answered_first limit history caller account key now command accepted))
-    (answered_again limit history (followed_by (with_entry history entry) more) caller again account key now then command more accepted
-    (append_assoc history.entries (entry ∷ []) more))
+    (answered_again limit history after caller again account key now then command more accepted
+    (append_assoc history.entries (entry ∷ []) more) ∙ ap answered (reply_stays history entry more))

@@ -1,5 +1,6 @@
 -- Each rule's definition answers exactly where the entry breaks the rule in its own words.
-use Rattle.std.proofs.Common.{◌≡◌, ◌≢◌, inl, inr, ℕ, ◌+◌, ◌<◌, ◌≤◌, Bool, true, false, ◌&&◌, not, nat_le, if◌then◌else◌, Option, Some, None, option_and_then, option_map, refl, ap, arith}
+use Rattle.std.proofs.Common.{◌≡◌, ◌≢◌, inl, inr, ℕ, ◌+◌, ◌<◌, ◌≤◌, Bool, true, false, ◌&&◌, not, nat_le, if◌then◌else◌, Option, Some, None, option_map, refl, ap, arith}
+use Rattle.std.specs.List.{list_any}
 use Rattle.std.proofs.lemmas.Bool.{and_from, and_parts, both_ways, le-leb, leb-true, not-true, not_from_false, or_cases, or_left, or_right}
 use Rattle.site_items.specs.declared.records.Tank.{Tank}
 use Rattle.farm_history.specs.declared.command.Command.{Command}
@@ -8,13 +9,15 @@ use Rattle.farm_history.specs.declared.entry.Entry.{Entry}
 use Rattle.farm_history.specs.declared.limits.TheConstants.{STOPS_BEYOND_LIMIT}
 use Rattle.farm_history.specs.declared.rule.Rule.{Rule}
 use Rattle.farm_history.specs.declared.rule.Rule.TheVariants.{KeyReused, HistoryFull, UnknownTank, OutOfRange}
-use Rattle.farm_history.specs.Commands.{is_stop, tank_of}
+use Rattle.farm_history.specs.Commands.{is_stop, tanks_given}
 use Rattle.farm_history.specs.Fields.{fields_of, first_bad_field, is_out_of_range}
 use Rattle.farm_history.specs.History.{History, last_place, tank_after}
 use Rattle.farm_history.specs.Places.{first_place}
 use Rattle.farm_history.specs.RuleTable.{rule_number}
-use Rattle.farm_history.specs.Rules.{history_full, is_full, key_reused, out_of_range, same_key, unknown_tank, unless_there}
-use Rattle.farm_history.specs.Verdicts.{Breaks, IsFull}
+use Rattle.farm_history.specs.Rules.{history_full, is_full, is_missing, key_reused, out_of_range, same_key, unknown_tank}
+use Rattle.farm_history.specs.Breaking.{Breaks, IsFull, NamesNoTank}
+use Rattle.farm_history.proofs.Given.{any_passed, passed}
+use Rattle.farm_history.proofs.OneRule.{test_says, value_says}
 use Rattle.farm_history.proofs.Places.{found_place, place_of}
 use Rattle.farm_history.proofs.Says.{Says}
 
@@ -97,68 +100,34 @@ full_says limit history entry = by (is_full limit (last_place history) (is_stop 
       before = λ earlier above within. absurd (omega arith);
     }
 
--- rule 3 is kept by a command that names no tank
-nameless_kept : (limit : ℕ) (history : History) (entry : Entry) (rule : Rule) → tank_of entry.cmd ≡ None →
-    2 < rule_number rule → rule_number rule ≤ 3 → ¬ (Breaks limit history entry rule)
-nameless_kept limit history entry UnknownTank none above within broken = let named = broken.named in cc
-nameless_kept limit history entry rule none above within broken = absurd (omega arith)
+-- a tank isn't of the site
+abbrev is_lacking : History → ℕ → Bool
+is_lacking history number = is_missing (tank_after history number)
 
--- and by one that names a tank of the site
-tank_kept : (limit : ℕ) (history : History) (entry : Entry) (number : ℕ) (tank : Tank) (rule : Rule) →
-    tank_of entry.cmd ≡ Some number → tank_after history number ≡ Some tank →
-    2 < rule_number rule → rule_number rule ≤ 3 → ¬ (Breaks limit history entry rule)
-tank_kept limit history entry number tank UnknownTank named there above within broken =
-    let other = broken.named in let missing = broken.missing in cc
-tank_kept limit history entry number tank rule named there above within broken = absurd (omega arith)
+-- a tank that tests as missing is
+missing_from : (tank : Option Tank) → is_missing tank ≡ true → tank ≡ None
+missing_from None test = refl
+missing_from (Some tank) test = cc
 
--- rule 3: the command names a tank that isn't of the site
+-- rule 3: the command gives a tank that isn't of the site
 pub tank_says : (limit : ℕ) (history : History) (entry : Entry) →
     Says (Breaks limit history entry) 2 3 (unknown_tank history entry.cmd)
 unfolding unknown_tank
-tank_says limit history entry = by (tank_of entry.cmd) refl
+tank_says limit history entry =
+    test_says (Breaks limit history entry) 2 UnknownTank (list_any (is_lacking history) (tanks_given entry.cmd)) (λ value. refl) refl there back
   where
-    of_tank : (number : ℕ) (o : Option Tank) → tank_of entry.cmd ≡ Some number → tank_after history number ≡ o →
-        Says (Breaks limit history entry) 2 3 (unless_there o)
-    of_tank number None named e = record {
-      broken = record { number = number; named = named; missing = e };
-      above = omega arith;
-      within = omega arith;
-      before = λ earlier above within. absurd (omega arith);
-    }
-    of_tank number (Some tank) named e = record {
-      kept = λ rule above within. tank_kept limit history entry number tank rule named e above within;
-    }
+    there : list_any (is_lacking history) (tanks_given entry.cmd) ≡ true → NamesNoTank history entry
+    there any =
+        let w = passed (is_lacking history) (tanks_given entry.cmd) any in
+        record { number = w.item; given = w.given; missing = missing_from (tank_after history w.item) w.passes }
 
-    by : (o : Option ℕ) → tank_of entry.cmd ≡ o →
-        Says (Breaks limit history entry) 2 3 (option_and_then (λ number. unless_there (tank_after history number)) o)
-    by None e = record { kept = λ rule above within. nameless_kept limit history entry rule e above within }
-    by (Some number) e = of_tank number (tank_after history number) e refl
-
--- rule 5 is kept where no field is out of range
-fields_kept : (limit : ℕ) (history : History) (entry : Entry) (rule : Rule) →
-    first_place is_out_of_range (fields_of entry.cmd) ≡ None →
-    3 < rule_number rule → rule_number rule ≤ 5 → ¬ (Breaks limit history entry rule)
-fields_kept limit history entry (OutOfRange field) none above within broken =
-    let found = place_of is_out_of_range (fields_of entry.cmd) field broken in cc
-fields_kept limit history entry rule none above within broken = absurd (omega arith)
-
--- no rule has number 4
-no_fourth : (rule : Rule) → 3 < rule_number rule → ¬ (rule_number rule < 5)
-no_fourth (KeyReused place) above below = absurd (omega arith)
-no_fourth rule above below = absurd (omega arith)
+    back : NamesNoTank history entry → list_any (is_lacking history) (tanks_given entry.cmd) ≡ true
+    back broken = any_passed (is_lacking history) (tanks_given entry.cmd) broken.number broken.given (ap is_missing broken.missing)
 
 -- rule 5: a numbered field is out of range, and this one first
 pub range_says : (limit : ℕ) (history : History) (entry : Entry) →
-    Says (Breaks limit history entry) 3 5 (out_of_range entry.cmd)
+    Says (Breaks limit history entry) 4 5 (out_of_range entry.cmd)
 unfolding out_of_range first_bad_field
-range_says limit history entry = by (first_place is_out_of_range (fields_of entry.cmd)) refl
-  where
-    by : (o : Option ℕ) → first_place is_out_of_range (fields_of entry.cmd) ≡ o →
-        Says (Breaks limit history entry) 3 5 (option_map OutOfRange o)
-    by None e = record { kept = λ rule above within. fields_kept limit history entry rule e above within }
-    by (Some field) e = record {
-      broken = found_place is_out_of_range (fields_of entry.cmd) field e;
-      above = omega arith;
-      within = omega arith;
-      before = λ earlier above within. absurd (no_fourth earlier above within);
-    }
+range_says limit history entry =
+    value_says (Breaks limit history entry) 4 OutOfRange (first_place is_out_of_range (fields_of entry.cmd)) (λ field. refl) (λ field. refl)
+    (found_place is_out_of_range (fields_of entry.cmd)) (place_of is_out_of_range (fields_of entry.cmd))

@@ -1,12 +1,17 @@
 -- Two commands are the same by the test exactly where they are one.
-use Rattle.std.proofs.Common.{◌≡◌, ◌↔◌, ℕ, Bool, true, false, ◌&&◌, ◌==◌, IsTrue, Decides, List, ℤ, int_eq, refl, ap, ap₂}
+use Rattle.std.proofs.Common.{◌≡◌, ◌↔◌, ℕ, Bool, true, false, ◌&&◌, ◌==◌, IsTrue, Decides, List, Option, Some, None, ℤ, int_eq, refl, ap, ap₂}
 use Rattle.std.specs.Cmp.Lexicographic.{pointwise}
 use Rattle.std.specs.Cmp.Rules.{signed_items}
 use Rattle.std.proofs.lemmas.Bool.Decides.{Decides-and, Decides-eqb, Decides-int_eq, Decides-like}
 use Rattle.farm_history.specs.declared.few.Few.{Few}
 use Rattle.farm_history.specs.declared.command.Command.{Command}
-use Rattle.farm_history.specs.declared.command.Command.TheVariants.{Gauge, Dip, Sample, Stop}
-use Rattle.farm_history.specs.Commands.{same_command, same_kind, same_list}
+use Rattle.farm_history.specs.declared.command.Command.TheVariants.{Gauge, Dip, Sample, Opening, Closing, Cancel, Reverse, Stop}
+use Rattle.farm_history.specs.declared.plan.Gauged.{Gauged}
+use Rattle.farm_history.specs.declared.plan.Plan.{Plan}
+use Rattle.farm_history.specs.declared.plan.Plan.TheVariants.{Outside, Transfer}
+use Rattle.farm_ticket.specs.declared.side.Way.{Way}
+use Rattle.farm_ticket.specs.declared.side.Way.TheVariants.{Inward, Outward}
+use Rattle.farm_history.specs.Commands.{same_command, same_gauged, same_kind, same_list, same_plan, same_second, same_way}
 
 -- two lists of the same count and numbers are one
 one_list : (few other : Few) → (few.count ≡ other.count) × (few.values ≡ other.values) → few ≡ other
@@ -30,6 +35,47 @@ kinds_decided false false = (λ _. refl, λ _. refl)
 both : {P Q : Type 0} {a b : Bool} → Decides a P → Decides b Q → Decides (a && b) (P × Q)
 both {a = a} {b = b} first second = Decides-and a b first second
 
+-- two ways are the same exactly where they are one
+ways_decided : (way other : Way) → Decides (same_way way other) (way ≡ other)
+ways_decided Inward Inward = (λ _. refl, λ _. refl)
+ways_decided Inward Outward = (λ e. cc, λ e. cc)
+ways_decided Outward Inward = (λ e. cc, λ e. cc)
+ways_decided Outward Outward = (λ _. refl, λ _. refl)
+
+-- what is named at the same places is one
+one_gauged : (gauged other : Gauged) → (gauged.reading ≡ other.reading) × (gauged.sample ≡ other.sample) → gauged ≡ other
+one_gauged gauged other same =
+    let make : ℕ → ℕ → Gauged = λ reading sample. record { reading = reading; sample = sample } in
+    ap₂ make same.0 same.1
+
+-- what is named is the same exactly where it is one
+gauged_decided : (gauged other : Gauged) → Decides (same_gauged gauged other) (gauged ≡ other)
+gauged_decided gauged other = Decides-like (same_gauged gauged other) (one_gauged gauged other)
+    (λ e. (ap (λ (g : Gauged). g.reading) e, ap (λ (g : Gauged). g.sample) e))
+    (both (Decides-eqb gauged.reading other.reading) (Decides-eqb gauged.sample other.sample))
+
+-- and what is named for second tanks
+seconds_decided : (second other : Option Gauged) → Decides (same_second second other) (second ≡ other)
+seconds_decided None None = (λ _. refl, λ _. refl)
+seconds_decided None (Some other) = (λ e. cc, λ e. cc)
+seconds_decided (Some gauged) None = (λ e. cc, λ e. cc)
+seconds_decided (Some gauged) (Some other) = Decides-like (same_gauged gauged other) (λ e. ap Some e) (λ e. cc) (gauged_decided gauged other)
+
+-- two plans are the same exactly where they are one
+plans_decided : (plan other : Plan) → Decides (same_plan plan other) (plan ≡ other)
+plans_decided (Outside way tank party gauged) (Outside way2 tank2 party2 gauged2) =
+    Decides-like (same_way way way2 && tank == tank2 && party == party2 && same_gauged gauged gauged2)
+    (λ h. let a = h.0.0.0 in let b = h.0.0.1 in let c = h.0.1 in let d = h.1 in cc)
+    (λ e. (((cc, cc), cc), cc))
+    (both (both (both (ways_decided way way2) (Decides-eqb tank tank2)) (Decides-eqb party party2)) (gauged_decided gauged gauged2))
+plans_decided (Outside way tank party gauged) (Transfer from to from_gauged to_gauged) = (λ e. cc, λ e. cc)
+plans_decided (Transfer from to from_gauged to_gauged) (Outside way tank party gauged) = (λ e. cc, λ e. cc)
+plans_decided (Transfer from to from_gauged to_gauged) (Transfer from2 to2 from_gauged2 to_gauged2) =
+    Decides-like (from == from2 && to == to2 && same_gauged from_gauged from_gauged2 && same_gauged to_gauged to_gauged2)
+    (λ h. let a = h.0.0.0 in let b = h.0.0.1 in let c = h.0.1 in let d = h.1 in cc)
+    (λ e. (((cc, cc), cc), cc))
+    (both (both (both (Decides-eqb from from2) (Decides-eqb to to2)) (gauged_decided from_gauged from_gauged2)) (gauged_decided to_gauged to_gauged2))
+
 -- the test decides whether two commands are one
 pub commands_decided : (command other : Command) → Decides (same_command command other) (command ≡ other)
 unfolding same_command
@@ -51,6 +97,15 @@ commands_decided (Sample tank density sw) (Sample tank2 density2 sw2) =
     (λ h. let a = h.0.0 in let b = h.0.1 in let c = h.1 in cc)
     (λ e. ((cc, cc), cc))
     (both (both (Decides-eqb tank tank2) (Decides-int_eq density density2)) (Decides-int_eq sw sw2))
+commands_decided (Opening plan) (Opening plan2) = Decides-like (same_plan plan plan2) (λ e. ap Opening e) (λ e. cc) (plans_decided plan plan2)
+commands_decided (Closing movement first second) (Closing movement2 first2 second2) =
+    Decides-like (movement == movement2 && same_gauged first first2 && same_second second second2)
+    (λ h. let a = h.0.0 in let b = h.0.1 in let c = h.1 in cc)
+    (λ e. ((cc, cc), cc))
+    (both (both (Decides-eqb movement movement2) (gauged_decided first first2)) (seconds_decided second second2))
+commands_decided (Cancel movement) (Cancel movement2) =
+    Decides-like (movement == movement2) (λ e. ap Cancel e) (λ e. cc) (Decides-eqb movement movement2)
+commands_decided (Reverse ticket) (Reverse ticket2) = Decides-like (ticket == ticket2) (λ e. ap Reverse e) (λ e. cc) (Decides-eqb ticket ticket2)
 commands_decided Stop Stop = (λ _. refl, λ _. refl)
 commands_decided command other = (λ e. cc, λ e. cc)
 

@@ -1,11 +1,16 @@
 -- Commands: their numbers, what makes one well formed, and when two are the same.
-use Rattle.std.specs.Prelude.{◌≡◌, ℕ, ◌-◌, ◌≤◌, ◌==◌, ◌&&◌, ◌++◌, Bool, true, false, not, if◌then◌else◌, List, take, replicate, Option, Some, None, ℤ, pos}
+use Rattle.std.specs.Prelude.{◌≡◌, ℕ, ◌-◌, ◌≤◌, ◌==◌, ◌&&◌, ◌||◌, ◌++◌, Bool, true, false, not, if◌then◌else◌, List, [], ◌∷◌, take, replicate, Option, Some, None, ℤ, pos}
 use Rattle.std.specs.Cmp.Lexicographic.{pointwise}
 use Rattle.std.specs.Ordering.{int_eq}
 use Rattle.farm_history.specs.declared.few.Few.{Few}
 use Rattle.farm_history.specs.declared.command.Command.{Command}
-use Rattle.farm_history.specs.declared.command.Command.TheVariants.{Gauge, Dip, Sample, Stop}
+use Rattle.farm_history.specs.declared.command.Command.TheVariants.{Gauge, Dip, Sample, Opening, Closing, Cancel, Reverse, Stop}
+use Rattle.farm_history.specs.declared.plan.Gauged.{Gauged}
+use Rattle.farm_history.specs.declared.plan.Plan.{Plan}
+use Rattle.farm_history.specs.declared.plan.Plan.TheVariants.{Outside, Transfer}
 use Rattle.farm_history.specs.declared.limits.TheConstants.{LONGEST_LIST}
+use Rattle.farm_ticket.specs.declared.side.Way.{Way}
+use Rattle.farm_ticket.specs.declared.side.Way.TheVariants.{Inward, Outward}
 
 -- the numbers of a short list
 abbrev pub numbers_of : Few → List ℤ
@@ -21,6 +26,10 @@ abbrev pub IsWellFormedCommand : Command → Type 0
 IsWellFormedCommand (Gauge tank level water temperature ambient) = Unit {0}
 IsWellFormedCommand (Dip tank outage tapes water temperatures ambient) = IsShortList tapes × IsShortList water × IsShortList temperatures
 IsWellFormedCommand (Sample tank density sw) = Unit {0}
+IsWellFormedCommand (Opening plan) = Unit {0}
+IsWellFormedCommand (Closing movement first second) = Unit {0}
+IsWellFormedCommand (Cancel movement) = Unit {0}
+IsWellFormedCommand (Reverse ticket) = Unit {0}
 IsWellFormedCommand Stop = Unit {0}
 
 -- two short lists are the same in their counts and in each of their eight numbers
@@ -31,6 +40,30 @@ same_list few other = few.count == other.count && pointwise int_eq few.values ot
 abbrev pub same_kind : Bool → Bool → Bool
 same_kind outage other = if outage then other else not other
 
+-- two sides go the same way
+abbrev pub same_way : Way → Way → Bool
+same_way Inward Inward = true
+same_way Outward Outward = true
+same_way way other = false
+
+-- two tanks are gauged at the same places
+abbrev pub same_gauged : Gauged → Gauged → Bool
+same_gauged gauged other = gauged.reading == other.reading && gauged.sample == other.sample
+
+-- two second tanks are, or there is none on both sides
+abbrev pub same_second : Option Gauged → Option Gauged → Bool
+same_second None None = true
+same_second (Some gauged) (Some other) = same_gauged gauged other
+same_second second other = false
+
+-- two plans are the same in each field
+abbrev pub same_plan : Plan → Plan → Bool
+same_plan (Outside way tank party gauged) (Outside way2 tank2 party2 gauged2) =
+    same_way way way2 && tank == tank2 && party == party2 && same_gauged gauged gauged2
+same_plan (Transfer from to from_gauged to_gauged) (Transfer from2 to2 from_gauged2 to_gauged2) =
+    from == from2 && to == to2 && same_gauged from_gauged from_gauged2 && same_gauged to_gauged to_gauged2
+same_plan plan other = false
+
 -- two commands are the same in each field
 unfoldable pub same_command : Command → Command → Bool
 same_command (Gauge tank level water temperature ambient) (Gauge tank2 level2 water2 temperature2 ambient2) =
@@ -39,6 +72,11 @@ same_command (Dip tank outage tapes water temperatures ambient) (Dip tank2 outag
     tank == tank2 && same_kind outage outage2 && same_list tapes tapes2 && same_list water water2
     && same_list temperatures temperatures2 && int_eq ambient ambient2
 same_command (Sample tank density sw) (Sample tank2 density2 sw2) = tank == tank2 && int_eq density density2 && int_eq sw sw2
+same_command (Opening plan) (Opening plan2) = same_plan plan plan2
+same_command (Closing movement first second) (Closing movement2 first2 second2) =
+    movement == movement2 && same_gauged first first2 && same_second second second2
+same_command (Cancel movement) (Cancel movement2) = movement == movement2
+same_command (Reverse ticket) (Reverse ticket2) = ticket == ticket2
 same_command Stop Stop = true
 same_command command other = false
 
@@ -47,9 +85,65 @@ abbrev pub is_stop : Command → Bool
 is_stop Stop = true
 is_stop command = false
 
--- the number of the tank that a command names
+-- the number of the tank that a gauging or a sample is of
 abbrev pub tank_of : Command → Option ℕ
 tank_of (Gauge tank level water temperature ambient) = Some tank
 tank_of (Dip tank outage tapes water temperatures ambient) = Some tank
 tank_of (Sample tank density sw) = Some tank
-tank_of Stop = None
+tank_of command = None
+
+-- the numbers of the tanks of a plan, in their order
+abbrev pub tanks_of_plan : Plan → List ℕ
+tanks_of_plan (Outside way tank party gauged) = tank ∷ []
+tanks_of_plan (Transfer from to from_gauged to_gauged) = from ∷ to ∷ []
+
+-- the numbers of the tanks that a command gives, in their order
+abbrev pub tanks_given : Command → List ℕ
+tanks_given (Gauge tank level water temperature ambient) = tank ∷ []
+tanks_given (Dip tank outage tapes water temperatures ambient) = tank ∷ []
+tanks_given (Sample tank density sw) = tank ∷ []
+tanks_given (Opening plan) = tanks_of_plan plan
+tanks_given command = []
+
+-- a plan names a tank
+abbrev pub names_tank : ℕ → Plan → Bool
+names_tank tank (Outside way number party gauged) = number == tank
+names_tank tank (Transfer from to from_gauged to_gauged) = from == tank || to == tank
+
+-- a command is a gauge's reading or a dip of a tank
+abbrev pub is_gauging_of : ℕ → Command → Bool
+is_gauging_of tank (Gauge number level water temperature ambient) = number == tank
+is_gauging_of tank (Dip number outage tapes water temperatures ambient) = number == tank
+is_gauging_of tank command = false
+
+-- a command is a sample of a tank
+abbrev pub is_sample_of : ℕ → Command → Bool
+is_sample_of tank (Sample number density sw) = number == tank
+is_sample_of tank command = false
+
+-- a command opens a movement that names a tank
+abbrev pub opens_on : ℕ → Command → Bool
+opens_on tank (Opening plan) = names_tank tank plan
+opens_on tank command = false
+
+-- a command closes or cancels a movement
+abbrev pub ends : ℕ → Command → Bool
+ends movement (Closing named first second) = named == movement
+ends movement (Cancel named) = named == movement
+ends movement command = false
+
+-- a command reverses a ticket
+abbrev pub reverses : ℕ → Command → Bool
+reverses ticket (Reverse named) = named == ticket
+reverses ticket command = false
+
+-- a command issues a ticket
+abbrev pub issues_ticket : Command → Bool
+issues_ticket (Closing movement first second) = true
+issues_ticket (Reverse ticket) = true
+issues_ticket command = false
+
+-- the plan of an Opening
+abbrev pub plan_of : Command → Option Plan
+plan_of (Opening plan) = Some plan
+plan_of command = None

@@ -5,8 +5,13 @@ use Rattle.std.specs.Int.{Width, w16, w32, w64, byte_len, cast_signed, from_be_b
 use Rattle.farm_base.specs.Steps.{◌>>=◌}
 use Rattle.farm_history.specs.declared.few.Few.{Few}
 use Rattle.farm_history.specs.declared.command.Command.{Command}
-use Rattle.farm_history.specs.declared.command.Command.TheVariants.{Gauge, Dip, Sample, Stop}
+use Rattle.farm_history.specs.declared.command.Command.TheVariants.{Gauge, Dip, Sample, Opening, Closing, Cancel, Reverse, Stop}
 use Rattle.farm_history.specs.declared.entry.Entry.{Entry}
+use Rattle.farm_history.specs.declared.plan.Gauged.{Gauged}
+use Rattle.farm_history.specs.declared.plan.Plan.{Plan}
+use Rattle.farm_history.specs.declared.plan.Plan.TheVariants.{Outside, Transfer}
+use Rattle.farm_ticket.specs.declared.side.Way.{Way}
+use Rattle.farm_ticket.specs.declared.side.Way.TheVariants.{Inward, Outward}
 use Rattle.farm_history.specs.declared.limits.TheConstants.{LAST_MOMENT, LONGEST_LIST}
 use Rattle.farm_history.specs.Encoding.{signed_bytes}
 
@@ -93,14 +98,69 @@ dip_at = made_at (λ f. Dip f.0 f.1.0 f.1.1.0 f.1.1.1.0 f.1.1.1.1.0 f.1.1.1.1.1)
 unfoldable pub sample_at : List ℕ → Result (Command × List ℕ) ℕ
 sample_at = made_at (λ f. Sample f.0 f.1.0 f.1.1) (number_at w16 ▸ signed_at ▸ signed_at)
 
+-- a reading and a sample that are named
+unfoldable pub gauged_at : List ℕ → Result (Gauged × List ℕ) ℕ
+gauged_at = made_at (λ f. record { reading = f.0; sample = f.1 }) (number_at w32 ▸ number_at w32)
+
+-- a byte is the way of a plan: 1 for a receipt, 2 for a delivery, 3 for a transfer
+abbrev pub is_way : ℕ → Bool
+is_way way = way == 1 || way == 2 || way == 3
+
+-- a receipt or a delivery after its way
+unfoldable pub outside_at : Way → List ℕ → Result (Plan × List ℕ) ℕ
+outside_at way = made_at (λ f. Outside way f.0 f.1.0 f.1.1) (number_at w16 ▸ number_at w16 ▸ gauged_at)
+
+-- a transfer after its way
+unfoldable pub transfer_at : List ℕ → Result (Plan × List ℕ) ℕ
+transfer_at = made_at (λ f. Transfer f.0 f.1.0 f.1.1.0 f.1.1.1) (number_at w16 ▸ number_at w16 ▸ gauged_at ▸ gauged_at)
+
+-- the plan of a way
+abbrev pub plan_of_way : ℕ → List ℕ → Result (Plan × List ℕ) ℕ
+plan_of_way way bytes =
+    if way == 1 then outside_at Inward bytes else (if way == 2 then outside_at Outward bytes else transfer_at bytes)
+
+-- a plan
+unfoldable pub plan_at : List ℕ → Result (Plan × List ℕ) ℕ
+plan_at = made_at (λ planned. planned.1) (then_at (byte_at is_way) plan_of_way)
+
+-- what is named for a second tank, after the byte that says whether anything is
+abbrev pub second_after : ℕ → List ℕ → Result (Option Gauged × List ℕ) ℕ
+second_after flag bytes = if flag == 0 then Ok (None, bytes) else made_at Some gauged_at bytes
+
+-- what is named for a second tank
+unfoldable pub second_at : List ℕ → Result (Option Gauged × List ℕ) ℕ
+second_at = made_at (λ flagged. flagged.1) (then_at (byte_at (λ flag. nat_le flag 1)) second_after)
+
+-- an Opening after its tag
+unfoldable pub opening_at : List ℕ → Result (Command × List ℕ) ℕ
+opening_at = made_at Opening plan_at
+
+-- a Closing after its tag
+unfoldable pub closing_at : List ℕ → Result (Command × List ℕ) ℕ
+closing_at = made_at (λ f. Closing f.0 f.1.0 f.1.1) (number_at w32 ▸ gauged_at ▸ second_at)
+
+-- a Cancel after its tag
+unfoldable pub cancel_at : List ℕ → Result (Command × List ℕ) ℕ
+cancel_at = made_at Cancel (number_at w32)
+
+-- a Reverse after its tag
+unfoldable pub reverse_at : List ℕ → Result (Command × List ℕ) ℕ
+reverse_at = made_at Reverse (number_at w32)
+
 -- a byte is the tag of a command
 abbrev pub is_tag : ℕ → Bool
-is_tag tag = tag == 1 || tag == 2 || tag == 3 || tag == 9
+is_tag tag = tag == 1 || tag == 2 || tag == 3 || tag == 4 || tag == 5 || tag == 6 || tag == 8 || tag == 9
 
 -- the command of a tag
 unfoldable pub fields_at : ℕ → List ℕ → Result (Command × List ℕ) ℕ
 fields_at tag bytes =
-    if tag == 1 then gauge_at bytes else (if tag == 2 then dip_at bytes else (if tag == 3 then sample_at bytes else Ok (Stop, bytes)))
+    if tag == 1 then gauge_at bytes
+    else (if tag == 2 then dip_at bytes
+    else (if tag == 3 then sample_at bytes
+    else (if tag == 4 then opening_at bytes
+    else (if tag == 5 then closing_at bytes
+    else (if tag == 6 then cancel_at bytes
+    else (if tag == 8 then reverse_at bytes else Ok (Stop, bytes)))))))
 
 -- a command
 unfoldable pub command_at : List ℕ → Result (Command × List ℕ) ℕ

@@ -1,17 +1,22 @@
 -- The sequential desk: what it answers to one request, and which history it leaves.
-use Rattle.std.specs.Prelude.{ℕ, ◌+◌, if◌then◌else◌, ℤ, pos}
+use Rattle.std.specs.Prelude.{ℕ, ◌+◌, if◌then◌else◌, Option, Some, None, ℤ, pos}
 use Rattle.std.specs.Int.RustNames.{int_lt}
 use Rattle.farm_history.specs.declared.ask.Ask.{Ask}
-use Rattle.farm_history.specs.declared.ask.Ask.TheVariants.{Do}
+use Rattle.farm_history.specs.declared.ask.Ask.TheVariants.{Do, Look}
 use Rattle.farm_history.specs.declared.command.Command.{Command}
 use Rattle.farm_history.specs.declared.entry.Entry.{Entry}
 use Rattle.farm_history.specs.declared.limits.TheConstants.{LAST_MOMENT}
+use Rattle.farm_history.specs.declared.query.Query.{Query}
+use Rattle.farm_history.specs.declared.query.Query.TheVariants as queries
 use Rattle.farm_history.specs.declared.reply.Reply.{Reply}
 use Rattle.farm_history.specs.declared.reply.Reply.TheVariants as replies
+use Rattle.farm_history.specs.declared.rule.Rule.TheVariants.{UnknownTicket}
 use Rattle.farm_history.specs.declared.verdict.Verdict.{Verdict}
 use Rattle.farm_history.specs.declared.verdict.Verdict.TheVariants as verdicts
 use Rattle.farm_history.specs.History.{History, last_moment, last_place, with_entry}
+use Rattle.farm_history.specs.Tickets.{ticket_at}
 use Rattle.farm_history.specs.Verdicts.{verdict}
+use Rattle.farm_ticket.specs.Tickets.{Ticket}
 
 -- a number of seconds brought into the range of moments
 abbrev pub brought_into_range : ℤ → ℤ
@@ -30,9 +35,23 @@ abbrev pub stamped : History → ℕ → ℤ → ℕ → ℕ → Command → Ent
 stamped history caller now account key command =
     record { caller = caller; account = account; key = key; at = stamped_moment history now; cmd = command }
 
--- the reply for the entry at a place: the place
+-- the ticket of a place, or else the place
+abbrev pub ticket_or_place : Option Ticket → ℕ → Reply
+ticket_or_place (Some ticket) place = replies.Ticket ticket
+ticket_or_place None place = replies.Placed place
+
+-- the reply for the entry at a place: the ticket of a Closing or a Reverse, and the place of any other
 unfoldable pub reply_at : History → ℕ → Reply
-reply_at history place = replies.Placed place
+reply_at history place = ticket_or_place (ticket_at history place) place
+
+-- a ticket, or that there is none
+abbrev pub ticket_or_none : Option Ticket → Reply
+ticket_or_none (Some ticket) = replies.Ticket ticket
+ticket_or_none None = replies.Refused UnknownTicket
+
+-- the reply to a look-up
+unfoldable pub looked_up : History → Query → Reply
+looked_up history (queries.Ticket place) = ticket_or_none (ticket_at history place)
 
 -- a reply, and the history that the desk has after it
 pub record Answered : Type 0 where
@@ -51,3 +70,4 @@ unfoldable pub desk_answer : ℕ → History → ℕ → ℤ → Ask → Answere
 desk_answer limit history caller now (Do account key command) =
     let entry = stamped history caller now account key command in
     answered_on history entry (verdict limit history entry)
+desk_answer limit history caller now (Look query) = record { reply = looked_up history query; history = history }

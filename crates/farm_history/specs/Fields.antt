@@ -3,7 +3,7 @@ use Rattle.std.specs.Prelude.{◌≢◌, ℕ, ◌&&◌, ◌||◌, ◌==◌, not,
 use Rattle.std.specs.List.{list_all}
 use Rattle.farm_fixed.specs.Range.{IsWithin, is_within}
 use Rattle.farm_history.specs.declared.command.Command.{Command}
-use Rattle.farm_history.specs.declared.command.Command.TheVariants.{Gauge, Dip, Sample, Stop}
+use Rattle.farm_history.specs.declared.command.Command.TheVariants.{Gauge, Dip, Sample}
 use Rattle.farm_history.specs.Commands.{numbers_of}
 use Rattle.farm_history.specs.Places.{IsFirstPlace, first_place}
 
@@ -37,7 +37,7 @@ fields_of (Gauge tank level water temperature ambient) =
 fields_of (Dip tank outage tapes water temps ambient) =
     heights false (numbers_of tapes) ∷ heights false (numbers_of water) ∷ temperatures (numbers_of temps) ∷ temperatures (ambient ∷ []) ∷ []
 fields_of (Sample tank d sw) = density d ∷ sediment_and_water sw ∷ []
-fields_of Stop = []
+fields_of command = []
 
 -- a field holds a number outside its range, or none where it has to hold one
 abbrev pub is_out_of_range : Field → Bool

@@ -9,7 +9,7 @@ use Rattle.farm_readings.specs.Readings.{innage_of, mean_temperature, tape_readi
 use Rattle.farm_rounding.specs.Table.{Row}
 use Rattle.site_items.specs.declared.records.Tank.{Tank}
 use Rattle.farm_history.specs.declared.command.Command.{Command}
-use Rattle.farm_history.specs.declared.command.Command.TheVariants.{Gauge, Dip, Sample, Stop}
+use Rattle.farm_history.specs.declared.command.Command.TheVariants.{Gauge, Dip}
 use Rattle.farm_history.specs.declared.rule.TheConstants.{BELOW_DATUM, TAPE_COUNT, TAPE_SPREAD, WATER_TAPE_COUNT, WATER_TAPE_SPREAD}
 use Rattle.farm_history.specs.Commands.{numbers_of, tank_of}
 use Rattle.farm_history.specs.History.{History, before, entry_at, tank_after}
@@ -83,8 +83,7 @@ abbrev pub gauged : List Row → ℤ → Command → Option (Result Reading ℕ)
 gauged rounding height (Gauge tank level water temperature ambient) = Some (Ok (gauge_reading rounding level water temperature ambient))
 gauged rounding height (Dip tank outage tapes water temperatures ambient) =
     Some (dip_reading rounding height outage (numbers_of tapes) (numbers_of water) (numbers_of temperatures) ambient)
-gauged rounding height (Sample tank density sw) = None
-gauged rounding height Stop = None
+gauged rounding height command = None
 
 -- a gauging of a tank: the tank as it stands, and the reading or what is wrong with the tapes
 pub record Gauging : Type 0 where

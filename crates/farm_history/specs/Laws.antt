@@ -1,5 +1,5 @@
 -- What follows from the definitions for every history.
-use Rattle.std.specs.Prelude.{◌≡◌, ◌↔◌, ℕ, Bool, IsFalse, IsTrue, List, ◌∷◌, ◌++◌, Err, ℤ}
+use Rattle.std.specs.Prelude.{◌≡◌, ◌↔◌, ℕ, Bool, IsFalse, IsTrue, List, ◌∷◌, ◌++◌, Some, Err, ℤ}
 use Rattle.farm_site.specs.Described.{Described}
 use Rattle.farm_rounding.specs.Table.{Row}
 use Rattle.farm_history.specs.declared.ask.Ask.TheVariants.{Do}
@@ -7,12 +7,18 @@ use Rattle.farm_history.specs.declared.command.Command.{Command}
 use Rattle.farm_history.specs.declared.entry.Entry.{Entry}
 use Rattle.farm_history.specs.declared.verdict.Verdict.{Verdict}
 use Rattle.farm_history.specs.declared.verdict.Verdict.TheVariants.{Accept}
-use Rattle.farm_history.specs.Commands.{IsWellFormedCommand, same_command}
+use Rattle.farm_history.specs.Commands.{IsWellFormedCommand, issues_ticket, same_command}
 use Rattle.farm_history.specs.Desk.{desk_answer, stamped}
 use Rattle.farm_history.specs.Fields.{Field, IsInRange, is_out_of_range}
 use Rattle.farm_history.specs.Gauging.{IsDipFault, dip_reading}
-use Rattle.farm_history.specs.History.{History, empty_history, followed_by}
+use Rattle.farm_history.specs.History.{History, empty_history, entry_at, followed_by}
+use Rattle.farm_history.specs.Issued.{IsTicketAt}
+use Rattle.farm_history.specs.Movements.{IsHeldBy, IsOpen, IsUsedLast, holding_movement, open_movement, used_reading}
 use Rattle.farm_history.specs.Rules.{same_key}
+use Rattle.farm_history.specs.Sites.{AreComputable}
+use Rattle.farm_history.specs.Tickets.{ticket_at}
+use Rattle.farm_history.specs.declared.plan.Plan.{Plan}
+use Rattle.farm_ticket.specs.Tickets.{Ticket}
 use Rattle.farm_history.specs.Verdicts.{IsLegal, IsVerdict, verdict}
 
 -- two commands are the same by the test exactly where they are one
@@ -28,6 +34,27 @@ abbrev pub DipFaultsMean : Type 0
 DipFaultsMean =
     (rounding : List Row) (height : ℤ) (outage : Bool) (tapes water temperatures : List ℤ) (ambient : ℤ) (number : ℕ) →
     (dip_reading rounding height outage tapes water temperatures ambient ≡ Err number) ↔ IsDipFault rounding height outage tapes water number
+
+-- the movement that is found open is the one in the words of the rule
+abbrev pub OpenMovementsMean : Type 0
+OpenMovementsMean = (history : History) (place : ℕ) (plan : Plan) → (open_movement history place ≡ Some plan) ↔ IsOpen history place plan
+
+-- a tank is held by the movement in the words of the rule
+abbrev pub HoldingsMean : Type 0
+HoldingsMean = (history : History) (tank place : ℕ) → (holding_movement history tank ≡ Some place) ↔ IsHeldBy history tank place
+
+-- the reading that is found used last for a tank is the one in the words of the rule
+abbrev pub UsesMean : Type 0
+UsesMean = (history : History) (tank reading : ℕ) → (used_reading history tank ≡ Some reading) ↔ IsUsedLast history tank reading
+
+-- a ticket is the calculation on its recorded readings, with what moved and its numbers, in the words of the rule
+abbrev pub TicketsMean : Type 0
+TicketsMean = (history : History) (place : ℕ) (ticket : Ticket) → ticket_at history place ≡ Some ticket → IsTicketAt history place ticket
+
+-- in a legal history of a site whose tanks can be computed, each Closing and each Reverse has a ticket
+abbrev pub TicketsStand : Type 0
+TicketsStand = (limit : ℕ) (history : History) (place : ℕ) (entry : Entry) → AreComputable history.site → IsLegal limit history →
+    entry_at history place ≡ Some entry → IsTrue (issues_ticket entry.cmd) → (ticket : Ticket) × (ticket_at history place ≡ Some ticket)
 
 -- the verdict is the one in the words of the rule
 abbrev pub VerdictsMean : Type 0

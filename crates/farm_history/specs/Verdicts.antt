@@ -1,21 +1,15 @@
 -- What a history says of one entry more, and which histories are legal.
-use Rattle.std.specs.Prelude.{◌≡◌, ◌≢◌, ◌⊎◌, ℕ, ◌+◌, ◌<◌, ◌≤◌, IsFalse, List, ◌∷◌, ◌++◌, Option, Some, None, Err, Ok, ◌<ℤ◌, ◌≤ℤ◌}
+use Rattle.std.specs.Prelude.{◌≡◌, ℕ, ◌<◌, IsFalse, List, ◌∷◌, ◌++◌, Option, Some, None, ◌≤ℤ◌}
 use Rattle.std.specs.List.{list_any}
-use Rattle.farm_fixed.specs.declared.records.Reading.{Reading}
-use Rattle.farm_history.specs.declared.command.Command.TheVariants.{Stop}
 use Rattle.farm_history.specs.declared.entry.Entry.{Entry}
-use Rattle.farm_history.specs.declared.limits.TheConstants.{STOPS_BEYOND_LIMIT}
 use Rattle.farm_history.specs.declared.rule.Rule.{Rule}
-use Rattle.farm_history.specs.declared.rule.Rule.TheVariants.{KeyReused, HistoryFull, UnknownTank, OutOfRange, Tape, AboveTable, WaterAboveLevel}
 use Rattle.farm_history.specs.declared.verdict.Verdict.{Verdict}
 use Rattle.farm_history.specs.declared.verdict.Verdict.TheVariants.{Repeat, Refused, Accept}
-use Rattle.farm_history.specs.Commands.{tank_of}
-use Rattle.farm_history.specs.Fields.{IsFirstBadField}
-use Rattle.farm_history.specs.Gauging.{Gauging, gauging_after}
-use Rattle.farm_history.specs.History.{History, IsWellFormed, last_moment, last_place, tank_after}
+use Rattle.farm_history.specs.Breaking.{Breaks}
+use Rattle.farm_history.specs.History.{History, IsWellFormed, last_moment}
 use Rattle.farm_history.specs.Places.{IsFirstPlace, first_place}
 use Rattle.farm_history.specs.RuleTable.{rule_number}
-use Rattle.farm_history.specs.Rules.{broken_rule, is_repeat, same_key, top_of}
+use Rattle.farm_history.specs.Rules.{broken_rule, is_repeat}
 
 -- refused by the first broken rule, or accepted
 abbrev pub refused_or_accepted : Option Rule → Verdict
@@ -31,42 +25,6 @@ repeated_or (Some place) verdict = Repeat place
 unfoldable pub verdict : ℕ → History → Entry → Verdict
 verdict limit history entry =
     repeated_or (first_place (is_repeat entry) history.entries) (refused_or_accepted (broken_rule limit history entry))
-
--- the history doesn't take the command: it has its limit and the command is no Stop, or it has its limit and as many more as may be
--- Stops
-abbrev pub IsFull : ℕ → History → Entry → Type 0
-IsFull limit history entry =
-    (limit + STOPS_BEYOND_LIMIT ≤ last_place history) ⊎ ((limit ≤ last_place history) × (entry.cmd ≢ Stop))
-
--- the command names a tank that the site doesn't have
-pub record NamesNoTank (history : History) (entry : Entry) : Type 0 where
-  pub number : ℕ
-  pub named : tank_of entry.cmd ≡ Some number
-  pub missing : tank_after history number ≡ None
-
--- the command is a gauging of a tank of the site whose tapes give no reading
-pub record HasFaultyTapes (history : History) (entry : Entry) (fault : ℕ) : Type 0 where
-  pub gauging : Gauging
-  pub of_command : gauging_after history entry.cmd ≡ Some gauging
-  pub faulty : gauging.reading ≡ Err fault
-
--- the command is a gauging of a tank of the site that gives a reading of which something holds
-pub record HasReading (history : History) (entry : Entry) (holds : Gauging → Reading → Type 0) : Type 0 where
-  pub gauging : Gauging
-  pub of_command : gauging_after history entry.cmd ≡ Some gauging
-  pub reading : Reading
-  pub given : gauging.reading ≡ Ok reading
-  pub there : holds gauging reading
-
--- an entry breaks a rule after a history that may have this many entries
-abbrev pub Breaks : ℕ → History → Entry → Rule → Type 0
-Breaks limit history entry (KeyReused place) = IsFirstPlace (same_key entry) history.entries place
-Breaks limit history entry HistoryFull = IsFull limit history entry
-Breaks limit history entry UnknownTank = NamesNoTank history entry
-Breaks limit history entry (OutOfRange field) = IsFirstBadField entry.cmd field
-Breaks limit history entry (Tape fault) = HasFaultyTapes history entry fault
-Breaks limit history entry AboveTable = HasReading history entry (λ gauging reading. top_of gauging.tank.table <ℤ reading.level)
-Breaks limit history entry WaterAboveLevel = HasReading history entry (λ gauging reading. reading.level <ℤ reading.water)
 
 -- no entry of the history has the account, the key and the command
 abbrev pub IsNew : History → Entry → Type 0

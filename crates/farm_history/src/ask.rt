@@ -1,6 +1,6 @@
 //! What a caller asks of the desk.
 
-use crate::Command;
+use crate::{Command, Query};
 
 /// One request.
 #[derive(Debug, Drop, PartialEq, Eq)]
@@ -14,4 +14,6 @@ pub enum Ask {
         /// The command.
         cmd: Command,
     },
+    /// To look something up.
+    Look(Query),
 }

@@ -1,6 +1,9 @@
 //! Commands of the desk.
 
-use crate::Few;
+ghost use Rattle.std.specs.Prelude.{◌≡◌};
+ghost use Rattle.farm_history.specs.Commands.{is_stop};
+
+use crate::{Few, Gauged, Plan};
 
 /// What a caller asks the desk to record. Numbers are whole and in the units of their quantities: heights in mm, temperatures
 /// in 0.01 C, densities in 0.1 kg/m3, sediment and water in 0.001 percent.
@@ -45,6 +48,36 @@ pub enum Command {
         /// Sediment and water.
         sw: i64,
     },
+    /// A movement is opened.
+    Opening(Plan),
+    /// A movement is closed, which issues its ticket.
+    Closing {
+        /// The place of the movement's Opening.
+        movement: u32,
+        /// What the first tank's figures at closing are computed from.
+        first: Gauged,
+        /// The same of the second tank of a transfer.
+        second: Option<Gauged>,
+    },
+    /// A movement is given up.
+    Cancel {
+        /// The place of the movement's Opening.
+        movement: u32,
+    },
+    /// A ticket is reversed by one of opposite sign.
+    Reverse {
+        /// The place of the Closing that issued it.
+        ticket: u32,
+    },
     /// The end of the desk's work.
     Stop,
+}
+
+impl Command {
+    /// Whether it is a Stop.
+    pub fn is_stop(&self) -> bool
+        ensures stop { result ≡ is_stop self.now }
+    {
+        matches!(self, Command::Stop)
+    }
 }

@@ -2,14 +2,16 @@
 
 ghost use Rattle.std.specs.Prelude.{◌≡◌, IfErr, IfOk, Ok};
 ghost use Rattle.farm_history.specs.declared.entry.Entry.{Entry};
-ghost use Rattle.farm_history.specs.Decoding.{Gives, command_at, dip_at, entry_at, gauge_at, sample_at, whole_entry};
+ghost use Rattle.farm_history.specs.Decoding.{Gives, cancel_at, closing_at, command_at, dip_at, entry_at, gauge_at, opening_at, reverse_at, sample_at, whole_entry};
 ghost use Rattle.farm_history.specs.Encoding.{IsBadEntryAt, IsTyped, entry_encoding};
 ghost use Rattle.farm_history.specs.History.{IsWellFormed};
 
 mod numbers;
+mod plans;
 
 use crate::{Command, Entry};
 use numbers::{i64_at, kind_at, list_at, moment_at, u16_at, u32_at, u64_at};
+use plans::{gauged_at, plan_at, second_at};
 use thiserror::Error;
 
 /// Bytes are no entry's. It keeps the offset, counted from 0, of the first byte after which no continuation is one, or the
@@ -74,6 +76,10 @@ fn command_at(bytes: &[u8]) -> Result<(Command, &[u8]), usize>
         [1, rest @ ..] => gauge_at(rest),
         [2, rest @ ..] => dip_at(rest),
         [3, rest @ ..] => sample_at(rest),
+        [4, rest @ ..] => opening_at(rest),
+        [5, rest @ ..] => closing_at(rest),
+        [6, rest @ ..] => cancel_at(rest),
+        [8, rest @ ..] => reverse_at(rest),
         [9, rest @ ..] => Ok((Command::Stop, rest)),
         [_, ..] => Err(bytes.len()),
     }
@@ -130,4 +136,47 @@ fn sample_at(bytes: &[u8]) -> Result<(Command, &[u8]), usize>
     let (density, rest) = i64_at(rest)?;
     let (sw, rest) = i64_at(rest)?;
     Ok((Command::Sample { tank, density, sw }, rest))
+}
+
+// The plan of an Opening.
+#[tactic(auto, unfolding(crate::specs::Decoding::opening_at))]
+fn opening_at(bytes: &[u8]) -> Result<(Command, &[u8]), usize>
+    ensures opening { Gives (λ x. (x.0, x.1.now)) result (opening_at bytes.now) }
+{
+    let (plan, rest) = plan_at(bytes)?;
+    Ok((Command::Opening(plan), rest))
+}
+
+// The fields of a Closing.
+#[tactic(auto, unfolding(crate::specs::Decoding::closing_at))]
+fn closing_at(bytes: &[u8]) -> Result<(Command, &[u8]), usize>
+    ensures closing { Gives (λ x. (x.0, x.1.now)) result (closing_at bytes.now) }
+{
+    let (movement, rest) = u32_at(bytes)?;
+    let (first, rest) = gauged_at(rest)?;
+    let (second, rest) = second_at(rest)?;
+    let closing = Command::Closing {
+        movement,
+        first,
+        second,
+    };
+    Ok((closing, rest))
+}
+
+// The movement of a Cancel.
+#[tactic(auto, unfolding(crate::specs::Decoding::cancel_at))]
+fn cancel_at(bytes: &[u8]) -> Result<(Command, &[u8]), usize>
+    ensures cancel { Gives (λ x. (x.0, x.1.now)) result (cancel_at bytes.now) }
+{
+    let (movement, rest) = u32_at(bytes)?;
+    Ok((Command::Cancel { movement }, rest))
+}
+
+// The ticket of a Reverse.
+#[tactic(auto, unfolding(crate::specs::Decoding::reverse_at))]
+fn reverse_at(bytes: &[u8]) -> Result<(Command, &[u8]), usize>
+    ensures reverse { Gives (λ x. (x.0, x.1.now)) result (reverse_at bytes.now) }
+{
+    let (ticket, rest) = u32_at(bytes)?;
+    Ok((Command::Reverse { ticket }, rest))
 }

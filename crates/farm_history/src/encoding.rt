@@ -4,14 +4,15 @@ ghost use Rattle.std.specs.Prelude.{◌≡◌, ◌+◌, ◌<◌, ◌≤◌, [], 
 ghost use Rattle.std.specs.Int.{w16, w32, w64, to_be_bytes};
 ghost use Rattle.farm_base.specs.Appended.{Appends};
 ghost use Rattle.farm_history.specs.Commands.{IsShortList, IsWellFormedCommand};
-ghost use Rattle.farm_history.specs.Encoding.{command_bytes, entry_encoding, list_bytes, signed_bytes};
+ghost use Rattle.farm_history.specs.Encoding.{command_bytes, entry_encoding, gauged_bytes, list_bytes, plan_bytes, second_bytes, signed_bytes, way_byte};
 ghost use Rattle.farm_history.specs.History.{IsWellFormed};
 ghost use Rattle.farm_history.specs.declared.limits.TheConstants.{MOST_ENTRY_BYTES};
 
 mod written;
 
-use crate::{Command, Entry, Few};
+use crate::{Command, Entry, Few, Gauged, Plan};
 use farm_base::NoMemory;
+use farm_ticket::Way;
 use written::Written;
 
 impl Entry {
@@ -79,6 +80,18 @@ impl Command {
                 put_tank(out, 3, *tank);
                 out.push_numbers(&[*density, *sw]);
             }
+            Command::Opening(plan) => put_plan(out, plan),
+            Command::Closing {
+                movement,
+                first,
+                second,
+            } => {
+                put_place(out, 5, *movement);
+                put_gauged(out, first);
+                put_second(out, second);
+            }
+            Command::Cancel { movement } => put_place(out, 6, *movement),
+            Command::Reverse { ticket } => put_place(out, 8, *ticket),
             Command::Stop => out.push(&[9]),
         }
     }
@@ -102,4 +115,84 @@ fn put_list(out: &mut Written, list: &Few)
 {
     out.push(&[list.count]);
     out.push_numbers(&list.values[..usize::from(list.count)]);
+}
+
+// Writes the tag of a command and a place.
+fn put_place(out: &mut Written, tag: u8, place: u32)
+    requires room { length out.old ≤ 24 }
+    ensures place { out.new ≡ out.old ++ (tag ∷ to_be_bytes w32 place) }
+{
+    out.push(&[tag]);
+    out.push(&place.to_be_bytes());
+}
+
+// Writes the tag of an Opening, and its plan.
+fn put_plan(out: &mut Written, plan: &Plan)
+    requires room { length out.old ≤ 24 }
+    ensures plan { out.new ≡ out.old ++ (4 ∷ plan_bytes plan.now) }
+{
+    match plan {
+        Plan::Outside {
+            way,
+            tank,
+            party,
+            gauged,
+        } => {
+            put_way(out, way_byte(*way), *tank, *party);
+            put_gauged(out, gauged);
+        }
+        Plan::Transfer {
+            from,
+            to,
+            from_gauged,
+            to_gauged,
+        } => {
+            put_way(out, 3, *from, *to);
+            put_gauged(out, from_gauged);
+            put_gauged(out, to_gauged);
+        }
+    }
+}
+
+// The byte of the way of a movement of one tank.
+fn way_byte(way: Way) -> u8
+    ensures way { result ≡ way_byte way }
+{
+    match way {
+        Way::Inward => 1,
+        Way::Outward => 2,
+    }
+}
+
+// Writes the tag of an Opening, a way and two numbers.
+fn put_way(out: &mut Written, way: u8, first: u16, second: u16)
+    requires room { length out.old ≤ 24 }
+    ensures way { out.new ≡ out.old ++ (4 ∷ way ∷ to_be_bytes w16 first ++ to_be_bytes w16 second) }
+{
+    out.push(&[4, way]);
+    out.push(&first.to_be_bytes());
+    out.push(&second.to_be_bytes());
+}
+
+// Writes a reading and a sample that are named.
+fn put_gauged(out: &mut Written, gauged: &Gauged)
+    requires room { length out.old ≤ 100 }
+    ensures gauged { out.new ≡ out.old ++ gauged_bytes gauged.now }
+{
+    out.push(&gauged.reading.to_be_bytes());
+    out.push(&gauged.sample.to_be_bytes());
+}
+
+// Writes what is named for a second tank, after a byte that says whether anything is.
+fn put_second(out: &mut Written, second: &Option<Gauged>)
+    requires room { length out.old ≤ 90 }
+    ensures second { out.new ≡ out.old ++ second_bytes second.now }
+{
+    match second {
+        None => out.push(&[0]),
+        Some(gauged) => {
+            out.push(&[1]);
+            put_gauged(out, gauged);
+        }
+    }
 }

@@ -1,12 +1,17 @@
 //! What follows from the definitions for every history.
 
-ghost use Rattle.farm_history.specs.Laws.{DeskKeepsLegal, DipFaultsMean, EmptyIsLegal, KeysActOnce, RangesMean, RepeatsChangeNothing, SameCommandsAreOne, VerdictsAreOne, VerdictsMean};
+ghost use Rattle.farm_history.specs.Laws.{DeskKeepsLegal, DipFaultsMean, EmptyIsLegal, HoldingsMean, KeysActOnce, OpenMovementsMean, RangesMean, RepeatsChangeNothing, SameCommandsAreOne, TicketsMean, TicketsStand, UsesMean, VerdictsAreOne, VerdictsMean};
 
 /// Does nothing: its contract is the laws of a history.
 pub fn laws()
     ensures same_commands_are_one { SameCommandsAreOne }
     ensures ranges_mean { RangesMean }
     ensures dip_faults_mean { DipFaultsMean }
+    ensures open_movements_mean { OpenMovementsMean }
+    ensures holdings_mean { HoldingsMean }
+    ensures uses_mean { UsesMean }
+    ensures tickets_mean { TicketsMean }
+    ensures tickets_stand { TicketsStand }
     ensures verdicts_mean { VerdictsMean }
     ensures verdicts_are_one { VerdictsAreOne }
     ensures empty_is_legal { EmptyIsLegal }

@@ -4,6 +4,7 @@ ghost use Rattle.farm_history.specs.Commands.{IsWellFormedCommand};
 ghost use Rattle.farm_history.specs.History.{IsMoment, IsWellFormed};
 
 use super::*;
+use farm_ticket::Way;
 use std::alloc::Global;
 use std::process::Abort;
 use std::test::Fail;
@@ -38,6 +39,41 @@ const DIP: [u8; 63] = [
     0xdc, 0xff, 0xff, 0xff, 0xff, 0xff, 0xff, 0xff, 0xce,
 ];
 
+/// The opening of a receipt in tank 101 from party 7, on reading 2 and sample 1.
+const RECEIPT: [u8; 38] = [
+    0, 0, 0, 0, 0, 0, 0, 1, 0, 0, 0, 0, 0, 0, 0, 1, 0, 0, 0, 0, 0x65, 0x53, 0xf1, 0, 4, 1, 0, 0x65,
+    0, 7, 0, 0, 0, 2, 0, 0, 0, 1,
+];
+
+/// The opening of a transfer from tank 101, on reading 4 and sample 1, to tank 102, on reading 7 and sample 6.
+const TRANSFER: [u8; 46] = [
+    0, 0, 0, 0, 0, 0, 0, 1, 0, 0, 0, 0, 0, 0, 0, 1, 0, 0, 0, 0, 0x65, 0x53, 0xf1, 0, 4, 3, 0, 0x65,
+    0, 0x66, 0, 0, 0, 4, 0, 0, 0, 1, 0, 0, 0, 7, 0, 0, 0, 6,
+];
+
+/// The closing of movement 3 on reading 4 and sample 1.
+const CLOSING: [u8; 38] = [
+    0, 0, 0, 0, 0, 0, 0, 1, 0, 0, 0, 0, 0, 0, 0, 1, 0, 0, 0, 0, 0x65, 0x53, 0xf1, 0, 5, 0, 0, 0, 3,
+    0, 0, 0, 4, 0, 0, 0, 1, 0,
+];
+
+/// The closing of movement 8 on reading 9 and sample 1, and for the second tank on reading 10 and sample 6.
+const CLOSING_OF_TWO: [u8; 46] = [
+    0, 0, 0, 0, 0, 0, 0, 1, 0, 0, 0, 0, 0, 0, 0, 1, 0, 0, 0, 0, 0x65, 0x53, 0xf1, 0, 5, 0, 0, 0, 8,
+    0, 0, 0, 9, 0, 0, 0, 1, 1, 0, 0, 0, 0x0a, 0, 0, 0, 6,
+];
+
+/// The cancel of movement 3.
+const CANCEL: [u8; 29] = [
+    0, 0, 0, 0, 0, 0, 0, 1, 0, 0, 0, 0, 0, 0, 0, 1, 0, 0, 0, 0, 0x65, 0x53, 0xf1, 0, 6, 0, 0, 0, 3,
+];
+
+/// The reversal of ticket 14.
+const REVERSE: [u8; 29] = [
+    0, 0, 0, 0, 0, 0, 0, 1, 0, 0, 0, 0, 0, 0, 0, 1, 0, 0, 0, 0, 0x65, 0x53, 0xf1, 0, 8, 0, 0, 0,
+    0x0e,
+];
+
 fn shared<T: Send + Sync>(value: T) -> T {
     value
 }
@@ -66,6 +102,11 @@ fn has_bytes(rt: &impl Abort, alloc: Global, entry: Entry, bytes: &[u8]) -> Resu
     assert_eq!(rt; out.as_slice(), bytes);
     assert_eq!(rt; shared(Entry::read(bytes)), Ok(entry));
     Ok(())
+}
+
+// A reading and a sample that are named.
+fn gauged(reading: u32, sample: u32) -> Gauged {
+    Gauged { reading, sample }
 }
 
 // The place of the first bad byte.
@@ -117,6 +158,51 @@ fn entries_have_their_bytes(rt: HostRuntime) -> Result<(), Fail> {
 }
 
 #[test]
+fn entries_of_movements_have_their_bytes(rt: HostRuntime) -> Result<(), Fail> {
+    let alloc = rt.alloc();
+    let receipt = Command::Opening(Plan::Outside {
+        way: Way::Inward,
+        tank: 101,
+        party: 7,
+        gauged: gauged(2, 1),
+    });
+    has_bytes(&rt, alloc, entry(1, 1_700_000_000, receipt), &RECEIPT)?;
+    let transfer = Command::Opening(Plan::Transfer {
+        from: 101,
+        to: 102,
+        from_gauged: gauged(4, 1),
+        to_gauged: gauged(7, 6),
+    });
+    has_bytes(&rt, alloc, entry(1, 1_700_000_000, transfer), &TRANSFER)?;
+    let closing = Command::Closing {
+        movement: 3,
+        first: gauged(4, 1),
+        second: None,
+    };
+    has_bytes(&rt, alloc, entry(1, 1_700_000_000, closing), &CLOSING)?;
+    let closing = Command::Closing {
+        movement: 8,
+        first: gauged(9, 1),
+        second: Some(gauged(10, 6)),
+    };
+    has_bytes(
+        &rt,
+        alloc,
+        entry(1, 1_700_000_000, closing),
+        &CLOSING_OF_TWO,
+    )
+}
+
+#[test]
+fn entries_that_end_movements_have_their_bytes(rt: HostRuntime) -> Result<(), Fail> {
+    let alloc = rt.alloc();
+    let cancel = Command::Cancel { movement: 3 };
+    has_bytes(&rt, alloc, entry(1, 1_700_000_000, cancel), &CANCEL)?;
+    let reverse = Command::Reverse { ticket: 14 };
+    has_bytes(&rt, alloc, entry(1, 1_700_000_000, reverse), &REVERSE)
+}
+
+#[test]
 fn a_bad_byte_is_refused_at_its_place(rt: HostRuntime) {
     for length in 0..STOP.len() {
         assert_eq!(&rt;
@@ -132,13 +218,17 @@ fn a_bad_byte_is_refused_at_its_place(rt: HostRuntime) {
             "a dip's first {length} bytes"
         );
     }
-    let cases: [(&[u8], usize, u8, usize); 15] = [
+    let cases: [(&[u8], usize, u8, usize); 18] = [
         (&STOP, 24, 0, 24),
-        (&STOP, 24, 4, 24),
-        (&STOP, 24, 5, 24),
-        (&STOP, 24, 6, 24),
         (&STOP, 24, 7, 24),
-        (&STOP, 24, 8, 24),
+        // The ways of a plan, and the byte of a Closing that says whether a second tank is named.
+        (&RECEIPT, 25, 0, 25),
+        (&RECEIPT, 25, 4, 25),
+        (&RECEIPT, 25, 3, 38),
+        (&CLOSING, 37, 2, 37),
+        (&CLOSING, 37, 1, 38),
+        (&CLOSING_OF_TWO, 37, 0, 38),
+        (&CANCEL, 24, 1, 29),
         (&STOP, 24, 10, 24),
         // A tag whose fields are missing.
         (&STOP, 24, 1, 25),
@@ -168,6 +258,23 @@ fn a_bad_byte_is_refused_at_its_place(rt: HostRuntime) {
             Some(want),
             "{byte} at {offset}"
         );
+    }
+    for entry in [
+        RECEIPT.as_slice(),
+        TRANSFER.as_slice(),
+        CLOSING.as_slice(),
+        CLOSING_OF_TWO.as_slice(),
+        CANCEL.as_slice(),
+        REVERSE.as_slice(),
+    ] {
+        for length in 0..entry.len() {
+            assert_eq!(&rt; bad_place(&entry[..length]), Some(length));
+        }
+        let mut longer = [0; 64];
+        if let Some(front) = longer.get_mut(..entry.len()) {
+            front.copy_from_slice(entry);
+        }
+        assert_eq!(&rt; bad_place(&longer[..entry.len() + 1]), Some(entry.len()));
     }
     // One byte more than a dip has.
     let mut longer = [0; 64];

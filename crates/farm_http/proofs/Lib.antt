@@ -1,2 +1,3 @@
 pub mod ShortLists
 pub mod Lines
+pub mod NoFloats

@@ -1,20 +1,18 @@
 -- The bodies of answers: JSON without blanks, its members in sorted order.
 use Rattle.std.specs.Prelude.{◌≡◌, ◌⊎◌, ◌↔◌, ◌++◌, ℕ, List, codes, decimal, IsSome}
-use Rattle.serde_json.specs.Data.{Members, member, no_members, number, object, unsigned}
+use Rattle.serde_json.specs.Data.{Members, no_members, object}
 use Rattle.serde_json.specs.Written.{compact_text}
-use Rattle.farm_history.specs.declared.reply.Reply.TheVariants.{Placed, Refused}
+use Rattle.farm_history.specs.declared.reply.Reply.TheVariants.{Placed, Refused, Ticket}
 use Rattle.farm_history.specs.RuleTable.{rule_number, rule_value}
+use Rattle.farm_http.specs.Tickets.{numbered, ticket_members}
 use Rattle.farm_http.specs.declared.page.Page.{Page}
 use Rattle.farm_http.specs.declared.page.Page.TheVariants as pages
-
--- a member that is a number
-abbrev pub numbered : List ℕ → ℕ → Members → Members
-numbered name value members = member name (number (unsigned value)) members
 
 -- the members of an answer
 abbrev pub members_of : Page → Members
 members_of (pages.Reply (Placed place)) = numbered (codes "place") place no_members
 members_of (pages.Reply (Refused rule)) = numbered (codes "rule") (rule_number rule) (numbered (codes "value") (rule_value rule) no_members)
+members_of (pages.Reply (Ticket ticket)) = ticket_members ticket
 members_of (pages.Status status allow) = numbered (codes "error") status no_members
 
 -- the text of an answer's body

@@ -1,3 +1,4 @@
 pub mod Members
 pub mod Requests
+pub mod Tickets
 pub mod Answers

@@ -1,20 +1,37 @@
 -- What a line of a batch asks for.
-use Rattle.std.specs.Prelude.{◌≡◌, ℕ, Bool, true, false, if◌then◌else◌, List, codes, Option, Some, None, option_and_then}
+use Rattle.std.specs.Prelude.{◌≡◌, ◌||◌, ℕ, Bool, true, false, if◌then◌else◌, List, codes, Option, Some, None, is_some, option_and_then, option_map}
 use Rattle.std.specs.Str.{bytes_eq}
 use Rattle.serde_json.specs.Data.{Data}
 use Rattle.farm_history.specs.Commands.{IsWellFormedCommand}
 use Rattle.farm_history.specs.declared.ask.Ask.{Ask}
-use Rattle.farm_history.specs.declared.ask.Ask.TheVariants.{Do}
+use Rattle.farm_history.specs.declared.ask.Ask.TheVariants.{Do, Look}
 use Rattle.farm_history.specs.declared.command.Command.{Command}
-use Rattle.farm_history.specs.declared.command.Command.TheVariants.{Gauge, Dip, Sample, Stop}
+use Rattle.farm_history.specs.declared.command.Command.TheVariants.{Gauge, Dip, Sample, Opening, Closing, Cancel, Reverse, Stop}
+use Rattle.farm_history.specs.declared.plan.Gauged.{Gauged}
+use Rattle.farm_history.specs.declared.plan.Plan.TheVariants.{Outside, Transfer}
+use Rattle.farm_history.specs.declared.query.Query.TheVariants as queries
+use Rattle.farm_ticket.specs.declared.side.Way.{Way}
+use Rattle.farm_ticket.specs.declared.side.Way.TheVariants.{Inward, Outward}
 use Rattle.farm_http.specs.Members.{◌>>=◌, few_at, natural_at, text_at, value_of, whole_at}
+use Rattle.serde_json.specs.Find.{get}
 use Rattle.farm_http.specs.declared.requests.LineAsked.{LineAsked}
 use Rattle.farm_http.specs.declared.requests.LineAsked.TheVariants as lines
-use Rattle.farm_http.specs.declared.requests.TheConstants.{GREATEST_ACCOUNT, GREATEST_KEY, GREATEST_TANK}
+use Rattle.farm_http.specs.declared.requests.TheConstants.{GREATEST_ACCOUNT, GREATEST_KEY, GREATEST_PARTY, GREATEST_PLACE, GREATEST_TANK}
 
 -- the number of a tank
-unfoldable pub tank_at : Data → Option ℕ
-tank_at value = natural_at (codes "tank") 0 GREATEST_TANK value
+unfoldable pub tank_at : List ℕ → Data → Option ℕ
+tank_at name value = natural_at name 0 GREATEST_TANK value
+
+-- a place of the history
+unfoldable pub place_at : List ℕ → Data → Option ℕ
+place_at name value = natural_at name 0 GREATEST_PLACE value
+
+-- what is named for a tank: the place of a reading and that of a sample
+unfoldable pub gauged_at : List ℕ → List ℕ → Data → Option Gauged
+gauged_at reading_name sample_name value = do
+  reading ← place_at reading_name value
+  sample ← place_at sample_name value
+  Some (record { reading = reading; sample = sample })
 
 -- whether a dip's tapes are outages, by its kind
 unfoldable pub outage_of : List ℕ → Option Bool
@@ -23,7 +40,7 @@ outage_of kind = if bytes_eq kind (codes "outage") then Some true else (if bytes
 -- a gauge's reading
 unfoldable pub gauge_of : Data → Option Command
 gauge_of value = do
-  tank ← tank_at value
+  tank ← tank_at (codes "tank") value
   level ← whole_at (codes "level") value
   water ← whole_at (codes "water") value
   temperature ← whole_at (codes "temperature") value
@@ -33,7 +50,7 @@ gauge_of value = do
 -- a dip
 unfoldable pub dip_of : Data → Option Command
 dip_of value = do
-  tank ← tank_at value
+  tank ← tank_at (codes "tank") value
   kind ← text_at (codes "kind") value
   outage ← outage_of kind
   tapes ← few_at (codes "tapes") value
@@ -45,10 +62,65 @@ dip_of value = do
 -- a sample
 unfoldable pub sample_of : Data → Option Command
 sample_of value = do
-  tank ← tank_at value
+  tank ← tank_at (codes "tank") value
   density ← whole_at (codes "density") value
   sw ← whole_at (codes "sw") value
   Some (Sample tank density sw)
+
+-- a receipt or a delivery that is opened
+unfoldable pub outside_of : Way → Data → Option Command
+outside_of way value = do
+  tank ← tank_at (codes "tank") value
+  party ← natural_at (codes "party") 0 GREATEST_PARTY value
+  gauged ← gauged_at (codes "reading") (codes "sample") value
+  Some (Opening (Outside way tank party gauged))
+
+-- a transfer that is opened
+unfoldable pub transfer_of : Data → Option Command
+transfer_of value = do
+  from ← tank_at (codes "from") value
+  to ← tank_at (codes "to") value
+  from_gauged ← gauged_at (codes "from_reading") (codes "from_sample") value
+  to_gauged ← gauged_at (codes "to_reading") (codes "to_sample") value
+  Some (Opening (Transfer from to from_gauged to_gauged))
+
+-- a movement that is opened, by its way
+unfoldable pub opening_by : List ℕ → Data → Option Command
+opening_by way value =
+    if bytes_eq way (codes "receipt") then outside_of Inward value
+    else (if bytes_eq way (codes "delivery") then outside_of Outward value
+    else (if bytes_eq way (codes "transfer") then transfer_of value else None))
+
+-- a movement that is opened
+unfoldable pub opening_of : Data → Option Command
+opening_of value = do
+  way ← text_at (codes "way") value
+  opening_by way value
+
+-- an object has one of the members of a second tank
+abbrev pub names_second : Data → Bool
+names_second value = is_some (get (codes "to_reading") value) || is_some (get (codes "to_sample") value)
+
+-- what a Closing names for a second tank: nothing where both members are missing
+unfoldable pub second_of : Data → Option (Option Gauged)
+second_of value =
+    if names_second value then option_map Some (gauged_at (codes "to_reading") (codes "to_sample") value) else Some None
+
+-- a movement that is closed
+unfoldable pub closing_of : Data → Option Command
+closing_of value = do
+  movement ← place_at (codes "movement") value
+  first ← gauged_at (codes "reading") (codes "sample") value
+  second ← second_of value
+  Some (Closing movement first second)
+
+-- a movement that is cancelled
+unfoldable pub cancel_of : Data → Option Command
+cancel_of value = option_map Cancel (place_at (codes "movement") value)
+
+-- a ticket that is reversed
+unfoldable pub reverse_of : Data → Option Command
+reverse_of value = option_map Reverse (place_at (codes "ticket") value)
 
 -- the command that is to be done, by its word
 unfoldable pub command_of : List ℕ → Data → Option Command
@@ -56,16 +128,33 @@ command_of word value =
     if bytes_eq word (codes "gauge") then gauge_of value
     else (if bytes_eq word (codes "dip") then dip_of value
     else (if bytes_eq word (codes "sample") then sample_of value
-    else (if bytes_eq word (codes "stop") then Some Stop else None)))
+    else (if bytes_eq word (codes "open") then opening_of value
+    else (if bytes_eq word (codes "close") then closing_of value
+    else (if bytes_eq word (codes "cancel") then cancel_of value
+    else (if bytes_eq word (codes "reverse") then reverse_of value
+    else (if bytes_eq word (codes "stop") then Some Stop else None)))))))
 
--- what a value asks for: an account from 1 to 999,999, a key from 0 to 2^63 - 1, and a command
-unfoldable pub ask_of_value : Data → Option Ask
-ask_of_value value = do
-  word ← text_at (codes "do") value
+-- a command that is to be done: an account from 1 to 999,999, a key from 0 to 2^63 - 1, and the command of the word
+unfoldable pub do_of : List ℕ → Data → Option Ask
+do_of word value = do
   account ← natural_at (codes "account") 1 GREATEST_ACCOUNT value
   key ← natural_at (codes "key") 0 GREATEST_KEY value
   command ← command_of word value
   Some (Do account key command)
+
+-- a ticket that is looked up, which needs no account and no key
+unfoldable pub look_of : Data → Option Ask
+look_of value = option_map (λ place. Look (queries.Ticket place)) (place_at (codes "place") value)
+
+-- what an object asks for, by its word
+unfoldable pub ask_by : List ℕ → Data → Option Ask
+ask_by word value = if bytes_eq word (codes "ticket") then look_of value else do_of word value
+
+-- what a value asks for
+unfoldable pub ask_of_value : Data → Option Ask
+ask_of_value value = do
+  word ← text_at (codes "do") value
+  ask_by word value
 
 -- what a line asks for; nothing where it is no such object
 unfoldable pub ask_of_line : List ℕ → Option Ask
@@ -86,3 +175,4 @@ IsLineRead bytes lines.NoMemory = Unit {0}
 -- what is asked for is well formed where its command is
 abbrev pub IsWellFormedAsk : Ask → Type 0
 IsWellFormedAsk (Do account key cmd) = IsWellFormedCommand cmd
+IsWellFormedAsk (Look query) = Unit {0}

@@ -8,13 +8,11 @@ ghost use Rattle.farm_base.specs.Appended.{Appends};
 ghost use Rattle.farm_http.specs.Answers.{IsAnswer, PlaceInBytes, body_text, members_of};
 
 use crate::Page;
+use crate::tickets::ticket_value;
 use farm_base::NoMemory;
 use farm_history::Reply;
 use serde_json::{Value, json};
 use std::alloc::{AllocError, Global};
-
-/// The body of a 507: it is answered where there is no memory to write another.
-pub const OUT_OF_MEMORY: &[u8] = b"{\"error\":507}";
 
 /// Appends the body of an answer. On `NoMemory` the buffer is as before.
 #[tactic(auto, unfolding(crate::specs::Answers::body_text))]
@@ -34,6 +32,7 @@ fn object_of(alloc: Global, page: &Page) -> Result<Value, AllocError>
 {
     match page {
         Page::Reply(Reply::Placed(place)) => json!(in alloc; {"place": *place}),
+        Page::Reply(Reply::Ticket(ticket)) => ticket_value(alloc, ticket),
         Page::Reply(Reply::Refused(rule)) => {
             json!(in alloc; {"rule": rule.number(), "value": rule.value()})
         }

@@ -9,10 +9,13 @@ mod commands;
 mod members;
 mod page;
 mod requests;
+mod tickets;
 
-pub use answers::{OUT_OF_MEMORY, body, laws};
+pub use answers::{body, laws};
 pub use page::{Allow, Page};
-pub use requests::{GREATEST_ACCOUNT, GREATEST_KEY, GREATEST_TANK, LineAsked, line};
+pub use requests::{
+    GREATEST_ACCOUNT, GREATEST_KEY, GREATEST_PARTY, GREATEST_PLACE, GREATEST_TANK, LineAsked, line,
+};
 
 #[cfg(test)]
 mod tests;

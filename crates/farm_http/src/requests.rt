@@ -2,11 +2,11 @@
 
 ghost use Rattle.std.specs.Prelude.{◌≡◌, IfSome};
 ghost use Rattle.serde_json.specs.View.{view};
-ghost use Rattle.farm_http.specs.Requests.{IsLineRead, IsValueRead, IsWellFormedAsk, ask_of_value};
+ghost use Rattle.farm_http.specs.Requests.{IsLineRead, IsValueRead, IsWellFormedAsk, ask_of_value, do_of, look_of};
 
-use crate::commands::command_of;
+use crate::commands::{command_of, place_at};
 use crate::members::{natural_at, text_at};
-use farm_history::Ask;
+use farm_history::{Ask, Query};
 use serde_json::Value;
 use std::alloc::Global;
 
@@ -16,6 +16,10 @@ pub const GREATEST_ACCOUNT: u32 = 999_999;
 pub const GREATEST_KEY: u64 = 9_223_372_036_854_775_807;
 /// The greatest number of a tank.
 pub const GREATEST_TANK: u16 = 65_535;
+/// The greatest number of a party.
+pub const GREATEST_PARTY: u16 = 65_535;
+/// The greatest place of a history.
+pub const GREATEST_PLACE: u32 = 4_294_967_295;
 
 /// What a line asks for.
 #[derive(Debug, Drop, PartialEq, Eq)]
@@ -55,12 +59,33 @@ fn asked(value: &Value) -> LineAsked
 }
 
 // What a value asks for, where it asks for something.
-#[tactic(auto, unfolding(crate::specs::Requests::ask_of_value))]
+#[tactic(auto, unfolding(crate::specs::Requests::ask_of_value, crate::specs::Requests::ask_by))]
 fn ask_of_value(value: &Value) -> Option<Ask>
     ensures value { result ≡ ask_of_value (view value.now) }
     ensures well_formed { IfSome result IsWellFormedAsk }
 {
-    let word = text_at(value, "do")?;
+    match text_at(value, "do")? {
+        "ticket" => look_of(value),
+        word => do_of(word, value),
+    }
+}
+
+// A ticket that is looked up.
+#[tactic(auto, unfolding(crate::specs::Requests::look_of))]
+fn look_of(value: &Value) -> Option<Ask>
+    ensures value { result ≡ look_of (view value.now) }
+    ensures well_formed { IfSome result IsWellFormedAsk }
+{
+    let place = place_at(value, "place")?;
+    Some(Ask::Look(Query::Ticket(place)))
+}
+
+// A command that is to be done, by its word.
+#[tactic(auto, unfolding(crate::specs::Requests::do_of))]
+fn do_of(word: &str, value: &Value) -> Option<Ask>
+    ensures value { result ≡ do_of word.now (view value.now) }
+    ensures well_formed { IfSome result IsWellFormedAsk }
+{
     let account = natural_at(value, "account", 1, u64::from(GREATEST_ACCOUNT))?;
     let key = natural_at(value, "key", 0, GREATEST_KEY)?;
     Some(Ask::Do {

@@ -11,6 +11,7 @@ use Rattle.site_keys.specs.Faults.{IsMissing}
 use Rattle.farm_site.specs.Described.{site_of_files}
 use Rattle.farm_run.specs.Answers.{calc_of, table_of}
 use Rattle.farm_run.specs.Texts.{usage_line, no_memory, port_fault, refusal_text, site_refused_text}
+use Rattle.batch_lines.specs.Reader.{count_of}
 
 -- whether a command makes calls on the input
 abbrev pub uses_input : Option Subcommand → Bool
@@ -36,10 +37,6 @@ pub record Output : Type 0 where
   pub old : Option (List ℕ)
   pub new : Option (List ℕ)
   pub count : Count
-
--- a port's count before and after, by what the port counts
-abbrev pub count_of : {P : Type 0} → (P → ℕ) → P → P → Count
-count_of faults old new = record { before = faults old; now = faults new }
 
 -- an output before and after, by what it holds and counts
 abbrev pub output_of : {K : Type 0} → (K → Option (List ℕ)) → (K → ℕ) → K → K → Output

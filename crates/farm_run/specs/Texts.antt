@@ -27,13 +27,17 @@ cause_word (Chain NoEntry) = codes "NoEntry"
 cause_word (Chain CriticalZone) = codes "CriticalZone"
 cause_word (Chain Negative) = codes "Negative"
 
--- 4: the input is refused at a line
-unfoldable pub refusal_text : Refused → List ℕ
-refusal_text why = codes "input refused at line " ++ (decimal why.line ++ (codes ": " ++ (cause_word why.cause ++ codes "\n")))
+-- 4: an input is refused at the line of this number, for the cause that a word says
+unfoldable pub refused_at : ℕ → List ℕ → List ℕ
+refused_at number word = codes "input refused at line " ++ (decimal number ++ (codes ": " ++ (word ++ codes "\n")))
 
--- 4: a batch is refused at a line that is one too many, or holds a byte too many
+-- an input of calc is refused
+unfoldable pub refusal_text : Refused → List ℕ
+refusal_text why = refused_at why.line (cause_word why.cause)
+
+-- a batch is refused at a line that is one too many, or holds a byte too many
 unfoldable pub too_long_text : ℕ → List ℕ
-too_long_text number = codes "input refused at line " ++ (decimal number ++ codes ": long\n")
+too_long_text number = refused_at number (codes "long")
 
 -- 2: the folder describes no site
 unfoldable pub site_refused_text : SiteFault → List ℕ

@@ -3,7 +3,8 @@
 ghost use Rattle.std.specs.Prelude.{◌≡◌, ◌≤◌};
 ghost use Rattle.farm_base.specs.Known.{Stays};
 ghost use Rattle.farm_run.specs.BatchRuns.{BatchRun, SiteBatch};
-ghost use Rattle.farm_run.specs.Runs.{count_of, output_of};
+ghost use Rattle.batch_lines.specs.Reader.{count_of};
+ghost use Rattle.farm_run.specs.Runs.{output_of};
 ghost use Rattle.farm_site.specs.Sites.{described};
 
 use crate::program::{DONE, REFUSED, SITE_REFUSED, refuse, report_fault, report_no_memory};

@@ -9,7 +9,8 @@ ghost use Rattle.calc_input.specs.declared.refusal.Refused.{Refused};
 ghost use Rattle.farm_run.specs.Answers.{calc_of, calc_text};
 ghost use Rattle.farm_run.specs.BatchRuns.{BatchRun};
 ghost use Rattle.farm_run.specs.Texts.{port_fault, refusal_text};
-ghost use Rattle.farm_run.specs.Runs.{Answers, CalcRun, Delivers, LacksMemory, Puts, Refuses, StopsAtMissing, TableRun, UsageRun, count_of, given, output_of, uses_folder, uses_input};
+ghost use Rattle.batch_lines.specs.Reader.{count_of};
+ghost use Rattle.farm_run.specs.Runs.{Answers, CalcRun, Delivers, LacksMemory, Puts, Refuses, StopsAtMissing, TableRun, UsageRun, given, output_of, uses_folder, uses_input};
 
 use crate::batch_run::batch;
 use crate::texts::{NO_MEMORY, PORT_FAULT, USAGE, refusal_text, site_refused_text};

@@ -1,7 +1,7 @@
 //! The lines that end a run with a status other than 0.
 
 ghost use Rattle.std.specs.Prelude.{◌≡◌, IfOk};
-ghost use Rattle.farm_run.specs.Texts.{cause_word, refusal_text, site_refused_text, too_long_text};
+ghost use Rattle.farm_run.specs.Texts.{cause_word, refusal_text, refused_at, site_refused_text, too_long_text};
 
 use calc_input::{Cause, Refused};
 use farm_fixed::{ChainRule, NoMemory};
@@ -42,18 +42,7 @@ pub fn site_refused_text(alloc: Global, fault: SiteFault) -> Result<Vec<u8>, NoM
 pub fn refusal_text(alloc: Global, why: Refused) -> Result<Vec<u8>, NoMemory>
     ensures line { IfOk result (λ text. text.items ≡ refusal_text why) }
 {
-    let mut text = Vec::new(alloc);
-    append(
-        &mut text,
-        &[
-            Piece::Text(b"input refused at line "),
-            Piece::Number(why.line),
-            Piece::Text(b": "),
-            Piece::Text(cause_word(why.cause)),
-            Piece::Text(b"\n"),
-        ],
-    )?;
-    Ok(text)
+    refused_at(alloc, why.line, cause_word(why.cause))
 }
 
 /// The line of a batch that is refused at a line too many.
@@ -61,13 +50,23 @@ pub fn refusal_text(alloc: Global, why: Refused) -> Result<Vec<u8>, NoMemory>
 pub fn too_long_text(alloc: Global, number: u64) -> Result<Vec<u8>, NoMemory>
     ensures line { IfOk result (λ text. text.items ≡ too_long_text number) }
 {
+    refused_at(alloc, number, b"long")
+}
+
+// The line of an input that is refused at the line of this number, for the cause that a word says.
+#[tactic(auto, unfolding(crate::specs::Texts::refused_at))]
+fn refused_at(alloc: Global, number: u64, word: &[u8]) -> Result<Vec<u8>, NoMemory>
+    ensures line { IfOk result (λ text. text.items ≡ refused_at number word.now) }
+{
     let mut text = Vec::new(alloc);
     append(
         &mut text,
         &[
             Piece::Text(b"input refused at line "),
             Piece::Number(number),
-            Piece::Text(b": long\n"),
+            Piece::Text(b": "),
+            Piece::Text(word),
+            Piece::Text(b"\n"),
         ],
     )?;
     Ok(text)

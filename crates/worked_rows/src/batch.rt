@@ -1,6 +1,8 @@
 //! `batch` on the row site.
 
 use crate::running::{answer_from, source_of};
+use farm_batch::BatchEnd;
+use farm_history::{Gauged, Named, Query};
 use std::alloc::Global;
 use std::test::Fail;
 
@@ -131,4 +133,26 @@ fn nothing_is_taken_after_a_stop(rt: HostRuntime) -> Result<(), Fail> {
     );
     assert_eq!(rt; source.left(), b"\n".as_slice());
     Ok(())
+}
+
+fn shared<T: Send + Sync>(value: T) -> T {
+    value
+}
+
+#[test]
+fn how_a_batch_ended_may_go_to_another_thread(rt: HostRuntime) {
+    assert_eq!(&rt; shared(BatchEnd::Long(3)), BatchEnd::Long(3));
+}
+
+#[test]
+fn what_is_looked_up_and_named_may_go_to_another_thread(rt: HostRuntime) {
+    assert_eq!(&rt; shared(Query::Ticket(5)), Query::Ticket(5));
+    let named = Named {
+        tank: 101,
+        gauged: Gauged {
+            reading: 4,
+            sample: 1,
+        },
+    };
+    assert_eq!(&rt; shared(named), named);
 }

@@ -1,29 +1,21 @@
-use Rattle.std.proofs.Common.{◌≡◌, Bool, ◌&&◌, ℤ, sym, ap, ◌∙◌, rules}
+use Rattle.std.proofs.Common.{◌≡◌, ℤ, Some, sym, subst, rules}
 use Rattle.std.specs.Int.{w64}
 use Rattle.std.proofs.lemmas.Int.{to_z-of_z}
-use Rattle.farm_history.specs.Desk.{stamped}
-use Rattle.farm_batch.specs.declared.limits.TheConstants.{BATCH_CALLER}
-use Rattle.farm_batch.proofs.Meant.{desk_is_meant, meets}
+use Rattle.farm_history.specs.declared.ask.Ask.{Ask}
+use Rattle.farm_history.specs.declared.ask.Ask.TheVariants.{Do}
+use Rattle.farm_batch.specs.Answers.{MeetsLine, answer_to}
+use Rattle.farm_batch.proofs.Meant.{look_is_meant, meets}
 use Rattle.farm_batch.proofs.answers.answer_ask.Goals as goal
 
-pub returns-then-stop-clause-meant : goal.returns-then-stop-clause-meant
-returns-then-stop-clause-meant g c =
-    let stop : Bool = c.is_stop-stop.result in
-    let accepted : Bool = c.in-Ok.replied.accepted in
-    let stops : accepted ≡ (stop && accepted) = ap (λ stop. stop && accepted) (sym c.if-stop.true) in
-    let entry_is = c.entry_of-entry.ensures.entry ∙ ap (λ (now : ℤ). stamped c.args.book.now.history BATCH_CALLER now
-    c.parts-account.result.0 c.parts-account.result.1 c.parts-account.result.2) (to_z-of_z w64 c.args.now (search rules)) in
-    meets _ _ _ _ _ (desk_is_meant g.row.LIMIT c.args.book.now.history c.ask_desk.new.book.history c.args.now c.args.ask _ _ _ c.entry_of-entry.result
-    c.in-Ok.replied.reply stop accepted accepted c.parts-account.ensures.parts entry_is
-    c.in-Ok.ensures.answered c.in-Ok.ensures.accepted c.is_stop-stop.ensures.stop stops)
+pub returns-in-Do-clause-meant : goal.returns-in-Do-clause-meant
+returns-in-Do-clause-meant g c =
+    let before = c.args.book.now.history in
+    let after = c.answer_command.new.book.history in
+    let answer = c.answer_command.result in
+    let meant = subst (λ (now : ℤ). MeetsLine before after (answer_to g.row.LIMIT before now (Some (Do c.in-Do.account c.in-Do.key c.in-Do.cmd))) answer.page answer.stops)
+    (to_z-of_z w64 c.args.now (search rules)) c.answer_command.ensures.meant in
+    subst (λ (ask : Ask). MeetsLine before after (answer_to g.row.LIMIT before c.args.now (Some ask)) answer.page answer.stops) (sym c.in-Do.is) meant
 
-pub returns-else-stop-clause-meant : goal.returns-else-stop-clause-meant
-returns-else-stop-clause-meant g c =
-    let stop : Bool = c.is_stop-stop.result in
-    let accepted : Bool = c.in-Ok.replied.accepted in
-    let stops : stop ≡ (stop && accepted) = c.if-stop.false ∙ ap (λ stop. stop && accepted) (sym c.if-stop.false) in
-    let entry_is = c.entry_of-entry.ensures.entry ∙ ap (λ (now : ℤ). stamped c.args.book.now.history BATCH_CALLER now
-    c.parts-account.result.0 c.parts-account.result.1 c.parts-account.result.2) (to_z-of_z w64 c.args.now (search rules)) in
-    meets _ _ _ _ _ (desk_is_meant g.row.LIMIT c.args.book.now.history c.ask_desk.new.book.history c.args.now c.args.ask _ _ _ c.entry_of-entry.result
-    c.in-Ok.replied.reply stop accepted stop c.parts-account.ensures.parts entry_is
-    c.in-Ok.ensures.answered c.in-Ok.ensures.accepted c.is_stop-stop.ensures.stop stops)
+pub returns-in-Look-clause-meant : goal.returns-in-Look-clause-meant
+returns-in-Look-clause-meant g c =
+    meets _ _ _ _ _ (look_is_meant g.row.LIMIT c.args.book.now.history c.args.now c.args.ask c.in-Look.query _ c.in-Look.is c.look.ensures.looked_up)

@@ -1,9 +1,14 @@
-use Rattle.farm_history.proofs.Legal.{desk_keeps_legal, empty_is_legal}
 use Rattle.farm_history.proofs.Dips.{dip_faults_mean}
+use Rattle.farm_history.proofs.Holdings.{holdings_mean}
+use Rattle.farm_history.proofs.Legal.{desk_keeps_legal, empty_is_legal}
+use Rattle.farm_history.proofs.OpenMovements.{open_movements_mean}
 use Rattle.farm_history.proofs.Ranges.{ranges_mean}
-use Rattle.farm_history.proofs.Verdicts.{verdicts_are_one, verdicts_mean}
-use Rattle.farm_history.proofs.SameCommands.{same_commands_are_one}
 use Rattle.farm_history.proofs.Repeats.{keys_act_once, repeats_change_nothing}
+use Rattle.farm_history.proofs.SameCommands.{same_commands_are_one}
+use Rattle.farm_history.proofs.TicketsMean.{tickets_mean}
+use Rattle.farm_history.proofs.TicketsStand.{tickets_stand}
+use Rattle.farm_history.proofs.Uses.{uses_mean}
+use Rattle.farm_history.proofs.Verdicts.{verdicts_are_one, verdicts_mean}
 use Rattle.farm_history.proofs.history_laws.laws.Goals as goal
 
 pub returns-clause-same_commands_are_one : goal.returns-clause-same_commands_are_one
@@ -14,6 +19,21 @@ returns-clause-ranges_mean c = ranges_mean
 
 pub returns-clause-dip_faults_mean : goal.returns-clause-dip_faults_mean
 returns-clause-dip_faults_mean c = dip_faults_mean
+
+pub returns-clause-open_movements_mean : goal.returns-clause-open_movements_mean
+returns-clause-open_movements_mean c = open_movements_mean
+
+pub returns-clause-holdings_mean : goal.returns-clause-holdings_mean
+returns-clause-holdings_mean c = holdings_mean
+
+pub returns-clause-uses_mean : goal.returns-clause-uses_mean
+returns-clause-uses_mean c = uses_mean
+
+pub returns-clause-tickets_mean : goal.returns-clause-tickets_mean
+returns-clause-tickets_mean c = tickets_mean
+
+pub returns-clause-tickets_stand : goal.returns-clause-tickets_stand
+returns-clause-tickets_stand c = tickets_stand
 
 pub returns-clause-verdicts_mean : goal.returns-clause-verdicts_mean
 returns-clause-verdicts_mean c = verdicts_mean

@@ -3,7 +3,7 @@ use Rattle.std.specs.Int.{w64}
 use Rattle.std.proofs.lemmas.Int.{to_z-of_z}
 use mir.Val.{SFits}
 use Rattle.farm_history.specs.Encoding.{command_bytes}
-use Rattle.farm_history.proofs.Joined.{two_joined, six_joined, dip_bytes, kind-from_bool}
+use Rattle.farm_history.proofs.Joined.{two_joined, three_joined, six_joined, dip_bytes, kind-from_bool}
 use Rattle.farm_history.proofs.command.Command.put.Goals as goal
 
 pub put_list-requires-in-Dip-clause-room : goal.put_list-requires-in-Dip-clause-room
@@ -53,6 +53,30 @@ returns-in-Sample c = record {
       let numbers = simp to_z-of_z at c.push_numbers-in-Sample.ensures.pushed in
       two_joined c.args.out.now _ _ _ _ c.put_tank-in-Sample.ensures.tank numbers
       ∙ ap (λ command. c.args.out.now ++ command_bytes command) (sym c.in-Sample.is);
+}
+
+pub returns-in-Opening : goal.returns-in-Opening
+unfolding command_bytes
+returns-in-Opening c = record { command = c.put_plan.ensures.plan ∙ ap (λ command. c.args.out.now ++ command_bytes command) (sym c.in-Opening.is) }
+
+pub returns-in-Closing : goal.returns-in-Closing
+unfolding command_bytes
+returns-in-Closing c = record {
+  command =
+      three_joined c.args.out.now _ _ _ _ _ _ c.put_place.ensures.place c.put_gauged.ensures.gauged c.put_second.ensures.second
+      ∙ ap (λ command. c.args.out.now ++ command_bytes command) (sym c.in-Closing.is);
+}
+
+pub returns-in-Cancel : goal.returns-in-Cancel
+unfolding command_bytes
+returns-in-Cancel c = record {
+  command = c.put_place-in-Cancel.ensures.place ∙ ap (λ command. c.args.out.now ++ command_bytes command) (sym c.in-Cancel.is);
+}
+
+pub returns-in-Reverse : goal.returns-in-Reverse
+unfolding command_bytes
+returns-in-Reverse c = record {
+  command = c.put_place-in-Reverse.ensures.place ∙ ap (λ command. c.args.out.now ++ command_bytes command) (sym c.in-Reverse.is);
 }
 
 pub returns-in-Stop : goal.returns-in-Stop

@@ -1,0 +1,164 @@
+//! The rules on movements and tickets, in the order of their numbers. Each is a function that answers the rule where the command
+//! breaks it. Rules 13 to 19 stand in `named_rules` and `figure_rules`.
+
+ghost use Rattle.std.specs.Prelude.{◌≡◌};
+ghost use Rattle.farm_entries.specs.Pasts.{IsReadable, history_of};
+ghost use Rattle.farm_history.specs.Commands.{tanks_of_plan};
+ghost use Rattle.farm_history.specs.Given.{first_given};
+ghost use Rattle.farm_history.specs.MovementRules.{already_reversed, is_closing, movement_named, no_movement, other_product, same_tank, tank_busy, unknown_party, unknown_ticket};
+ghost use Rattle.farm_history.specs.Movements.{holding_movement};
+ghost use Rattle.farm_history.specs.Rules.{broken_by_movement, broken_by_names};
+
+use crate::named_rules::broken_by_names;
+use farm_entries::Past;
+use farm_history::{Command, Plan, Rule};
+use site_keys::item_numbered;
+
+/// The first rule on movements and tickets that a command breaks.
+#[tactic(auto, unfolding(farm_history::specs::Rules::broken_by_movement))]
+pub fn broken_by_movement(past: &Past<'_>, command: &Command) -> Option<Rule>
+    requires readable { IsReadable (history_of past.now.site.now past.now.entries.now) }
+    ensures broken { result ≡ broken_by_movement (history_of past.now.site.now past.now.entries.now) command.now }
+{
+    if let Some(rule) = same_tank(command) {
+        return Some(rule);
+    }
+    if let Some(rule) = other_product(past, command) {
+        return Some(rule);
+    }
+    if let Some(rule) = tank_busy(past, command) {
+        return Some(rule);
+    }
+    if let Some(rule) = no_movement(past, command) {
+        return Some(rule);
+    }
+    if let Some(rule) = broken_by_names(past, command) {
+        return Some(rule);
+    }
+    if let Some(rule) = unknown_ticket(past, command) {
+        return Some(rule);
+    }
+    already_reversed(past, command)
+}
+
+/// Rule 4: the party of a receipt or a delivery isn't of the site.
+#[tactic(auto, unfolding(farm_history::specs::MovementRules::unknown_party))]
+pub fn unknown_party(past: &Past<'_>, command: &Command) -> Option<Rule>
+    ensures rule { result ≡ unknown_party (history_of past.now.site.now past.now.entries.now) command.now }
+{
+    let Command::Opening(Plan::Outside { party, .. }) = command else {
+        return None;
+    };
+    match item_numbered(*party, past.site.parties.get()) {
+        Some(_) => None,
+        None => Some(Rule::UnknownParty),
+    }
+}
+
+// Rule 9: a transfer gives one tank twice.
+#[tactic(auto, unfolding(farm_history::specs::MovementRules::same_tank))]
+fn same_tank(command: &Command) -> Option<Rule>
+    ensures rule { result ≡ same_tank command.now }
+{
+    match command {
+        Command::Opening(Plan::Transfer { from, to, .. }) if *from == *to => Some(Rule::SameTank),
+        _ => None,
+    }
+}
+
+// Rule 10: the two tanks of a transfer hold different products.
+#[tactic(auto, unfolding(farm_history::specs::MovementRules::other_product, farm_history::specs::History::tank_after))]
+fn other_product(past: &Past<'_>, command: &Command) -> Option<Rule>
+    ensures rule { result ≡ other_product (history_of past.now.site.now past.now.entries.now) command.now }
+{
+    let Command::Opening(Plan::Transfer { from, to, .. }) = command else {
+        return None;
+    };
+    let tank = past.site.tank(*from)?;
+    let other = past.site.tank(*to)?;
+    if tank.product == other.product {
+        return None;
+    }
+    Some(Rule::OtherProduct)
+}
+
+// Rule 11: a tank of an Opening is named by an open movement.
+#[tactic(auto, unfolding(farm_history::specs::MovementRules::tank_busy))]
+fn tank_busy(past: &Past<'_>, command: &Command) -> Option<Rule>
+    requires readable { IsReadable (history_of past.now.site.now past.now.entries.now) }
+    ensures rule { result ≡ tank_busy (history_of past.now.site.now past.now.entries.now) command.now }
+{
+    let Command::Opening(plan) = command else {
+        return None;
+    };
+    Some(Rule::TankBusy(holding(past, plan)?))
+}
+
+// The place of the movement that holds a tank of a plan, the first tank's first.
+fn holding(past: &Past<'_>, plan: &Plan) -> Option<u32>
+    requires readable { IsReadable (history_of past.now.site.now past.now.entries.now) }
+    ensures holding { result ≡ first_given (holding_movement (history_of past.now.site.now past.now.entries.now)) (tanks_of_plan plan.now) }
+{
+    match plan {
+        Plan::Outside { tank, .. } => past.holding_movement(*tank),
+        Plan::Transfer { from, to, .. } => match past.holding_movement(*from) {
+            Some(place) => Some(place),
+            None => past.holding_movement(*to),
+        },
+    }
+}
+
+// Rule 12: the movement of a Closing or a Cancel isn't the place of an open movement.
+#[tactic(auto, unfolding(farm_history::specs::MovementRules::no_movement))]
+fn no_movement(past: &Past<'_>, command: &Command) -> Option<Rule>
+    ensures rule { result ≡ no_movement (history_of past.now.site.now past.now.entries.now) command.now }
+{
+    let movement = movement_named(command)?;
+    match past.open_movement(movement) {
+        Some(_) => None,
+        None => Some(Rule::NoMovement),
+    }
+}
+
+// The movement that a Closing or a Cancel names.
+fn movement_named(command: &Command) -> Option<u32>
+    ensures named { result ≡ movement_named command.now }
+{
+    match command {
+        Command::Closing { movement, .. } | Command::Cancel { movement } => Some(*movement),
+        _ => None,
+    }
+}
+
+// Rule 20: the ticket of a Reverse isn't a Closing.
+#[tactic(auto, unfolding(farm_history::specs::MovementRules::unknown_ticket))]
+fn unknown_ticket(past: &Past<'_>, command: &Command) -> Option<Rule>
+    ensures rule { result ≡ unknown_ticket (history_of past.now.site.now past.now.entries.now) command.now }
+{
+    let Command::Reverse { ticket } = command else {
+        return None;
+    };
+    match past.entry_at(*ticket) {
+        Some(entry) if is_closing(&entry.cmd) => None,
+        _ => Some(Rule::UnknownTicket),
+    }
+}
+
+// Whether a command is a Closing.
+fn is_closing(command: &Command) -> bool
+    ensures closing { result ≡ is_closing command.now }
+{
+    matches!(command, Command::Closing { .. })
+}
+
+// Rule 21: a Reverse names the ticket already.
+#[tactic(auto, unfolding(farm_history::specs::MovementRules::already_reversed))]
+fn already_reversed(past: &Past<'_>, command: &Command) -> Option<Rule>
+    requires readable { IsReadable (history_of past.now.site.now past.now.entries.now) }
+    ensures rule { result ≡ already_reversed (history_of past.now.site.now past.now.entries.now) command.now }
+{
+    let Command::Reverse { ticket } = command else {
+        return None;
+    };
+    Some(Rule::AlreadyReversed(past.reversal_of(*ticket)?))
+}

@@ -1,0 +1,167 @@
+//! The rules on what a command names for its tanks, 13 to 15; those on the figures that follow from it stand in `figure_rules`.
+
+ghost use Rattle.std.specs.Prelude.{◌≡◌, not};
+ghost use Rattle.std.specs.List.{list_any};
+ghost use Rattle.farm_entries.specs.Pairs.{listed, listed_one};
+ghost use Rattle.farm_entries.specs.Pasts.{IsReadable, history_of};
+ghost use Rattle.farm_history.specs.Commands.{is_gauging_of, is_sample_of};
+ghost use Rattle.farm_history.specs.Figures.{named_by};
+ghost use Rattle.farm_history.specs.Given.{first_given};
+ghost use Rattle.farm_history.specs.MovementRules.{has_reading, has_sample, names_each, names_too_few_or_many, stale_for, stale_reading, unknown_reading, unknown_sample};
+ghost use Rattle.farm_history.specs.Rules.{broken_by_figures, broken_by_names};
+
+use crate::figure_rules::broken_by_figures;
+use farm_entries::{Pairs, Past};
+use farm_history::{Command, Gauged, Named, Plan, Rule};
+
+/// The first rule that is broken by what a command names for its tanks.
+#[tactic(auto, unfolding(farm_history::specs::Rules::broken_by_names))]
+pub fn broken_by_names(past: &Past<'_>, command: &Command) -> Option<Rule>
+    requires readable { IsReadable (history_of past.now.site.now past.now.entries.now) }
+    ensures broken { result ≡ broken_by_names (history_of past.now.site.now past.now.entries.now) command.now }
+{
+    let pairs = past.named_by(command);
+    if let Some(rule) = unknown_reading(past, command, &pairs) {
+        return Some(rule);
+    }
+    if let Some(rule) = unknown_sample(past, command, &pairs) {
+        return Some(rule);
+    }
+    if let Some(rule) = stale_reading(past, command, &pairs) {
+        return Some(rule);
+    }
+    broken_by_figures(past, command, &pairs)
+}
+
+// Rule 13: a named reading isn't one of that tank, or a Closing names too few or too many.
+#[tactic(auto, unfolding(farm_history::specs::MovementRules::unknown_reading))]
+fn unknown_reading(past: &Past<'_>, command: &Command, pairs: &Pairs) -> Option<Rule>
+    requires pairs { listed pairs.now ≡ named_by (history_of past.now.site.now past.now.entries.now) command.now }
+    ensures rule { result ≡ unknown_reading (history_of past.now.site.now past.now.entries.now) command.now }
+{
+    if names_too_few_or_many(past, command)
+        || lacks_reading(past, &pairs.first)
+        || lacks_reading(past, &pairs.second)
+    {
+        return Some(Rule::UnknownReading);
+    }
+    None
+}
+
+// Whether a command is a Closing that names another number of readings than its movement has tanks.
+fn names_too_few_or_many(past: &Past<'_>, command: &Command) -> bool
+    ensures names { result ≡ names_too_few_or_many (history_of past.now.site.now past.now.entries.now) command.now }
+{
+    let Command::Closing {
+        movement,
+        second,
+        ..
+    } = command
+    else {
+        return false;
+    };
+    match past.opened_at(*movement) {
+        Some(plan) => !names_each(&plan, second),
+        None => false,
+    }
+}
+
+// Whether a Closing names two readings for a transfer, and one for another movement.
+fn names_each(plan: &Plan, second: &Option<Gauged>) -> bool
+    ensures names { result ≡ names_each plan.now second.now }
+{
+    match plan {
+        Plan::Outside { .. } => second.is_none(),
+        Plan::Transfer { .. } => second.is_some(),
+    }
+}
+
+// Whether a reading is named that isn't a gauge's reading or a dip of its tank.
+fn lacks_reading(past: &Past<'_>, pair: &Option<Named>) -> bool
+    ensures lacks { result ≡ list_any (λ pair. not (has_reading (history_of past.now.site.now past.now.entries.now) pair)) (listed_one pair.now) }
+{
+    let Some(pair) = pair else {
+        return false;
+    };
+    match past.entry_at(pair.gauged.reading) {
+        Some(entry) => !is_gauging_of(pair.tank, &entry.cmd),
+        None => true,
+    }
+}
+
+// Whether a command is a gauge's reading or a dip of a tank.
+fn is_gauging_of(tank: u16, command: &Command) -> bool
+    ensures gauging { result ≡ is_gauging_of tank command.now }
+{
+    match command {
+        Command::Gauge { tank: number, .. } | Command::Dip { tank: number, .. } => *number == tank,
+        _ => false,
+    }
+}
+
+// Rule 14: a named sample isn't one of that tank.
+#[tactic(auto, unfolding(farm_history::specs::MovementRules::unknown_sample))]
+fn unknown_sample(past: &Past<'_>, command: &Command, pairs: &Pairs) -> Option<Rule>
+    requires pairs { listed pairs.now ≡ named_by (history_of past.now.site.now past.now.entries.now) command.now }
+    ensures rule { result ≡ unknown_sample (history_of past.now.site.now past.now.entries.now) command.now }
+{
+    if lacks_sample(past, &pairs.first) || lacks_sample(past, &pairs.second) {
+        return Some(Rule::UnknownSample);
+    }
+    None
+}
+
+// Whether a sample is named that isn't one of its tank.
+fn lacks_sample(past: &Past<'_>, pair: &Option<Named>) -> bool
+    ensures lacks { result ≡ list_any (λ pair. not (has_sample (history_of past.now.site.now past.now.entries.now) pair)) (listed_one pair.now) }
+{
+    let Some(pair) = pair else {
+        return false;
+    };
+    match past.entry_at(pair.gauged.sample) {
+        Some(entry) => !is_sample_of(pair.tank, &entry.cmd),
+        None => true,
+    }
+}
+
+// Whether a command is a sample of a tank.
+fn is_sample_of(tank: u16, command: &Command) -> bool
+    ensures sample { result ≡ is_sample_of tank command.now }
+{
+    match command {
+        Command::Sample { tank: number, .. } => *number == tank,
+        _ => false,
+    }
+}
+
+// Rule 15: a named reading is stale, the first tank's first.
+#[tactic(auto, unfolding(farm_history::specs::MovementRules::stale_reading))]
+fn stale_reading(past: &Past<'_>, command: &Command, pairs: &Pairs) -> Option<Rule>
+    requires pairs { listed pairs.now ≡ named_by (history_of past.now.site.now past.now.entries.now) command.now }
+    ensures rule { result ≡ stale_reading (history_of past.now.site.now past.now.entries.now) command.now }
+{
+    let place = match stale_for(past, command, &pairs.first) {
+        Some(place) => place,
+        None => stale_for(past, command, &pairs.second)?,
+    };
+    Some(Rule::StaleReading(place))
+}
+
+// The place for which a named reading is stale.
+fn stale_for(past: &Past<'_>, command: &Command, pair: &Option<Named>) -> Option<u32>
+    ensures stale { result ≡ first_given (stale_for (history_of past.now.site.now past.now.entries.now) command.now) (listed_one pair.now) }
+{
+    let Some(pair) = pair else {
+        return None;
+    };
+    match command {
+        Command::Opening(_) => {
+            let used = past.used_reading(pair.tank)?;
+            (pair.gauged.reading < used).then_some(used)
+        }
+        Command::Closing { movement, .. } => {
+            (pair.gauged.reading <= *movement).then_some(*movement)
+        }
+        _ => None,
+    }
+}

@@ -1,0 +1,5 @@
+pub mod Ranges
+pub mod Givens
+pub mod WrongWays
+pub mod EntriesAt
+pub mod Sides

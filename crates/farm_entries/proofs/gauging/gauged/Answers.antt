@@ -1,0 +1,91 @@
+use Rattle.std.proofs.Common.{rules, ◌≡◌, IsTrue, Some, None, Ok, List, take, length-take, ap, ◌∙◌, pos, negsuc, ℤ, sym, subst, arith}
+use Rattle.std.specs.Int.{w64}
+use Rattle.std.proofs.lemmas.Int.{to_z-of_z}
+use Rattle.farm_fixed.specs.Range.{is_within}
+use Rattle.farm_readings.specs.Readings.{AreTemperatures}
+use Rattle.farm_history.specs.declared.command.Command.{Command}
+use Rattle.farm_history.specs.Commands.{IsShortList, IsWellFormedCommand, numbers_of}
+use Rattle.farm_history.specs.Fields.{first_bad_field}
+use Rattle.farm_history.specs.Gauging.{gauge_reading}
+use Rattle.farm_entries.proofs.Ranges.{dip_within, gauge_within}
+use Rattle.farm_entries.proofs.gauging.gauged.Goals as goal
+
+-- a number that is the same as one of 64 bits is in range with it
+height_same : (x y : ℤ) → x ≡ y → IsTrue (is_within (pos 0) (pos 50000) y) → IsTrue (is_within (pos 0) (pos 50000) x)
+height_same x y is within = rw is within
+
+-- and so is a temperature
+temperature_same : (x y : ℤ) → x ≡ y → IsTrue (is_within (negsuc 9999) (pos 30000) y) → IsTrue (is_within (negsuc 9999) (pos 30000) x)
+temperature_same x y is within = rw is within
+
+pub height_of-requires : goal.height_of-requires
+height_of-requires c =
+    let g = c.in-Gauge in
+    let none = subst (λ (command : Command). first_bad_field command ≡ None) g.is c.requires.in_range in
+    height_same _ g.level (to_z-of_z w64 g.level (search rules)) (gauge_within g.tank g.level g.water g.temperature g.ambient none).level_within
+
+pub height_of-requires-in-Gauge : goal.height_of-requires-in-Gauge
+height_of-requires-in-Gauge c =
+    let g = c.in-Gauge in
+    let none = subst (λ (command : Command). first_bad_field command ≡ None) g.is c.requires.in_range in
+    height_same _ g.water (to_z-of_z w64 g.water (search rules)) (gauge_within g.tank g.level g.water g.temperature g.ambient none).water_within
+
+pub temperature_of-requires : goal.temperature_of-requires
+temperature_of-requires c =
+    let g = c.in-Gauge in
+    let none = subst (λ (command : Command). first_bad_field command ≡ None) g.is c.requires.in_range in
+    temperature_same _ g.temperature (to_z-of_z w64 g.temperature (search rules)) (gauge_within g.tank g.level g.water g.temperature g.ambient none).temperature_within
+
+pub temperature_of-requires-in-Gauge : goal.temperature_of-requires-in-Gauge
+temperature_of-requires-in-Gauge c =
+    let g = c.in-Gauge in
+    let none = subst (λ (command : Command). first_bad_field command ≡ None) g.is c.requires.in_range in
+    temperature_same _ g.ambient (to_z-of_z w64 g.ambient (search rules)) (gauge_within g.tank g.level g.water g.temperature g.ambient none).ambient_within
+
+pub heights_of-requires-clause-in_range : goal.heights_of-requires-clause-in_range
+heights_of-requires-clause-in_range c =
+    let d = c.in-Dip in
+    let none = subst (λ (command : Command). first_bad_field command ≡ None) d.is c.requires.in_range in
+    (dip_within d.tank d.outage d.tapes d.water d.temperatures d.ambient none).tapes_within
+
+pub heights_of-requires-in-Dip-clause-in_range : goal.heights_of-requires-in-Dip-clause-in_range
+heights_of-requires-in-Dip-clause-in_range c =
+    let d = c.in-Dip in
+    let none = subst (λ (command : Command). first_bad_field command ≡ None) d.is c.requires.in_range in
+    (dip_within d.tank d.outage d.tapes d.water d.temperatures d.ambient none).water_within
+
+pub temperatures_of-requires-clause-in_range : goal.temperatures_of-requires-clause-in_range
+temperatures_of-requires-clause-in_range c =
+    let d = c.in-Dip in
+    let none = subst (λ (command : Command). first_bad_field command ≡ None) d.is c.requires.in_range in
+    (dip_within d.tank d.outage d.tapes d.water d.temperatures d.ambient none).temperatures_within
+
+pub temperature_of-requires-in-Dip : goal.temperature_of-requires-in-Dip
+temperature_of-requires-in-Dip c =
+    let d = c.in-Dip in
+    let none = subst (λ (command : Command). first_bad_field command ≡ None) d.is c.requires.in_range in
+    temperature_same _ d.ambient (to_z-of_z w64 d.ambient (search rules)) (dip_within d.tank d.outage d.tapes d.water d.temperatures d.ambient none).ambient_within
+
+pub dip_reading-requires : goal.dip_reading-requires
+dip_reading-requires c =
+    let d = c.in-Dip in
+    let none = subst (λ (command : Command). first_bad_field command ≡ None) d.is c.requires.in_range in
+    let lists = subst (λ (command : Command). IsWellFormedCommand command) d.is c.requires.well_formed in
+    let short : IsShortList d.temperatures = lists.2 in
+    let of_list : take c.from-in-Dip-2.result c.temperatures_of.result ≡ numbers_of d.temperatures =
+    rw c.from-in-Dip-2.ensures c.temperatures_of.ensures.temperatures in
+    let temperatures : AreTemperatures (numbers_of d.temperatures) = record {
+      some = (dip_within d.tank d.outage d.tapes d.water d.temperatures d.ambient none).some;
+      few = omega (arith, length-take {A = ℤ}, short.count);
+    } in
+    record { temperatures = subst (λ (list : List ℤ). AreTemperatures list) (sym of_list) temperatures }
+
+pub returns-in-Gauge : goal.returns-in-Gauge
+returns-in-Gauge c =
+    let g = c.in-Gauge in
+    let level : c.height_of.result ≡ g.level = c.height_of.ensures.height ∙ to_z-of_z w64 g.level (search rules) in
+    let water : c.height_of-in-Gauge.result ≡ g.water = c.height_of-in-Gauge.ensures.height ∙ to_z-of_z w64 g.water (search rules) in
+    let temperature : c.temperature_of.result ≡ g.temperature = c.temperature_of.ensures.temperature ∙ to_z-of_z w64 g.temperature (search rules) in
+    let ambient : c.temperature_of-in-Gauge.result ≡ g.ambient = c.temperature_of-in-Gauge.ensures.temperature ∙ to_z-of_z w64 g.ambient (search rules) in
+    let same : c.gauge_reading.result ≡ gauge_reading c.args.rounds.now g.level g.water g.temperature g.ambient = cc in
+    record { gauged = rw g.is (ap (λ reading. Some (Ok reading)) same) }
