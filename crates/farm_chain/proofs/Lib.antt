@@ -1,1 +1,2 @@
+pub mod Rounded
 pub mod Squares

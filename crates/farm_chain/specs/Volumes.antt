@@ -1,6 +1,7 @@
 -- The custody calculation of observed volumes: ten figures, each computed from the rounded figures before it, or the first refusal.
 use Rattle.std.specs.Prelude.{if◌then◌else◌, List, Result, Ok, Err, ℤ, pos, ◌-ℤ◌}
 use Rattle.std.specs.Int.RustNames.{int_lt}
+use Rattle.farm_fixed.specs.Range.{IsWithin}
 use Rattle.farm_fixed.specs.declared.records.Shell.{Shell}
 use Rattle.farm_fixed.specs.declared.records.Sample.{Sample}
 use Rattle.farm_fixed.specs.declared.records.Quantities.{Quantities}
@@ -26,6 +27,11 @@ standard_figures rounding tov fw ctsh vcf fra gov sample =
       swv = gsv -ℤ nsv;
       mass = mass_of rounding nsv sample.density;
     }
+
+-- the net standard volume is from 0 to 3 * 10^9 litres, and the mass from 0 to 3 * 10^9 kg
+pub record AreInRange (figures : Quantities) : Type 0 where
+  pub nsv : IsWithin (pos 0) (pos 3000000000) figures.nsv
+  pub mass : IsWithin (pos 0) (pos 3000000000) figures.mass
 
 -- The ten figures under a roof's adjustment, or the first refusal: the water is more than the total, or the gross observed
 -- volume is below zero.

@@ -3,6 +3,7 @@
 ghost use Rattle.std.specs.Prelude.{◌≡◌, IfOk, IfSome, pos};
 ghost use Rattle.farm_fixed.specs.Range.{IsWithin};
 ghost use Rattle.farm_fixed.specs.declared.limits.TheConstants.{MOST_COEFFICIENT, MOST_LITRES, MOST_ROOF_MASS};
+ghost use Rattle.farm_chain.specs.Volumes.{AreInRange};
 ghost use Rattle.farm_chain.specs.Reading.{IsFloatingRoof, calculated_quantities, carried, correction_factor, floating_mass, free_water, total_observed, volume_at};
 
 use crate::figures;
@@ -26,7 +27,8 @@ pub fn quantities(
 ) -> Result<Quantities, ChainRule>
     requires coefficient { IsWithin (pos 0) MOST_COEFFICIENT tank.now.shell.coefficient }
     requires roof { IfSome tank.now.roof IsFloatingRoof }
-    ensures { result ≡ calculated_quantities rounds.now tank.now table.now vcf.now reading.now sample.now }
+    ensures range { IfOk result AreInRange }
+    ensures quantities { result ≡ calculated_quantities rounds.now tank.now table.now vcf.now reading.now sample.now }
 {
     let tov = total_observed(table, rounds, reading)?;
     let fw = free_water(table, rounds, reading)?;

@@ -96,6 +96,7 @@ pub fn roof_adjustment(rounding: &RoundTable, floating: Kg, density: Dens, vcf: 
     requires { IsWithin (pos 0) MOST_ROOF_MASS floating }
     ensures value { result ≡ roof_adjustment rounding.now floating density vcf }
     ensures size { unsigned_abs result ≤ 10 ^ 16 + 100 }
+    ensures never_adds { result ≤ℤ pos 0 }
 {
     if floating.get() == 0 {
         return litres(0);
@@ -117,8 +118,9 @@ pub fn gross_observed(
     requires tov { IsWithin (pos 0) MOST_LITRES tov }
     requires fw { IsWithin (pos 0) MOST_LITRES fw }
     requires fra { unsigned_abs fra ≤ 10 ^ 16 + 100 }
+    requires never_adds { fra ≤ℤ pos 0 }
     ensures value { result ≡ gross_observed rounding.now tov fw ctsh fra }
-    ensures size { unsigned_abs result ≤ 11 * 10 ^ 15 }
+    ensures most { result ≤ℤ pos 1500000100 }
 {
     let above_water = difference(tov.get(), fw.get());
     let observed = product::<1_000_000_000, 150_000>(above_water, ctsh.get());
@@ -129,30 +131,30 @@ pub fn gross_observed(
 /// GSV, the gross standard volume.
 #[tactic(auto, unfolding(crate::specs::Steps::gross_standard))]
 pub fn gross_standard(rounding: &RoundTable, gov: Litres, vcf: Fac5) -> Litres
-    requires { unsigned_abs gov ≤ 11 * 10 ^ 15 }
+    requires { IsWithin (pos 0) (pos 1500000100) gov }
     ensures value { result ≡ gross_standard rounding.now gov vcf }
-    ensures size { unsigned_abs result ≤ 17 * 10 ^ 15 }
+    ensures range { IsWithin (pos 0) (pos 2250000250) result }
 {
-    let observed = product::<11_000_000_000_000_000, 150_000>(gov.get(), vcf.get());
+    let observed = product::<1_500_000_100, 150_000>(gov.get(), vcf.get());
     litres(rounding.round(GROSS_STANDARD, observed, 100_000))
 }
 
 /// NSV, the net standard volume: the gross one less sediment and water.
 #[tactic(auto, unfolding(crate::specs::Steps::net_standard))]
 pub fn net_standard(rounding: &RoundTable, gsv: Litres, sw: Permil5) -> Litres
-    requires { unsigned_abs gsv ≤ 17 * 10 ^ 15 }
+    requires { IsWithin (pos 0) (pos 2250000250) gsv }
     ensures value { result ≡ net_standard rounding.now gsv sw }
-    ensures size { unsigned_abs result ≤ 18 * 10 ^ 15 }
+    ensures range { IsWithin (pos 0) (pos 2250000350) result }
 {
     let clean = difference(100_000, sw.get());
-    let net = product::<17_000_000_000_000_000, 100_000>(gsv.get(), clean);
+    let net = product::<2_250_000_250, 100_000>(gsv.get(), clean);
     litres(rounding.round(NET_STANDARD, net, 100_000))
 }
 
 /// SWV, the volume of sediment and water.
 pub fn sediment_and_water(gsv: Litres, nsv: Litres) -> Litres
-    requires gsv { unsigned_abs gsv ≤ 17 * 10 ^ 15 }
-    requires nsv { unsigned_abs nsv ≤ 18 * 10 ^ 15 }
+    requires gsv { IsWithin (pos 0) (pos 2250000250) gsv }
+    requires nsv { IsWithin (pos 0) (pos 2250000350) nsv }
     ensures { result ≡ gsv -ℤ nsv }
 {
     litres(difference(gsv.get(), nsv.get()) as i128)
@@ -161,9 +163,10 @@ pub fn sediment_and_water(gsv: Litres, nsv: Litres) -> Litres
 /// The mass of a net standard volume in vacuum.
 #[tactic(auto, unfolding(crate::specs::Steps::mass_of))]
 pub fn mass_of(rounding: &RoundTable, nsv: Litres, density: Dens) -> Kg
-    requires { unsigned_abs nsv ≤ 18 * 10 ^ 15 }
-    ensures { result ≡ mass_of rounding.now nsv density }
+    requires { IsWithin (pos 0) (pos 2250000350) nsv }
+    ensures value { result ≡ mass_of rounding.now nsv density }
+    ensures range { IsWithin (pos 0) (pos 2700000520) result }
 {
-    let tenths = product::<18_000_000_000_000_000, 12_000>(nsv.get(), density.get());
+    let tenths = product::<2_250_000_350, 12_000>(nsv.get(), density.get());
     kilograms(rounding.round(MASS, tenths, 10_000))
 }

@@ -1,10 +1,10 @@
 //! The figures of observed volumes.
 
-ghost use Rattle.std.specs.Prelude.{◌≡◌, ◌≤◌, ◌+◌, ◌*◌, ◌^◌, pos};
+ghost use Rattle.std.specs.Prelude.{◌≡◌, ◌≤◌, ◌+◌, ◌^◌, IfOk, pos, ◌≤ℤ◌};
 ghost use Rattle.std.specs.Int.RustNames.{unsigned_abs};
 ghost use Rattle.farm_fixed.specs.Range.{IsWithin};
 ghost use Rattle.farm_fixed.specs.declared.limits.TheConstants.{MOST_COEFFICIENT, MOST_LITRES, MOST_ROOF_MASS};
-ghost use Rattle.farm_chain.specs.Volumes.{adjusted_figures, calculated_figures, standard_figures};
+ghost use Rattle.farm_chain.specs.Volumes.{AreInRange, adjusted_figures, calculated_figures, standard_figures};
 
 use crate::steps::{
     gross_observed, gross_standard, mass_of, net_standard, roof_adjustment, sediment_and_water,
@@ -34,7 +34,8 @@ pub fn figures(
     requires fw { IsWithin (pos 0) MOST_LITRES fw }
     requires coefficient { IsWithin (pos 0) MOST_COEFFICIENT shell.now.coefficient }
     requires floating { IsWithin (pos 0) MOST_ROOF_MASS floating }
-    ensures { result ≡ calculated_figures rounds.now tov fw shell.now liquid ambient floating sample.now vcf }
+    ensures figures { result ≡ calculated_figures rounds.now tov fw shell.now liquid ambient floating sample.now vcf }
+    ensures range { IfOk result AreInRange }
 {
     let fra = roof_adjustment(rounds, floating, sample.density, vcf);
     adjusted_figures(tov, fw, shell, liquid, ambient, fra, sample, vcf, rounds)
@@ -57,7 +58,9 @@ fn adjusted_figures(
     requires fw { IsWithin (pos 0) MOST_LITRES fw }
     requires coefficient { IsWithin (pos 0) MOST_COEFFICIENT shell.now.coefficient }
     requires fra { unsigned_abs fra ≤ 10 ^ 16 + 100 }
-    ensures { result ≡ adjusted_figures rounding.now tov fw shell.now liquid ambient fra sample.now vcf }
+    requires never_adds { fra ≤ℤ pos 0 }
+    ensures range { IfOk result AreInRange }
+    ensures figures { result ≡ adjusted_figures rounding.now tov fw shell.now liquid ambient fra sample.now vcf }
 {
     if fw.get() > tov.get() {
         return Err(ChainRule::WaterAboveLevel);
@@ -82,8 +85,9 @@ fn standard_figures(
     gov: Litres,
     sample: &Sample,
 ) -> Quantities
-    requires { unsigned_abs gov ≤ 11 * 10 ^ 15 }
-    ensures { result ≡ standard_figures rounding.now tov fw ctsh vcf fra gov sample.now }
+    requires { IsWithin (pos 0) (pos 1500000100) gov }
+    ensures range { AreInRange result }
+    ensures figures { result ≡ standard_figures rounding.now tov fw ctsh vcf fra gov sample.now }
 {
     let gsv = gross_standard(rounding, gov, vcf);
     let nsv = net_standard(rounding, gsv, sample.sw);

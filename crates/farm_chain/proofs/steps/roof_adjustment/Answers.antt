@@ -1,4 +1,5 @@
-use Rattle.std.proofs.Common.{◌≡◌, ◌^◌, false, List, ℤ, pos, neg_ℤ, ◌*ℤ◌, ap, ◌∙◌, rules}
+use Rattle.std.proofs.Common.{◌≡◌, ◌^◌, false, List, ℤ, pos, neg_ℤ, ◌*ℤ◌, ◌≤ℤ◌, ap, ◌∙◌, arith, rules}
+use Rattle.std.proofs.lemmas.Int.{ints}
 use Rattle.std.specs.Int.RustNames.{unsigned_abs}
 use Rattle.std.specs.Ordering.{int_eq}
 use Rattle.farm_rounding.specs.Table.{Row, rounded}
@@ -22,3 +23,9 @@ returns-clause-value c =
     let share = c.round.ensures.value in
     of_a_roof c.args.rounding.now c.args.floating c.args.density c.args.vcf c.product-mass.result c.product-observed.result c.round.result c.litres-2.result
     (search rules) (search rules) (search rules) (search rules) (search rules)
+
+pub returns-clause-never_adds : goal.returns-clause-never_adds
+returns-clause-never_adds c =
+    let mass : pos 0 ≤ℤ c.product-mass.result = omega (arith, ints) in
+    let share : pos 0 ≤ℤ c.round.result = c.round.ensures.sign (search rules) in
+    omega (arith, ints)

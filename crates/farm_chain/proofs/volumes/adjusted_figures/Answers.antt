@@ -19,8 +19,8 @@ unfolding adjusted_figures
 of_accepted rounding tov fw shell liquid ambient fra sample vcf ctsh gov figures ctsh_is gov_is above some figures_is =
     rw (← ctsh_is, ← gov_is, above, some, ← figures_is)
 
-pub returns : goal.returns
-returns c =
+pub returns-clause-figures : goal.returns-clause-figures
+returns-clause-figures c =
     of_accepted c.args.rounding.now c.args.tov c.args.fw c.args.shell.now c.args.liquid c.args.ambient c.args.fra c.args.sample.now c.args.vcf
     c.shell_correction-ctsh.result c.gross_observed-gov.result c.standard_figures.result
     (search rules) (search rules) (search rules) (search rules) (search rules)

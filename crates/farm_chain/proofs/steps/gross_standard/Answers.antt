@@ -1,0 +1,9 @@
+use Rattle.std.proofs.Common.{arith, rules}
+use Rattle.std.proofs.lemmas.Int.{ints}
+use Rattle.farm_chain.proofs.Rounded.{product_rounded}
+use Rattle.farm_chain.proofs.steps.gross_standard.Goals as goal
+
+pub returns-clause-range : goal.returns-clause-range
+returns-clause-range c =
+    product_rounded c.args.gov c.args.vcf c.product-observed.result c.litres.result 100000 2250000150
+    c.requires.low (omega (arith, ints)) (search rules) (omega (arith, ints)) (search rules) (search rules)
