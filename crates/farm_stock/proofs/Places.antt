@@ -1,6 +1,8 @@
 -- Places in a list of books.
-use Rattle.std.proofs.Common.{◌≡◌, ◌≢◌, ◌<◌, ◌≤◌, ℕ, ℤ, true, false, List, [], ◌∷◌, get_or, set, length, Some, None, ◌==◌, zero, suc, refl, ap, sym, ◌∙◌, ◌+ℤ◌, ◌^◌, arith}
+use Rattle.std.proofs.Common.{◌≡◌, ◌≢◌, ◌<◌, ◌≤◌, ℕ, ℤ, true, false, List, [], ◌∷◌, get_or, set, length, Some, None, ◌==◌, zero, suc, refl, ap, sym, ◌∙◌, ◌+ℤ◌, ◌^◌, FitsSigned, arith}
 use Rattle.std.proofs.lemmas.Bool.Decides.{nat_tests}
+use Rattle.std.proofs.lemmas.Int.{ints}
+use Rattle.std.specs.Int.{w64}
 use Rattle.std.specs.Int.RustNames.{unsigned_abs}
 use Rattle.farm_fixed.specs.declared.records.Amount.{Amount}
 use Rattle.farm_stock.specs.declared.book.Book.{Book}
@@ -58,17 +60,21 @@ raised_within unit tank amount (book ∷ books) (suc place) default at =
     let rest = raised_within unit tank amount books place default (later tank book books place at) in
     rw (tests_other book.tank tank (at.before 0 default (omega arith))) (omega arith)
 
+-- a number of at most 10^17 either way fits 64 bits
+fits : (number : ℤ) → unsigned_abs number ≤ 10 ^ 17 → FitsSigned w64 number
+fits number within = omega (arith, ints)
+
 -- where an amount may be added to a tank's book, the sum fits
 pub raised_fits : (tank : ℕ) (amount : Amount) (books : List Book) (place : ℕ) (default : Book) → IsPlaceOf tank books place →
     AreWithinSums (added tank amount books) →
     let found = (get_or books place default).amount in
-    (unsigned_abs (found.litres +ℤ amount.litres) ≤ 10 ^ 17) × (unsigned_abs (found.kg +ℤ amount.kg) ≤ 10 ^ 17)
+    FitsSigned w64 (found.litres +ℤ amount.litres) × FitsSigned w64 (found.kg +ℤ amount.kg)
 raised_fits tank amount books place default at within =
     let litres = raised_within (λ (a : Amount). a.litres) tank amount books place default at in
     let kg = raised_within (λ (a : Amount). a.kg) tank amount books place default at in
     let most_litres = within.litres in
     let most_kg = within.kg in
-    (omega arith, omega arith)
+    (fits _ (omega arith), fits _ (omega arith))
 
 -- the book that is written back is the one with the amount added
 pub written_back : (tank : ℕ) (amount : Amount) (books : List Book) (place : ℕ) (default : Book) (sum : Amount) → IsPlaceOf tank books place →

@@ -1,7 +1,7 @@
 //! The book of a tank, and lists of them.
 
-ghost use Rattle.std.specs.Prelude.{◌≡◌, ◌^◌, ◌≤◌, ◌+ℤ◌, IfOk, IsSome, MatchOption, None};
-ghost use Rattle.std.specs.Int.RustNames.{unsigned_abs};
+ghost use Rattle.std.specs.Prelude.{◌≡◌, ◌+ℤ◌, FitsSigned, IfOk, IsSome, MatchOption, None};
+ghost use Rattle.std.specs.Int.{w64};
 ghost use Rattle.farm_stock.specs.Books.{book_of, opened, plus, total_of};
 ghost use Rattle.farm_stock.specs.Places.{IsPlaceOf};
 ghost use Rattle.farm_stock.specs.Postings.{added};
@@ -76,10 +76,10 @@ pub fn total_of(books: &[Book]) -> Amount
     total
 }
 
-/// The sum of two amounts, litres and kg apart.
+/// The sum of two amounts, litres and kg apart. Both sums fit their type.
 pub fn plus(first: Amount, second: Amount) -> Amount
-    requires litres { unsigned_abs (first.litres +ℤ second.litres) ≤ 10 ^ 17 }
-    requires kg { unsigned_abs (first.kg +ℤ second.kg) ≤ 10 ^ 17 }
+    requires litres { FitsSigned w64 (first.litres +ℤ second.litres) }
+    requires kg { FitsSigned w64 (first.kg +ℤ second.kg) }
     ensures sum { result ≡ plus first second }
 {
     Amount {
