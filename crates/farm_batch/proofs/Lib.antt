@@ -2,6 +2,8 @@ pub mod LineParts
 pub mod Meant
 pub mod Moments
 pub mod Timeless
+pub mod TimelessTickets
+pub mod TimelessStocks
 pub mod TimelessRules
 pub mod MoreSteps
 pub mod OneOutcome

@@ -1,28 +1,30 @@
 -- What a command breaks by itself, and what it is answered, doesn't depend on the moments of the entries.
-use Rattle.std.proofs.Common.{◌≡◌, ℕ, ◌||◌, not, Bool, List, [], ◌∷◌, map, Option, Some, None, option_and_then, option_map, refl, ap, ap₂, ◌∙◌}
+use Rattle.std.proofs.Common.{◌≡◌, ℕ, ◌||◌, not, Bool, List, [], ◌∷◌, Option, Some, None, option_and_then, option_map, refl, ap, ap₂, ◌∙◌}
 use Rattle.std.specs.List.{list_any}
 use Rattle.farm_base.specs.Steps.{or_else}
+use Rattle.farm_fixed.specs.declared.records.Amount.{Amount}
 use Rattle.farm_fixed.specs.declared.records.ChainRule.{ChainRule}
 use Rattle.farm_history.specs.declared.command.Command.{Command}
-use Rattle.farm_history.specs.declared.command.Command.TheVariants.{Gauge, Dip, Sample, Opening, Closing, Cancel, Reverse, Stop}
+use Rattle.farm_history.specs.declared.command.Command.TheVariants.{Gauge, Dip, Sample, Opening, Closing, Cancel, Reverse, Settle, Stop}
 use Rattle.farm_history.specs.declared.entry.Entry.{Entry}
-use Rattle.farm_history.specs.declared.plan.Gauged.{Gauged}
 use Rattle.farm_history.specs.declared.plan.Named.{Named}
-use Rattle.farm_history.specs.declared.plan.Plan.{Plan}
 use Rattle.farm_history.specs.declared.query.Query.{Query}
 use Rattle.farm_history.specs.declared.query.Query.TheVariants as queries
-use Rattle.farm_history.specs.declared.rule.Rule.{Rule}
-use Rattle.farm_history.specs.declared.rule.Rule.TheVariants.{TankBusy, UnknownReading, UnknownSample, StaleReading, NoEntry, CriticalZone, Negative, WrongWay, UnknownTicket, AlreadyReversed}
-use Rattle.farm_history.specs.Commands.{is_gauging_of, is_sample_of, plan_of, tanks_of_plan}
-use Rattle.farm_history.specs.Desk.{looked_up, reply_at, ticket_or_none, ticket_or_place}
-use Rattle.farm_history.specs.Figures.{calculated_at, named_by}
+use Rattle.farm_history.specs.declared.reply.Reply.TheVariants as replies
+use Rattle.farm_history.specs.declared.rule.Rule.TheVariants.{TankBusy, UnknownReading, UnknownSample, StaleReading, NoEntry, CriticalZone, Negative, WrongWay, UnknownTicket, AlreadyReversed, Settled}
+use Rattle.farm_history.specs.Commands.{is_gauging_of, is_sample_of, tanks_needed}
+use Rattle.farm_history.specs.Desk.{looked_up, place_or_zero, reply_at, reply_of, stock_or_none, ticket_or_none}
+use Rattle.farm_history.specs.Figures.{named_by}
 use Rattle.farm_history.specs.Gauging.{gauging_after}
 use Rattle.farm_history.specs.Given.{first_given}
 use Rattle.farm_history.specs.History.{History, entry_at, tank_after}
-use Rattle.farm_history.specs.MovementRules.{already_reversed, broken_where, closes_wrong, critical_zone, has_reading, has_sample, is_closing, is_critical_zone, is_negative, is_no_entry, is_refused_on, is_refused_with, is_there, is_wrong_way, misses_one, movement_named, names_too_few_or_many, negative, no_entry, no_movement, other_product, stale_for, stale_reading, tank_busy, ticket_named, unknown_party, unknown_reading, unknown_sample, unknown_ticket, unless_open, used_later, wrong_way}
-use Rattle.farm_history.specs.Movements.{holding_movement}
-use Rattle.farm_history.specs.Rules.{broken_by_command, broken_by_figures, broken_by_movement, broken_by_names, refused_gauging, unknown_tank}
-use Rattle.farm_batch.proofs.Timeless.{and_then_same, same_calculated, same_entry, same_holding, same_named, same_open, same_opened, same_reversal, same_ticket, same_to_close, same_used, without_moment, without_moments}
+use Rattle.farm_history.specs.MovementRules.{already_reversed, broken_where, closes_wrong, critical_zone, is_closing, is_critical_zone, is_negative, is_no_entry, is_refused_on, is_refused_with, is_there, is_wrong_way, misses_one, movement_named, names_too_few_or_many, negative, no_entry, no_movement, other_product, settled, settled_after, settled_later, stale_for, stale_reading, tank_busy, ticket_named, unknown_party, unknown_reading, unknown_sample, unknown_ticket, unless_open, used_later, wrong_way}
+use Rattle.farm_history.specs.Rules.{broken_by_command, broken_by_figures, broken_by_movement, broken_by_names, broken_by_ticket, refused_gauging, unknown_tank}
+use Rattle.farm_history.specs.Stocks.{book_of}
+use Rattle.farm_history.specs.Tickets.{closing_ticket, tanks_of_ticket}
+use Rattle.farm_batch.proofs.Timeless.{and_then_same, same_calculated, same_entry, same_holding, same_named, same_open, same_opened, same_reversal, same_settlement, same_used, without_moment, without_moments}
+use Rattle.farm_batch.proofs.TimelessStocks.{same_book, same_gain, same_lasts, same_total}
+use Rattle.farm_batch.proofs.TimelessTickets.{same_closing_ticket, same_ticket, same_to_close}
 
 -- what is given first by the same is the same
 same_first : {A B : Type 0} (f g : A → Option B) → ((a : A) → f a ≡ g a) → (items : List A) → first_given f items ≡ first_given g items
@@ -52,8 +54,7 @@ same_there history test place = ap (is_there test) (same_entry history place) �
 -- rule 11
 same_busy : (history : History) (command : Command) → tank_busy (without_moments history) command ≡ tank_busy history command
 unfolding tank_busy
-same_busy history command =
-    and_then_same _ _ (λ plan. ap (option_map TankBusy) (same_first _ _ (same_holding history) (tanks_of_plan plan))) (plan_of command)
+same_busy history command = ap (option_map TankBusy) (same_first _ _ (same_holding history) (tanks_needed command))
 
 -- rule 12
 same_movement_rule : (history : History) (command : Command) → no_movement (without_moments history) command ≡ no_movement history command
@@ -69,6 +70,7 @@ same_count history (Sample number density sw) = refl
 same_count history (Opening plan) = refl
 same_count history (Cancel movement) = refl
 same_count history (Reverse ticket) = refl
+same_count history (Settle tank gauged) = refl
 same_count history Stop = refl
 
 -- rule 13
@@ -88,6 +90,7 @@ same_samples history command =
 -- the place for which a reading is stale
 same_stale_for : (history : History) (command : Command) (pair : Named) → stale_for (without_moments history) command pair ≡ stale_for history command pair
 same_stale_for history (Opening plan) pair = ap (used_later pair.gauged.reading) (same_used history pair.tank)
+same_stale_for history (Settle tank gauged) pair = ap (used_later pair.gauged.reading) (same_used history pair.tank)
 same_stale_for history (Closing movement first second) pair = refl
 same_stale_for history (Gauge number level water temperature ambient) pair = refl
 same_stale_for history (Dip number outage tapes water temperatures ambient) pair = refl
@@ -117,6 +120,7 @@ same_wrong history (Sample number density sw) = refl
 same_wrong history (Opening plan) = refl
 same_wrong history (Cancel movement) = refl
 same_wrong history (Reverse ticket) = refl
+same_wrong history (Settle tank gauged) = refl
 same_wrong history Stop = refl
 
 -- rules 16 to 19
@@ -141,10 +145,27 @@ unfolding unknown_ticket
 same_unknown_ticket history command =
     and_then_same _ _ (λ ticket. ap (λ there. broken_where (not there) UnknownTicket) (same_there history is_closing ticket)) (ticket_named command)
 
--- rule 21
+-- rule 21, its first part
 same_reversed : (history : History) (command : Command) → already_reversed (without_moments history) command ≡ already_reversed history command
 unfolding already_reversed
 same_reversed history command = and_then_same _ _ (λ ticket. ap (option_map AlreadyReversed) (same_reversal history ticket)) (ticket_named command)
+
+-- rule 21, its second part
+same_settled : (history : History) (command : Command) → settled (without_moments history) command ≡ settled history command
+unfolding settled
+same_settled history command =
+    and_then_same _ _ (λ place.
+    ap (option_map Settled)
+    (ap (option_and_then (settled_after (without_moments history) place)) (same_closing_ticket history place)
+    ∙ and_then_same _ _ (λ ticket. same_first _ _ (λ tank. ap (settled_later place) (same_settlement history tank)) (tanks_of_ticket ticket))
+    (closing_ticket history place)))
+    (ticket_named command)
+
+-- rules 20 and 21
+same_by_ticket : (history : History) (command : Command) → broken_by_ticket (without_moments history) command ≡ broken_by_ticket history command
+unfolding broken_by_ticket
+same_by_ticket history command =
+    ap₂ or_else (same_unknown_ticket history command) (ap₂ or_else (same_reversed history command) (same_settled history command))
 
 -- rule 10, which looks at the tanks of the site alone
 same_products : (history : History) (command : Command) → other_product (without_moments history) command ≡ other_product history command
@@ -159,8 +180,7 @@ same_by_movement history command =
     (ap₂ or_else (same_products history command)
     (ap₂ or_else (same_busy history command)
     (ap₂ or_else (same_movement_rule history command)
-    (ap₂ or_else (same_by_names history command)
-    (ap₂ or_else (same_unknown_ticket history command) (same_reversed history command))))))
+    (ap₂ or_else (same_by_names history command) (same_by_ticket history command)))))
 
 -- rules 3 and 4, and the gauging, which look at the site alone
 same_by_site : (history : History) (command : Command) →
@@ -182,9 +202,15 @@ same_by_command history command =
 -- the reply for the entry at a place
 pub same_reply : (history : History) (place : ℕ) → reply_at (without_moments history) place ≡ reply_at history place
 unfolding reply_at
-same_reply history place = ap (λ ticket. ticket_or_place ticket place) (same_ticket history place)
+same_reply history place = ap₂ (λ ticket gain. reply_of ticket gain place) (same_ticket history place) (same_gain history place)
 
 -- the reply to a look-up
 pub same_look : (history : History) (query : Query) → looked_up (without_moments history) query ≡ looked_up history query
 unfolding looked_up
 same_look history (queries.Ticket place) = ap ticket_or_none (same_ticket history place)
+same_look history (queries.Stock tank) =
+    ap (stock_or_none (without_moments history) tank) (same_book history tank) ∙ by (book_of history tank) where
+      by : (book : Option Amount) → stock_or_none (without_moments history) tank book ≡ stock_or_none history tank book
+      by None = refl
+      by (Some book) = ap₂ (λ reading sample. replies.Stock tank book (place_or_zero reading) (place_or_zero sample)) (same_lasts history tank).0 (same_lasts history tank).1
+same_look history queries.Total = ap₂ replies.Total (same_total history).0 (same_total history).1

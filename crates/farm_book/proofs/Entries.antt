@@ -11,17 +11,16 @@ use Rattle.farm_history.specs.declared.entry.Entry.{Entry}
 use Rattle.farm_history.specs.declared.limits.TheConstants.{GREATEST_LIMIT, STOPS_BEYOND_LIMIT}
 use Rattle.farm_history.specs.declared.rule.Rule.{Rule}
 use Rattle.farm_history.specs.declared.rule.Rule.TheVariants.{HistoryFull, OutOfRange}
-use Rattle.farm_history.specs.declared.verdict.Verdict.{Verdict}
 use Rattle.farm_history.specs.declared.verdict.Verdict.TheVariants.{Accept}
 use Rattle.farm_history.specs.Commands.{is_stop}
 use Rattle.farm_history.specs.Fields.{first_bad_field}
 use Rattle.farm_history.specs.Gauging.{gauging_after}
-use Rattle.farm_history.specs.MovementRules.{unknown_party}
+use Rattle.farm_history.specs.MovementRules.{no_movement, other_product, same_tank, tank_busy, unknown_party}
 use Rattle.farm_history.specs.History.{History, empty_history, last_place, moment_after, with_entry}
-use Rattle.farm_history.specs.Places.{first_place}
-use Rattle.farm_history.specs.Rules.{broken_by_command, broken_by_movement, broken_rule, out_of_range, refused_gauging, unknown_tank, history_full, is_full, is_repeat, key_reused}
-use Rattle.farm_history.specs.Sites.{AreComputable}
-use Rattle.farm_history.specs.Verdicts.{IsLegal, IsNext, refused_or_accepted, repeated_or, verdict}
+use Rattle.farm_history.specs.Rules.{broken_by_command, broken_by_movement, broken_by_names, broken_by_ticket, broken_rule, out_of_range, refused_gauging, unknown_tank, history_full, is_full, key_reused}
+use Rattle.farm_history.specs.Sites.{AreComputable, AreRising}
+use Rattle.farm_history.specs.Verdicts.{IsLegal, IsNext, verdict}
+use Rattle.farm_history.proofs.Accepted.{both_none, unbroken}
 use Rattle.farm_entries.specs.Pasts.{IsInRange, IsReadable}
 use Rattle.farm_book.specs.Kept.{IsSound}
 
@@ -53,26 +52,6 @@ legal_more limit history entry legal next front back here is = elim (place_of_mo
   | inr among ↦ legal front among.0 here among.1
 ]
 
--- what isn't repeated and is accepted is what the rules accept
-accepted_by_rules : (place : Option ℕ) (judged : Verdict) → repeated_or place judged ≡ Accept → judged ≡ Accept
-accepted_by_rules None judged accepted = accepted
-accepted_by_rules (Some place) judged accepted = cc
-
--- where the rules accept, none is broken
-none_broken : (rule : Option Rule) → refused_or_accepted rule ≡ Accept → rule ≡ None
-none_broken None accepted = refl
-none_broken (Some rule) accepted = cc
-
--- where no rule is broken, none of the later ones is
-later_unbroken : (first later : Option Rule) → or_else first later ≡ None → later ≡ None
-later_unbroken None later none = none
-later_unbroken (Some rule) later none = cc
-
--- and not the first one
-first_unbroken : (first later : Option Rule) → or_else first later ≡ None → first ≡ None
-first_unbroken None later none = refl
-first_unbroken (Some rule) later none = cc
-
 -- a history that isn't full
 not_full : (full : Bool) → (if full then Some HistoryFull else None) ≡ None → full ≡ false
 not_full true none = cc
@@ -83,14 +62,14 @@ fewer : (limit entries : ℕ) (stop : Bool) → is_full limit entries stop ≡ f
 fewer limit entries stop room = grind (arith, nat_tests)
 
 -- an accepted entry isn't of a full history, and its command breaks no rule
-unbroken : (limit : ℕ) (history : History) (entry : Entry) → verdict limit history entry ≡ Accept →
-    or_else (history_full limit history entry.cmd) (broken_by_command history entry.cmd) ≡ None
-unfolding verdict broken_rule
-unbroken limit history entry accepted =
-    let later : Option Rule = or_else (history_full limit history entry.cmd) (broken_by_command history entry.cmd) in
-    let rules : Option Rule = or_else (key_reused history entry) later in
-    let by_rules = accepted_by_rules (first_place (is_repeat entry) history.entries) (refused_or_accepted rules) accepted in
-    later_unbroken (key_reused history entry) later (none_broken rules by_rules)
+room_and_command : (limit : ℕ) (history : History) (entry : Entry) → verdict limit history entry ≡ Accept →
+    (history_full limit history entry.cmd ≡ None) × (broken_by_command history entry.cmd ≡ None)
+unfolding broken_rule
+room_and_command limit history entry accepted =
+    let full : Option Rule = history_full limit history entry.cmd in
+    let command : Option Rule = broken_by_command history entry.cmd in
+    let later = both_none (key_reused history entry) (or_else full command) (unbroken limit history entry accepted) in
+    both_none full command later.1
 
 -- an entry is accepted only where the history has fewer entries than it may have
 room_of_accepted : (limit : ℕ) (history : History) (entry : Entry) → verdict limit history entry ≡ Accept →
@@ -98,32 +77,43 @@ room_of_accepted : (limit : ℕ) (history : History) (entry : Entry) → verdict
 unfolding history_full
 room_of_accepted limit history entry accepted =
     let stop = is_stop entry.cmd in
-    let full : Option Rule = if is_full limit (last_place history) stop then Some HistoryFull else None in
-    let unfilled = first_unbroken full (broken_by_command history entry.cmd) (unbroken limit history entry accepted) in
-    fewer limit (last_place history) stop (not_full (is_full limit (last_place history) stop) unfilled)
+    fewer limit (last_place history) stop (not_full (is_full limit (last_place history) stop) (room_and_command limit history entry accepted).0)
 
--- a field that isn't refused is none
+-- where no field is refused, no field is out of range
 no_field : (field : Option ℕ) → option_map OutOfRange field ≡ None → field ≡ None
 no_field None none = refl
 no_field (Some field) none = cc
 
--- a command that breaks no rule has no field out of range
-no_bad_field : (history : History) (command : Command) → broken_by_command history command ≡ None → first_bad_field command ≡ None
+-- a command that breaks no rule has no field out of range, and breaks no rule on movements
+fields_and_movements : (history : History) (command : Command) → broken_by_command history command ≡ None →
+    (first_bad_field command ≡ None) × (broken_by_movement history command ≡ None)
 unfolding broken_by_command out_of_range
-no_bad_field history command none =
+fields_and_movements history command none =
+    let moving : Option Rule = broken_by_movement history command in
     let gauging : Option Rule = option_and_then refused_gauging (gauging_after history command) in
-    let after : Option Rule = or_else gauging (broken_by_movement history command) in
-    let fields : Option Rule = or_else (option_map OutOfRange (first_bad_field command)) after in
-    let parties : Option Rule = or_else (unknown_party history command) fields in
-    let with_tanks = later_unbroken (unknown_tank history command) parties none in
-    let with_party = later_unbroken (unknown_party history command) fields with_tanks in
-    no_field (first_bad_field command) (first_unbroken (option_map OutOfRange (first_bad_field command)) after with_party)
+    let after : Option Rule = or_else gauging moving in
+    let ranges : Option Rule = option_map OutOfRange (first_bad_field command) in
+    let parties : Option Rule = or_else (unknown_party history command) (or_else ranges after) in
+    let with_tanks = (both_none (unknown_tank history command) parties none).1 in
+    let with_party = (both_none (unknown_party history command) (or_else ranges after) with_tanks).1 in (
+      no_field (first_bad_field command) (both_none ranges after with_party).0,
+      (both_none gauging moving (both_none ranges after with_party).1).1,
+    )
 
--- no field of an entry that could come next is out of range
+-- a command that breaks no rule on movements gives no tank twice
+gives_two_tanks : (history : History) (command : Command) → broken_by_movement history command ≡ None → same_tank command ≡ None
+unfolding broken_by_movement
+gives_two_tanks history command none =
+    let names : Option Rule = or_else (broken_by_names history command) (broken_by_ticket history command) in
+    let movements : Option Rule = or_else (no_movement history command) names in
+    let products : Option Rule = or_else (other_product history command) (or_else (tank_busy history command) movements) in
+    (both_none (same_tank command) products none).0
+
+-- an entry that could come next is in range
 next_in_range : (limit : ℕ) (history : History) (entry : Entry) → IsNext limit history entry → IsInRange entry
 next_in_range limit history entry next =
-    let command = later_unbroken (history_full limit history entry.cmd) (broken_by_command history entry.cmd) (unbroken limit history entry next.accepted) in
-    record { well_formed = next.well_formed.command; fields = no_bad_field history entry.cmd command }
+    let parts = fields_and_movements history entry.cmd (room_and_command limit history entry next.accepted).1 in
+    record { well_formed = next.well_formed.command; fields = parts.0; two_tanks = gives_two_tanks history entry.cmd parts.1 }
 
 -- what a sound history's entries say can be computed
 pub sound_readable : (limit : ℕ) (history : History) → IsSound limit history → IsReadable history
@@ -137,8 +127,9 @@ sound_readable limit history sound = record {
 }
 
 -- a history without entries is sound
-pub sound_empty : (limit : ℕ) (site : Described) → limit ≤ GREATEST_LIMIT → AreComputable site → IsSound limit (empty_history site)
-sound_empty limit site within computable = record { limit_within = within; legal = legal_empty limit site; few = omega arith; computable = computable }
+pub sound_empty : (limit : ℕ) (site : Described) → limit ≤ GREATEST_LIMIT → AreComputable site → AreRising site → IsSound limit (empty_history site)
+sound_empty limit site within computable rising =
+    record { limit_within = within; legal = legal_empty limit site; few = omega arith; computable = computable; rising = rising }
 
 -- a sound history with an entry that could come next is sound
 pub sound_more : (limit : ℕ) (history : History) (entry : Entry) → IsSound limit history → IsNext limit history entry → IsSound limit (with_entry history entry)
@@ -149,6 +140,7 @@ sound_more limit history entry sound next =
       legal = legal_more limit history entry sound.legal next;
       few = omega (arith, length-append {A = Entry}, room);
       computable = sound.computable;
+      rising = sound.rising;
     }
 
 -- the last of entries is the last of those after the first

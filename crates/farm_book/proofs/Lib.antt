@@ -1,3 +1,5 @@
+pub mod Entered
 pub mod Entries
 pub mod Replies
+pub mod StockReplies
 pub mod TablesRead

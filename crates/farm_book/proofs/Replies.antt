@@ -1,19 +1,27 @@
--- What is answered where a ticket is issued, and where none is.
-use Rattle.std.proofs.Common.{◌≡◌, ◌∙◌, ◌⊎◌, inl, inr, ℕ, true, [], ◌∷◌, Some, None, refl, ap, sym, length-append}
-use Rattle.std.specs.Prelude.{IsFalse, IsTrue}
+-- What is answered for the entry at a place: its ticket, its gain, or the place alone.
+use Rattle.std.proofs.Common.{◌≡◌, ◌∙◌, ◌⊎◌, inl, inr, ℕ, true, Some, None, refl, ap, sym}
+use Rattle.std.specs.Prelude.{IsTrue}
+use Rattle.farm_fixed.specs.declared.records.Amount.{Amount}
 use Rattle.farm_ticket.specs.Tickets.{Ticket}
 use Rattle.farm_history.specs.declared.command.Command.{Command}
+use Rattle.farm_history.specs.declared.command.Command.TheVariants.{Settle}
 use Rattle.farm_history.specs.declared.entry.Entry.{Entry}
+use Rattle.farm_history.specs.declared.plan.Gauged.{Gauged}
 use Rattle.farm_history.specs.declared.reply.Reply.TheVariants as replies
-use Rattle.farm_history.specs.Commands.{issues_ticket}
-use Rattle.farm_history.specs.History.{History, before, entry_at, last_place, with_entry}
+use Rattle.farm_history.specs.Commands.{is_settle, issues_ticket}
+use Rattle.farm_history.specs.History.{History, before}
 use Rattle.farm_history.specs.Issued.{IsClosingTicket, IsReversingTicket}
+use Rattle.farm_history.specs.Stocks.{gain_at}
 use Rattle.farm_history.specs.Tickets.{ticket_at}
-use Rattle.farm_history.proofs.At.{at_after}
+use Rattle.farm_history.proofs.Gains.{gains_mean, gains_stand}
 use Rattle.farm_history.proofs.TicketsMean.{tickets_mean}
 use Rattle.farm_history.proofs.TicketsStand.{tickets_stand}
 use Rattle.farm_book.specs.Kept.{IsSound}
-use Rattle.farm_book.specs.Replies.{IsTicketReply, IssuesAt}
+use Rattle.farm_book.specs.Replies.{IsGainReply, IsTicketReply, IssuesAt, SettlesAt}
+
+-- what is there isn't missing
+some_isnt_none : {A : Type 0} (here : A) → Some here ≡ None → ⊥
+some_isnt_none here is = cc
 
 -- a command that issues a ticket is a Closing or a Reverse
 issued_issues : (history : History) (place : ℕ) (command : Command) (ticket : Ticket) →
@@ -31,31 +39,45 @@ issues_there history place ticket is =
 pub none_there : (limit : ℕ) (history : History) (place : ℕ) → IsSound limit history → ticket_at history place ≡ None → ¬ (IssuesAt history place)
 none_there limit history place sound none = λ at.
     let found = tickets_stand limit history place at.entry sound.computable sound.legal at.there at.issues in
-    absurd (some_isnt_none found.0 (sym found.1 ∙ none)) where
-      some_isnt_none : (ticket : Ticket) → Some ticket ≡ None → ⊥
-      some_isnt_none ticket is = cc
+    some_isnt_none found.0 (sym found.1 ∙ none)
 
 -- the ticket of a place is answered with that ticket
 pub ticket_given : (history : History) (place : ℕ) (ticket : Ticket) → ticket_at history place ≡ Some ticket →
     IsTicketReply history place (replies.Ticket ticket)
 ticket_given history place ticket is = record { ticket = ticket; answered = refl; issued = tickets_mean history place ticket is }
 
--- the entry that is entered stands at the last place
-last_there : (history : History) (entry : Entry) → entry_at (with_entry history entry) (last_place (with_entry history entry)) ≡ Some entry
-last_there history entry =
-    let more = with_entry history entry in
-    ap (entry_at more) (length-append history.entries (entry ∷ [])) ∙ at_after more history.entries [] entry refl
+-- at the place of a gain a Settle stands
+pub settles_there : (history : History) (place : ℕ) (gain : Amount) → gain_at history place ≡ Some gain → SettlesAt history place
+settles_there history place gain is =
+    let at = gains_mean history place gain is in
+    record { entry = at.entry; there = at.there; settles = ap is_settle at.settle }
 
--- where an entry that issues a ticket was entered, one stands at the last place
-pub entered_issues : (history : History) (entry : Entry) → IsTrue (issues_ticket entry.cmd) →
-    IssuesAt (with_entry history entry) (last_place (with_entry history entry))
-entered_issues history entry issues = record { entry = entry; there = last_there history entry; issues = issues }
+-- a command that settles a book is a Settle
+settle_given : (command : Command) → IsTrue (is_settle command) → (tank : ℕ) × (gauged : Gauged) × (command ≡ Settle tank gauged)
+settle_given (Settle tank gauged) settles = (tank, gauged, refl)
+settle_given command settles = cc
 
--- where another one was entered, none stands there
-pub entered_issues_none : (history : History) (entry : Entry) → IsFalse (issues_ticket entry.cmd) →
-    ¬ (IssuesAt (with_entry history entry) (last_place (with_entry history entry)))
-entered_issues_none history entry none = λ at.
-    let same : Some entry ≡ Some at.entry = sym (last_there history entry) ∙ at.there in
-    let entered : entry ≡ at.entry = cc in
-    let issues : issues_ticket entry.cmd ≡ true = ap (λ (entry : Entry). issues_ticket entry.cmd) entered ∙ at.issues in
-    cc
+-- a place without a gain in a sound history is one where no Settle stands
+pub no_settle_there : (limit : ℕ) (history : History) (place : ℕ) → IsSound limit history → gain_at history place ≡ None → ¬ (SettlesAt history place)
+no_settle_there limit history place sound none = λ at.
+    let given = settle_given at.entry.cmd at.settles in
+    let found = gains_stand limit history place at.entry given.0 given.1 sound.computable sound.legal at.there given.2 in
+    some_isnt_none found.0 (sym found.1 ∙ none)
+
+-- the gain of a place is answered with that gain
+pub gain_given : (history : History) (place : ℕ) (gain : Amount) → gain_at history place ≡ Some gain →
+    IsGainReply history place (replies.Gain place gain)
+gain_given history place gain is = record { gain = gain; answered = refl; measured = gains_mean history place gain is }
+
+-- no command settles a book and issues a ticket
+one_reply : (command : Command) → IsTrue (is_settle command) → IsTrue (issues_ticket command) → ⊥
+one_reply (Settle tank gauged) settles issues = cc
+one_reply command settles issues = cc
+
+-- so where a ticket was issued no Settle stands
+pub issues_no_gain : (history : History) (place : ℕ) → IssuesAt history place → ¬ (SettlesAt history place)
+issues_no_gain history place issued = λ settled.
+    let one : Some issued.entry ≡ Some settled.entry = sym issued.there ∙ settled.there in
+    let same : issued.entry ≡ settled.entry = cc in
+    let issues : issues_ticket settled.entry.cmd ≡ true = sym (ap (λ (entry : Entry). issues_ticket entry.cmd) same) ∙ issued.issues in
+    one_reply settled.entry.cmd settled.settles issues

@@ -1,13 +1,15 @@
--- The tanks of a site whose tables were read: each has a capacity table, and one of the site's products.
-use Rattle.std.proofs.Common.{◌≡◌, inl, inr, ℕ, ◌+◌, ◌<◌, ◌≤◌, get_or, true, List, length, map, arith, sym, subst}
+-- The tanks of a site: they stand in rising order, and where its tables were read each has a capacity table, and one of the site's
+-- products.
+use Rattle.std.proofs.Common.{◌≡◌, inl, inr, ℕ, zero, suc, ◌+◌, ◌<◌, ◌≤◌, get_or, nat_lt, true, List, [], ◌∷◌, length, map, add-one, arith, sym, subst}
 use Rattle.std.specs.List.{list_all}
+use Rattle.std.specs.List.Sorted.{IsStrictlyIncreasing}
 use Rattle.std.proofs.Math.Nat.{eq-or-lt_of_le}
-use Rattle.std.proofs.lemmas.Bool.{and_parts}
+use Rattle.std.proofs.lemmas.Bool.{and_parts, ltb-true}
 use Rattle.std.proofs.lemmas.List.Sums.{AllPass-from_list_all}
 use Rattle.std.proofs.lemmas.Option.{slice_get-get_or}
 use Rattle.modbus_poll.specs.Maps.{is_between}
 use Rattle.strap_table.specs.Capacity.{IsCapTable}
-use Rattle.site_keys.specs.Lists.{are_numbered, rises}
+use Rattle.site_keys.specs.Lists.{are_numbered, rises, rises_from}
 use Rattle.site_items.proofs.TankParts.{product_there}
 use Rattle.site_items.specs.declared.records.Tank.{Tank}
 use Rattle.site_items.specs.declared.tanks.TheConstants.{MOST_TANKS}
@@ -16,7 +18,7 @@ use Rattle.site_items.specs.Products.{product_number}
 use Rattle.site_items.specs.Tanks.{is_tank, tank_number}
 use Rattle.farm_site.specs.declared.site.Site.{Site}
 use Rattle.farm_site.specs.Sites.{described}
-use Rattle.farm_history.specs.Sites.{AreComputable}
+use Rattle.farm_history.specs.Sites.{AreComputable, AreRising}
 
 -- each of the first tanks has a capacity table
 abbrev pub AreRead : List Tank → ℕ → Type 0
@@ -42,18 +44,43 @@ read_more tanks count tank read within is table = λ index default before. elim 
   index_most : (index : ℕ) → index < count + 1 → index ≤ count
   index_most index before = omega arith
 
--- each tank of a site is sound
-each_sound : (products : List ℕ) (tanks : List Tank) → are_tanks products tanks ≡ true → list_all (is_tank products) tanks ≡ true
-each_sound products tanks facts =
+-- each tank of a site is sound, and their numbers rise by the test
+sound_and_rising : (products : List ℕ) (tanks : List Tank) → are_tanks products tanks ≡ true →
+    (list_all (is_tank products) tanks ≡ true) × (rises (map tank_number tanks) ≡ true)
+sound_and_rising products tanks facts =
     let numbered = and_parts (is_between 1 MOST_TANKS (length tanks)) (are_numbered tank_number (is_tank products) tanks) facts in
-    (and_parts (list_all (is_tank products) tanks) (rises (map tank_number tanks)) numbered.1).0
+    and_parts (list_all (is_tank products) tanks) (rises (map tank_number tanks)) numbered.1
 
 -- a site of which each table was read can be computed
 pub read_computable : (site : Site) (count : ℕ) → AreRead site.tanks count → length site.tanks ≤ count → AreComputable (described site)
 read_computable site count read all = λ index default within.
     let products = map product_number site.products in
-    let sound = AllPass-from_list_all (is_tank products) site.tanks (each_sound products site.tanks site.has_tanks) in
+    let sound = AllPass-from_list_all (is_tank products) site.tanks (sound_and_rising products site.tanks site.has_tanks).0 in
     record {
       table = read index default (omega arith);
       product = product_there products (get_or site.tanks index default) (sound index default within);
     }
+
+-- a number below the first of others that rise goes before them
+rises_before : (before first : ℕ) (numbers : List ℕ) → before < first → IsStrictlyIncreasing (first ∷ numbers) →
+    IsStrictlyIncreasing (before ∷ first ∷ numbers)
+rises_before before first numbers less rising zero within = less
+rises_before before first numbers less rising (suc k) within = rw add-one (rw add-one at (rising k (omega arith)))
+
+-- numbers that rise by the test from one on rise
+rise_from : (before : ℕ) (numbers : List ℕ) → rises_from before numbers ≡ true → IsStrictlyIncreasing (before ∷ numbers)
+rise_from before [] rising = λ k within. absurd (omega arith)
+rise_from before (first ∷ numbers) rising =
+    let parts = and_parts (nat_lt before first) (rises_from first numbers) rising in
+    rises_before before first numbers (ltb-true before first parts.0) (rise_from first numbers parts.1)
+
+-- numbers that rise by the test rise
+rise : (numbers : List ℕ) → rises numbers ≡ true → IsStrictlyIncreasing numbers
+rise [] rising = λ k within. absurd (omega arith)
+rise (first ∷ numbers) rising = rise_from first numbers rising
+
+-- the tanks of a site stand in rising order
+pub site_rising : (site : Site) → AreRising (described site)
+site_rising site =
+    let products = map product_number site.products in
+    rise (map tank_number site.tanks) (sound_and_rising products site.tanks site.has_tanks).1

@@ -2,7 +2,7 @@
 use Rattle.std.specs.Prelude.{ℕ, ◌+◌, ◌≤◌}
 use Rattle.farm_history.specs.declared.limits.TheConstants.{GREATEST_LIMIT, STOPS_BEYOND_LIMIT}
 use Rattle.farm_history.specs.History.{History, last_place}
-use Rattle.farm_history.specs.Sites.{AreComputable}
+use Rattle.farm_history.specs.Sites.{AreComputable, AreRising}
 use Rattle.farm_history.specs.Verdicts.{IsLegal}
 
 -- a history, and for how many entries more there is room
@@ -11,9 +11,10 @@ pub record Kept : Type 0 where
   pub spare : ℕ
 
 -- A history is one that a book may have: it is legal, its limit isn't above the greatest, it has no more entries than it may have, and
--- each tank of its site has a capacity table and one of the site's products.
+-- the tanks of its site stand in rising order, each with a capacity table and one of the site's products.
 pub record IsSound (limit : ℕ) (history : History) : Type 0 where
   pub limit_within : limit ≤ GREATEST_LIMIT
   pub legal : IsLegal limit history
   pub few : last_place history ≤ limit + STOPS_BEYOND_LIMIT
   pub computable : AreComputable history.site
+  pub rising : AreRising history.site

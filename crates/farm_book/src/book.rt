@@ -1,12 +1,18 @@
 //! The book.
 
-ghost use Rattle.std.specs.Prelude.{◌≡◌, ◌+◌, ◌≤◌, ℕ, IfOk, IsFalse, IsOk, IsTrue, OnErr, OnOk};
+ghost use Rattle.std.specs.Prelude.{◌≡◌, ◌+◌, ◌≤◌, ℕ, All, IfOk, IsFalse, IsNone, IsOk, IsSome, IsTrue, OnErr, OnOk, option_map};
+ghost use Rattle.farm_stock.specs.Books.{plus};
+ghost use Rattle.farm_stock.specs.Postings.{amount_of, at_tank};
 ghost use Rattle.farm_book.specs.Kept.{IsSound};
-ghost use Rattle.farm_book.specs.Replies.{IsTicketReply, IssuesAt};
+ghost use Rattle.farm_book.specs.Replies.{IsGainReply, IsStockReply, IsTicketReply, IsTotalReply, IssuesAt, SettlesAt};
 ghost use Rattle.farm_entries.specs.Pasts.{IsReadable, history_of};
-ghost use Rattle.farm_history.specs.Commands.{issues_ticket};
+ghost use Rattle.farm_history.specs.Commands.{is_settle, issues_ticket};
+ghost use Rattle.farm_history.specs.Conservation.{Moves};
 ghost use Rattle.farm_history.specs.Desk.{looked_up, reply_at};
-ghost use Rattle.farm_history.specs.History.{IsMoment, IsWellFormed, empty_history, last_moment, last_place, with_entry};
+ghost use Rattle.farm_history.specs.History.{IsMoment, IsWellFormed, empty_history, last_moment, last_place, tank_after, with_entry};
+ghost use Rattle.farm_history.specs.Postings.{postings_at};
+ghost use Rattle.farm_history.specs.Rules.{same_key};
+ghost use Rattle.farm_history.specs.Stocks.{book_of, total_of};
 ghost use Rattle.farm_history.specs.Verdicts.{IsLegal, IsNext, IsVerdict, verdict};
 ghost use Rattle.farm_history.specs.declared.limits.TheConstants.{GREATEST_LIMIT, STOPS_BEYOND_LIMIT};
 ghost use Rattle.farm_site.specs.Sites.{described};
@@ -67,7 +73,7 @@ impl<const LIMIT: usize> Book<LIMIT> {
         verdict_of(LIMIT, &self.past(), entry)
     }
 
-    /// Makes room for one entry more. It fails only where there is none.
+    /// Makes room for one entry more. It fails only where there was no room and no memory for it.
     pub fn reserve(&mut self) -> Result<(), NoMemory>
         ensures room { OnOk result (1 ≤ self.new.spare) }
         ensures history { self.new.history ≡ self.old.history }
@@ -78,7 +84,7 @@ impl<const LIMIT: usize> Book<LIMIT> {
         Ok(())
     }
 
-    /// Takes an accepted entry in at the end. It can't fail, and takes no memory.
+    /// Takes an accepted entry in at the end, and answers the reply for it. It can't fail, and takes no memory.
     #[tactic(auto, unfolding(farm_history::specs::Desk::reply_at))]
     pub fn commit(&mut self, entry: Entry) -> Reply
         requires next { IsNext LIMIT self.old.history entry }
@@ -86,7 +92,11 @@ impl<const LIMIT: usize> Book<LIMIT> {
         ensures entered { self.new.history ≡ with_entry self.old.history entry }
         ensures reply { result ≡ reply_at self.new.history (last_place self.new.history) }
         ensures ticket { IsTrue (issues_ticket entry.cmd) → IsTicketReply self.new.history (last_place self.new.history) result }
-        ensures placed { IsFalse (issues_ticket entry.cmd) → result ≡ Reply.Placed (last_place self.new.history) }
+        ensures gain { IsTrue (is_settle entry.cmd) → IsGainReply self.new.history (last_place self.new.history) result }
+        ensures placed { IsFalse (issues_ticket entry.cmd) → IsFalse (is_settle entry.cmd) → result ≡ Reply.Placed (last_place self.new.history) }
+        ensures once { All (λ other. IsFalse (same_key entry other)) self.old.history.entries }
+        ensures books { (tank : ℕ) → book_of self.new.history tank ≡ option_map (λ book. plus book (amount_of (at_tank tank (postings_at self.new.history (last_place self.new.history))))) (book_of self.old.history tank) }
+        ensures total { Moves (postings_at self.new.history (last_place self.new.history)) (total_of self.old.history) (total_of self.new.history) }
         ensures spare { self.new.spare + 1 ≡ self.old.spare }
     {
         self.entries.push_reserved(entry);
@@ -100,16 +110,24 @@ impl<const LIMIT: usize> Book<LIMIT> {
         requires high { place ≤ last_place self.now.history }
         ensures reply { result ≡ reply_at self.now.history place }
         ensures ticket { IssuesAt self.now.history place → IsTicketReply self.now.history place result }
-        ensures placed { ¬ (IssuesAt self.now.history place) → result ≡ Reply.Placed place }
+        ensures gain { SettlesAt self.now.history place → IsGainReply self.now.history place result }
+        ensures placed { ¬ (IssuesAt self.now.history place) → ¬ (SettlesAt self.now.history place) → result ≡ Reply.Placed place }
     {
-        match self.past().ticket_at(place) {
-            Some(ticket) => Reply::Ticket(ticket),
+        let past = self.past();
+        if let Some(ticket) = past.ticket_at(place) {
+            return Reply::Ticket(ticket);
+        }
+        match past.gain_at(place) {
+            Some(amount) => Reply::Gain { place, amount },
             None => Reply::Placed(place),
         }
     }
 
-    /// The answer to a look-up: the ticket of the place, or `Refused(UnknownTicket)` exactly where no Closing and no Reverse stands
-    /// there. Takes no memory.
+    /// The answer to a look-up. Takes no memory.
+    ///
+    /// Of a ticket it is the ticket of the place, or `Refused(UnknownTicket)` exactly where no Closing and no Reverse stands there. Of
+    /// a stock it is the book of the tank with its last reading and its last sample, or `Refused(UnknownTank)` exactly where the site
+    /// has no such tank. Of the total it is the number of entries and the sum of the books.
     #[tactic(auto, unfolding(farm_history::specs::Desk::looked_up))]
     pub fn look(&self, query: &Query) -> Reply
         ensures looked_up { result ≡ looked_up self.now.history query.now }
@@ -117,11 +135,61 @@ impl<const LIMIT: usize> Book<LIMIT> {
             IsTicketReply self.now.history place result }
         ensures none { (place : ℕ) → query.now ≡ Query.Ticket place → ¬ (IssuesAt self.now.history place) →
             result ≡ Reply.Refused Rule.UnknownTicket }
+        ensures stock { (tank : ℕ) → query.now ≡ Query.Stock tank → IsSome (tank_after self.now.history tank) →
+            IsStockReply self.now.history tank result }
+        ensures no_tank { (tank : ℕ) → query.now ≡ Query.Stock tank → IsNone (tank_after self.now.history tank) →
+            result ≡ Reply.Refused Rule.UnknownTank }
+        ensures total { query.now ≡ Query.Total → IsTotalReply self.now.history result }
     {
-        let Query::Ticket(place) = query;
-        match self.past().ticket_at(*place) {
+        match query {
+            Query::Ticket(place) => self.look_at_ticket(*place),
+            Query::Stock(tank) => self.look_at_stock(*tank),
+            Query::Total => self.look_at_total(),
+        }
+    }
+
+    // The ticket of a place.
+    #[tactic(auto, unfolding(farm_history::specs::Desk::looked_up))]
+    fn look_at_ticket(&self, place: u32) -> Reply
+        ensures looked_up { result ≡ looked_up self.now.history (Query.Ticket place) }
+        ensures ticket { IssuesAt self.now.history place → IsTicketReply self.now.history place result }
+        ensures none { ¬ (IssuesAt self.now.history place) → result ≡ Reply.Refused Rule.UnknownTicket }
+    {
+        match self.past().ticket_at(place) {
             Some(ticket) => Reply::Ticket(ticket),
             None => Reply::Refused(Rule::UnknownTicket),
+        }
+    }
+
+    // The book of a tank.
+    #[tactic(auto, unfolding(farm_history::specs::Desk::looked_up))]
+    fn look_at_stock(&self, tank: u16) -> Reply
+        ensures looked_up { result ≡ looked_up self.now.history (Query.Stock tank) }
+        ensures stock { IsSome (tank_after self.now.history tank) → IsStockReply self.now.history tank result }
+        ensures no_tank { IsNone (tank_after self.now.history tank) → result ≡ Reply.Refused Rule.UnknownTank }
+    {
+        let past = self.past();
+        match past.book_of(tank) {
+            Some(amount) => Reply::Stock {
+                tank,
+                amount,
+                reading: past.last_reading(tank).unwrap_or(0),
+                sample: past.last_sample(tank).unwrap_or(0),
+            },
+            None => Reply::Refused(Rule::UnknownTank),
+        }
+    }
+
+    // What the terminal holds in all.
+    #[tactic(auto, unfolding(farm_history::specs::Desk::looked_up))]
+    fn look_at_total(&self) -> Reply
+        ensures looked_up { result ≡ looked_up self.now.history Query.Total }
+        ensures total { IsTotalReply self.now.history result }
+    {
+        let past = self.past();
+        Reply::Total {
+            entries: past.entries.len() as u32,
+            amount: past.total(),
         }
     }
 

@@ -154,7 +154,8 @@ fn gives_unknown(past: &Past<'_>, command: &Command) -> bool
         Command::Gauge { tank, .. }
         | Command::Dip { tank, .. }
         | Command::Sample { tank, .. }
-        | Command::Opening(Plan::Outside { tank, .. }) => is_missing(past, *tank),
+        | Command::Opening(Plan::Outside { tank, .. })
+        | Command::Settle { tank, .. } => is_missing(past, *tank),
         Command::Opening(Plan::Transfer { from, to, .. }) => {
             is_missing(past, *from) || is_missing(past, *to)
         }

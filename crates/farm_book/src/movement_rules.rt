@@ -3,15 +3,16 @@
 
 ghost use Rattle.std.specs.Prelude.{◌≡◌};
 ghost use Rattle.farm_entries.specs.Pasts.{IsReadable, history_of};
-ghost use Rattle.farm_history.specs.Commands.{tanks_of_plan};
+ghost use Rattle.farm_history.specs.Commands.{tanks_needed};
 ghost use Rattle.farm_history.specs.Given.{first_given};
-ghost use Rattle.farm_history.specs.MovementRules.{already_reversed, is_closing, movement_named, no_movement, other_product, same_tank, tank_busy, unknown_party, unknown_ticket};
+ghost use Rattle.farm_history.specs.MovementRules.{already_reversed, is_closing, movement_named, no_movement, other_product, same_tank, settled, settled_after, settled_later, tank_busy, unknown_party, unknown_ticket};
 ghost use Rattle.farm_history.specs.Movements.{holding_movement};
-ghost use Rattle.farm_history.specs.Rules.{broken_by_movement, broken_by_names};
+ghost use Rattle.farm_history.specs.Rules.{broken_by_movement, broken_by_names, broken_by_ticket};
 
 use crate::named_rules::broken_by_names;
 use farm_entries::Past;
 use farm_history::{Command, Plan, Rule};
+use farm_ticket::Ticket;
 use site_keys::item_numbered;
 
 /// The first rule on movements and tickets that a command breaks.
@@ -35,10 +36,22 @@ pub fn broken_by_movement(past: &Past<'_>, command: &Command) -> Option<Rule>
     if let Some(rule) = broken_by_names(past, command) {
         return Some(rule);
     }
+    broken_by_ticket(past, command)
+}
+
+// The first rule that is broken by the ticket which a Reverse names.
+#[tactic(auto, unfolding(farm_history::specs::Rules::broken_by_ticket))]
+fn broken_by_ticket(past: &Past<'_>, command: &Command) -> Option<Rule>
+    requires readable { IsReadable (history_of past.now.site.now past.now.entries.now) }
+    ensures broken { result ≡ broken_by_ticket (history_of past.now.site.now past.now.entries.now) command.now }
+{
     if let Some(rule) = unknown_ticket(past, command) {
         return Some(rule);
     }
-    already_reversed(past, command)
+    if let Some(rule) = already_reversed(past, command) {
+        return Some(rule);
+    }
+    settled(past, command)
 }
 
 /// Rule 4: the party of a receipt or a delivery isn't of the site.
@@ -82,29 +95,29 @@ fn other_product(past: &Past<'_>, command: &Command) -> Option<Rule>
     Some(Rule::OtherProduct)
 }
 
-// Rule 11: a tank of an Opening is named by an open movement.
+// Rule 11: a tank of an Opening or a Settle is named by an open movement.
 #[tactic(auto, unfolding(farm_history::specs::MovementRules::tank_busy))]
 fn tank_busy(past: &Past<'_>, command: &Command) -> Option<Rule>
     requires readable { IsReadable (history_of past.now.site.now past.now.entries.now) }
     ensures rule { result ≡ tank_busy (history_of past.now.site.now past.now.entries.now) command.now }
 {
-    let Command::Opening(plan) = command else {
-        return None;
-    };
-    Some(Rule::TankBusy(holding(past, plan)?))
+    Some(Rule::TankBusy(holding(past, command)?))
 }
 
-// The place of the movement that holds a tank of a plan, the first tank's first.
-fn holding(past: &Past<'_>, plan: &Plan) -> Option<u32>
+// The place of the movement that holds a tank which a command needs free, the first tank's first.
+fn holding(past: &Past<'_>, command: &Command) -> Option<u32>
     requires readable { IsReadable (history_of past.now.site.now past.now.entries.now) }
-    ensures holding { result ≡ first_given (holding_movement (history_of past.now.site.now past.now.entries.now)) (tanks_of_plan plan.now) }
+    ensures holding { result ≡ first_given (holding_movement (history_of past.now.site.now past.now.entries.now)) (tanks_needed command.now) }
 {
-    match plan {
-        Plan::Outside { tank, .. } => past.holding_movement(*tank),
-        Plan::Transfer { from, to, .. } => match past.holding_movement(*from) {
+    match command {
+        Command::Opening(Plan::Outside { tank, .. }) | Command::Settle { tank, .. } => {
+            past.holding_movement(*tank)
+        }
+        Command::Opening(Plan::Transfer { from, to, .. }) => match past.holding_movement(*from) {
             Some(place) => Some(place),
             None => past.holding_movement(*to),
         },
+        _ => None,
     }
 }
 
@@ -151,7 +164,7 @@ fn is_closing(command: &Command) -> bool
     matches!(command, Command::Closing { .. })
 }
 
-// Rule 21: a Reverse names the ticket already.
+// Rule 21, its first part: a Reverse names the ticket already.
 #[tactic(auto, unfolding(farm_history::specs::MovementRules::already_reversed))]
 fn already_reversed(past: &Past<'_>, command: &Command) -> Option<Rule>
     requires readable { IsReadable (history_of past.now.site.now past.now.entries.now) }
@@ -161,4 +174,39 @@ fn already_reversed(past: &Past<'_>, command: &Command) -> Option<Rule>
         return None;
     };
     Some(Rule::AlreadyReversed(past.reversal_of(*ticket)?))
+}
+
+// Rule 21, its second part: the last Settle of a tank of the ticket is later than the ticket.
+#[tactic(auto, unfolding(farm_history::specs::MovementRules::settled))]
+fn settled(past: &Past<'_>, command: &Command) -> Option<Rule>
+    requires readable { IsReadable (history_of past.now.site.now past.now.entries.now) }
+    ensures rule { result ≡ settled (history_of past.now.site.now past.now.entries.now) command.now }
+{
+    let Command::Reverse { ticket: place } = command else {
+        return None;
+    };
+    let ticket = past.closing_ticket(*place)?;
+    Some(Rule::Settled(settled_after(past, *place, &ticket)?))
+}
+
+// The place of the last Settle of a tank of a ticket, where it is later than the ticket, the first tank first.
+fn settled_after(past: &Past<'_>, place: u32, ticket: &Ticket) -> Option<u32>
+    requires readable { IsReadable (history_of past.now.site.now past.now.entries.now) }
+    ensures settled { result ≡ settled_after (history_of past.now.site.now past.now.entries.now) place ticket.now }
+{
+    if let Some(settle) = settled_later(place, past.last_settlement(ticket.first.tank)) {
+        return Some(settle);
+    }
+    let second = ticket.second.as_ref()?;
+    settled_later(place, past.last_settlement(second.tank))
+}
+
+// The place of a Settle, where it is later than a ticket.
+fn settled_later(ticket: u32, settle: Option<u32>) -> Option<u32>
+    ensures later { result ≡ settled_later ticket settle }
+{
+    match settle {
+        Some(place) if ticket < place => Some(place),
+        _ => None,
+    }
 }

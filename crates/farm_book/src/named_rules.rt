@@ -4,14 +4,13 @@ ghost use Rattle.std.specs.Prelude.{◌≡◌, not};
 ghost use Rattle.std.specs.List.{list_any};
 ghost use Rattle.farm_entries.specs.Pairs.{listed, listed_one};
 ghost use Rattle.farm_entries.specs.Pasts.{IsReadable, history_of};
-ghost use Rattle.farm_history.specs.Commands.{is_gauging_of, is_sample_of};
 ghost use Rattle.farm_history.specs.Figures.{named_by};
 ghost use Rattle.farm_history.specs.Given.{first_given};
 ghost use Rattle.farm_history.specs.MovementRules.{has_reading, has_sample, names_each, names_too_few_or_many, stale_for, stale_reading, unknown_reading, unknown_sample};
 ghost use Rattle.farm_history.specs.Rules.{broken_by_figures, broken_by_names};
 
 use crate::figure_rules::broken_by_figures;
-use farm_entries::{Pairs, Past};
+use farm_entries::{Pairs, Past, is_gauging_of, is_sample_of};
 use farm_history::{Command, Gauged, Named, Plan, Rule};
 
 /// The first rule that is broken by what a command names for its tanks.
@@ -89,16 +88,6 @@ fn lacks_reading(past: &Past<'_>, pair: &Option<Named>) -> bool
     }
 }
 
-// Whether a command is a gauge's reading or a dip of a tank.
-fn is_gauging_of(tank: u16, command: &Command) -> bool
-    ensures gauging { result ≡ is_gauging_of tank command.now }
-{
-    match command {
-        Command::Gauge { tank: number, .. } | Command::Dip { tank: number, .. } => *number == tank,
-        _ => false,
-    }
-}
-
 // Rule 14: a named sample isn't one of that tank.
 #[tactic(auto, unfolding(farm_history::specs::MovementRules::unknown_sample))]
 fn unknown_sample(past: &Past<'_>, command: &Command, pairs: &Pairs) -> Option<Rule>
@@ -124,16 +113,6 @@ fn lacks_sample(past: &Past<'_>, pair: &Option<Named>) -> bool
     }
 }
 
-// Whether a command is a sample of a tank.
-fn is_sample_of(tank: u16, command: &Command) -> bool
-    ensures sample { result ≡ is_sample_of tank command.now }
-{
-    match command {
-        Command::Sample { tank: number, .. } => *number == tank,
-        _ => false,
-    }
-}
-
 // Rule 15: a named reading is stale, the first tank's first.
 #[tactic(auto, unfolding(farm_history::specs::MovementRules::stale_reading))]
 fn stale_reading(past: &Past<'_>, command: &Command, pairs: &Pairs) -> Option<Rule>
@@ -155,7 +134,7 @@ fn stale_for(past: &Past<'_>, command: &Command, pair: &Option<Named>) -> Option
         return None;
     };
     match command {
-        Command::Opening(_) => {
+        Command::Opening(_) | Command::Settle { .. } => {
             let used = past.used_reading(pair.tank)?;
             (pair.gauged.reading < used).then_some(used)
         }

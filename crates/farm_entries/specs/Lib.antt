@@ -1,2 +1,4 @@
 pub mod Pasts
 pub mod Pairs
+pub mod Bounds
+pub mod Ledgers

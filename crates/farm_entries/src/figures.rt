@@ -1,6 +1,7 @@
 //! The figures of a tank on a reading and a sample that entries record.
 
-ghost use Rattle.std.specs.Prelude.{◌≡◌, [], ◌∷◌, ◌++◌};
+ghost use Rattle.std.specs.Prelude.{◌≡◌, [], ◌∷◌, ◌++◌, IfOk, IfSome};
+ghost use Rattle.farm_chain.specs.Volumes.{AreInRange};
 ghost use Rattle.farm_entries.specs.Pasts.{IsInRange, IsReadable, history_of};
 ghost use Rattle.farm_entries.specs.Pairs.{listed};
 ghost use Rattle.farm_history.specs.Commands.{tank_of};
@@ -24,7 +25,8 @@ pub struct Pairs {
 }
 
 impl Past<'_> {
-    /// The reading that is recorded at a place. `None` exactly where no gauge's reading and no dip stands there.
+    /// The reading that is recorded at a place. `None` where no gauge's reading and no dip stands there, and where its tank isn't of the
+    /// site or its tapes give no reading, which doesn't occur in a legal history.
     #[tactic(auto, unfolding(farm_history::specs::Gauging::recorded_reading, farm_history::specs::Gauging::gauging_after, farm_history::specs::History::tank_after))]
     pub fn recorded_reading(&self, place: u32) -> Option<Reading>
         requires readable { IsReadable (history_of self.now.site.now self.now.entries.now) }
@@ -52,12 +54,13 @@ impl Past<'_> {
         }
     }
 
-    /// The custody calculation of a tank on the reading and the sample that are named for it. `None` exactly where the site has no
-    /// such tank, or no reading or no sample stands there.
+    /// The custody calculation of a tank on the reading and the sample that are named for it. `None` where the site has no such tank, no
+    /// reading or no sample is recorded there, or the tank's product isn't of the site.
     #[tactic(auto, unfolding(farm_history::specs::Figures::calculated_at, farm_history::specs::History::tank_after))]
     pub fn calculated_at(&self, pair: &Named) -> Option<Result<Quantities, ChainRule>>
         requires readable { IsReadable (history_of self.now.site.now self.now.entries.now) }
         ensures calculated { result ≡ calculated_at (history_of self.now.site.now self.now.entries.now) pair.now }
+        ensures range { IfSome result (λ calculated. IfOk calculated AreInRange) }
     {
         let tank = self.site.tank(pair.tank)?;
         let product = self.site.product(tank.product)?;
@@ -78,6 +81,7 @@ impl Past<'_> {
     pub fn figures_at(&self, pair: &Named) -> Option<Quantities>
         requires readable { IsReadable (history_of self.now.site.now self.now.entries.now) }
         ensures figures { result ≡ figures_at (history_of self.now.site.now self.now.entries.now) pair.now }
+        ensures range { IfSome result AreInRange }
     {
         match self.calculated_at(pair)? {
             Ok(figures) => Some(figures),
@@ -102,6 +106,10 @@ impl Past<'_> {
                     first: None,
                     second: None,
                 },
+            },
+            Command::Settle { tank, gauged } => Pairs {
+                first: Some(named(*tank, gauged)),
+                second: None,
             },
             _ => Pairs {
                 first: None,

@@ -1,17 +1,24 @@
-//! What the entries of a history say: readings and samples, the figures of a tank, which movements are open, and tickets.
+//! What the entries of a history say: readings and samples, the figures of a tank, which movements are open, tickets, and the books of
+//! tanks.
 //!
 //! The definitions are those of `farm_history`; what stands here is how they are computed. Nothing here takes memory.
 #![tactic(auto)]
 
+mod amounts;
 mod fields;
 mod figures;
 mod gauging;
+mod last_places;
+mod ledger;
 mod movements;
 mod past;
+mod postings;
+mod stocks;
 mod tickets;
 
 pub use fields::first_bad_field;
 pub use figures::{Pairs, tank_of};
 pub use gauging::refused_gauging;
+pub use last_places::{is_gauging_of, is_sample_of};
 pub use past::Past;
 pub use tickets::{ToClose, goes_wrong};

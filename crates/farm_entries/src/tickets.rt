@@ -1,7 +1,9 @@
 //! Tickets among entries: what a movement was opened on, what it is closed on, and what a Closing or a Reverse issues.
 
 ghost use Rattle.std.specs.Prelude.{◌≡◌, ◌↔◌, IfSome, IsSome};
+ghost use Rattle.farm_chain.specs.Volumes.{AreInRange};
 ghost use Rattle.farm_ticket.specs.Reversing.{SidesAddUp};
+ghost use Rattle.farm_entries.specs.Bounds.{IsClosedInRange, IsOpenedInRange};
 ghost use Rattle.farm_entries.specs.Pasts.{IsReadable, history_of};
 ghost use Rattle.farm_history.specs.Commands.{issues_ticket};
 ghost use Rattle.farm_history.specs.History.{last_place};
@@ -18,7 +20,8 @@ use farm_ticket::{Ticket, Way};
 pub type ToClose = (OpenMove, Quantities, Option<Quantities>);
 
 impl Past<'_> {
-    /// The ticket of the entry at a place. `None` exactly where no Closing and no Reverse stands there.
+    /// The ticket of the entry at a place. `None` where no Closing and no Reverse stands there, and where a figure of its sides isn't
+    /// calculated or a side goes the wrong way, which doesn't occur in a legal history.
     #[tactic(auto, unfolding(farm_history::specs::Tickets::ticket_at))]
     pub fn ticket_at(&self, place: u32) -> Option<Ticket>
         requires readable { IsReadable (history_of self.now.site.now self.now.entries.now) }
@@ -40,9 +43,9 @@ impl Past<'_> {
         Some(reversed.reversal(place, self.next_number()))
     }
 
-    // The ticket of the Closing at a place.
+    /// The ticket of the Closing at a place. `None` as for `ticket_at`, and where a Reverse stands there.
     #[tactic(auto, unfolding(farm_history::specs::Tickets::closing_ticket))]
-    fn closing_ticket(&self, place: u32) -> Option<Ticket>
+    pub fn closing_ticket(&self, place: u32) -> Option<Ticket>
         requires readable { IsReadable (history_of self.now.site.now self.now.entries.now) }
         ensures ticket { result ≡ closing_ticket (history_of self.now.site.now self.now.entries.now) place }
         ensures adds_up { IfSome result SidesAddUp }
@@ -94,6 +97,7 @@ impl Past<'_> {
         requires readable { IsReadable (history_of self.now.site.now self.now.entries.now) }
         ensures to_close { result ≡ to_close (history_of self.now.site.now self.now.entries.now) movement first.now second.now }
         ensures sides { IfSome result (λ close. IsSome close.2 ↔ IsSome close.0.second) }
+        ensures range { IfSome result IsClosedInRange }
     {
         let plan = self.opened_at(movement)?;
         let opened = self.movement_of(movement, &plan)?;
@@ -106,6 +110,7 @@ impl Past<'_> {
     fn movement_of(&self, place: u32, plan: &Plan) -> Option<OpenMove>
         requires readable { IsReadable (history_of self.now.site.now self.now.entries.now) }
         ensures movement { result ≡ movement_of (history_of self.now.site.now self.now.entries.now) place plan.now }
+        ensures range { IfSome result IsOpenedInRange }
     {
         match plan {
             Plan::Outside {
@@ -135,6 +140,7 @@ impl Past<'_> {
     fn leg_at(&self, way: Way, pair: &Named) -> Option<Leg>
         requires readable { IsReadable (history_of self.now.site.now self.now.entries.now) }
         ensures leg { result ≡ leg_at (history_of self.now.site.now self.now.entries.now) way pair.now }
+        ensures range { IfSome result (λ leg. AreInRange leg.opening) }
     {
         let opening = self.figures_at(pair)?;
         Some(Leg {
@@ -156,6 +162,8 @@ impl Past<'_> {
     ) -> Option<(Quantities, Option<Quantities>)>
         requires readable { IsReadable (history_of self.now.site.now self.now.entries.now) }
         ensures figures { result ≡ figures_at_closing (history_of self.now.site.now self.now.entries.now) first.now second.now plan.now }
+        ensures first_range { IfSome result (λ figures. AreInRange figures.0) }
+        ensures second_range { IfSome result (λ figures. IfSome figures.1 AreInRange) }
     {
         match (plan, second) {
             (Plan::Outside { tank, .. }, _) => {
@@ -172,8 +180,8 @@ impl Past<'_> {
     }
 }
 
-// The ticket of a movement that is closed at a place, with this number. `None` exactly where a side goes the wrong way.
-fn closed(
+/// The ticket of a movement that is closed at a place, with this number. `None` exactly where a side goes the wrong way.
+pub(crate) fn closed(
     place: u32,
     number: u32,
     movement: OpenMove,

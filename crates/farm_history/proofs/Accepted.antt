@@ -12,20 +12,20 @@ use Rattle.farm_history.specs.declared.verdict.Verdict.TheVariants.{Accept}
 use Rattle.farm_history.specs.Figures.{calculated_at, named_by}
 use Rattle.farm_history.specs.Gauging.{gauging_after}
 use Rattle.farm_history.specs.History.{History}
-use Rattle.farm_history.specs.MovementRules.{already_reversed, broken_where, critical_zone, has_reading, has_sample, is_critical_zone, is_negative, is_no_entry, is_refused_on, is_refused_with, names_too_few_or_many, negative, no_entry, no_movement, other_product, same_tank, stale_reading, tank_busy, unknown_party, unknown_reading, unknown_sample, unknown_ticket, wrong_way}
+use Rattle.farm_history.specs.MovementRules.{already_reversed, broken_where, critical_zone, has_reading, has_sample, is_critical_zone, is_negative, is_no_entry, is_refused_on, is_refused_with, names_too_few_or_many, negative, no_entry, no_movement, other_product, same_tank, settled, stale_reading, tank_busy, unknown_party, unknown_reading, unknown_sample, unknown_ticket, wrong_way}
 use Rattle.farm_history.specs.Places.{first_place}
-use Rattle.farm_history.specs.Rules.{broken_by_command, broken_by_figures, broken_by_movement, broken_by_names, broken_rule, history_full, is_repeat, key_reused, out_of_range, refused_gauging, unknown_tank}
+use Rattle.farm_history.specs.Rules.{broken_by_command, broken_by_figures, broken_by_movement, broken_by_names, broken_by_ticket, broken_rule, history_full, is_repeat, key_reused, out_of_range, refused_gauging, unknown_tank}
 use Rattle.farm_history.specs.Verdicts.{refused_or_accepted, repeated_or, verdict}
 use Rattle.farm_history.specs.declared.rule.Rule.TheVariants.{CriticalZone, Negative, NoEntry, UnknownReading, UnknownSample}
 use Rattle.farm_history.proofs.OpenMovements.{none_passes}
 
--- neither of two rules is broken where the first of them isn't
-both_none : (first second : Option Rule) → or_else first second ≡ None → (first ≡ None) × (second ≡ None)
+-- where the first of two rules that is broken is missing, neither is broken
+pub both_none : (first second : Option Rule) → or_else first second ≡ None → (first ≡ None) × (second ≡ None)
 both_none None second e = (refl, e)
 both_none (Some rule) second e = cc
 
 -- an accepted entry breaks no rule
-unbroken : (limit : ℕ) (history : History) (entry : Entry) → verdict limit history entry ≡ Accept → broken_rule limit history entry ≡ None
+pub unbroken : (limit : ℕ) (history : History) (entry : Entry) → verdict limit history entry ≡ Accept → broken_rule limit history entry ≡ None
 unfolding verdict
 unbroken limit history entry accepted =
     by (first_place (is_repeat entry) history.entries) (broken_rule limit history entry) accepted
@@ -66,17 +66,18 @@ record MovesWell (history : History) (command : Command) : Type 0 where
 
 -- such a command
 moves_well : (history : History) (command : Command) → broken_by_movement history command ≡ None → MovesWell history command
-unfolding broken_by_movement
+unfolding broken_by_movement broken_by_ticket
 moves_well history command all =
-    let last = or_else (unknown_ticket history command) (already_reversed history command) in
-    let names = or_else (broken_by_names history command) last in
+    let reversed = or_else (already_reversed history command) (settled history command) in
+    let ticket = or_else (unknown_ticket history command) reversed in
+    let names = or_else (broken_by_names history command) ticket in
     let movement = or_else (no_movement history command) names in
     let r9 = both_none (same_tank command) (or_else (other_product history command) (or_else (tank_busy history command) movement)) all in
     let r10 = both_none (other_product history command) (or_else (tank_busy history command) movement) r9.1 in
     let r11 = both_none (tank_busy history command) movement r10.1 in
     let r12 = both_none (no_movement history command) names r11.1 in
-    let r13 = both_none (broken_by_names history command) last r12.1 in
-    let r20 = both_none (unknown_ticket history command) (already_reversed history command) r13.1 in
+    let r13 = both_none (broken_by_names history command) ticket r12.1 in
+    let r20 = both_none (unknown_ticket history command) reversed r13.1 in
     record { movement = r12.0; names = r13.0; ticket = r20.0 }
 
 -- a command breaks none of the rules on what it names

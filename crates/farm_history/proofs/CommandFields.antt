@@ -5,7 +5,7 @@ use mir.Val.{SFits}
 use Rattle.std.proofs.lemmas.List.Elements.{All-from_recursion, recursion_from_All}
 use Rattle.farm_history.specs.declared.few.Few.{Few}
 use Rattle.farm_history.specs.declared.command.Command.{Command}
-use Rattle.farm_history.specs.declared.command.Command.TheVariants.{Gauge, Dip, Sample, Opening, Closing, Cancel, Reverse, Stop}
+use Rattle.farm_history.specs.declared.command.Command.TheVariants.{Gauge, Dip, Sample, Opening, Closing, Cancel, Reverse, Settle, Stop}
 use Rattle.farm_history.specs.Commands.{IsShortList, IsWellFormedCommand}
 use Rattle.farm_history.specs.Decoding.{dip_at, gauge_at, sample_at}
 use Rattle.farm_history.specs.Encoding.{IsTypedCommand, IsTypedList, command_bytes, gauged_bytes, kind_byte, list_bytes, plan_bytes, second_bytes, signed_bytes}
@@ -25,6 +25,7 @@ tag_of (Sample tank density sw) = 3
 tag_of (Opening plan) = 4
 tag_of (Closing movement first second) = 5
 tag_of (Cancel movement) = 6
+tag_of (Settle tank gauged) = 7
 tag_of (Reverse ticket) = 8
 tag_of Stop = 9
 
@@ -38,6 +39,7 @@ fields_bytes (Sample tank density sw) = to_be_bytes w16 tank ++ (signed_bytes de
 fields_bytes (Opening plan) = plan_bytes plan
 fields_bytes (Closing movement first second) = to_be_bytes w32 movement ++ (gauged_bytes first ++ second_bytes second)
 fields_bytes (Cancel movement) = to_be_bytes w32 movement
+fields_bytes (Settle tank gauged) = to_be_bytes w16 tank ++ gauged_bytes gauged
 fields_bytes (Reverse ticket) = to_be_bytes w32 ticket
 fields_bytes Stop = []
 
@@ -50,6 +52,7 @@ tag_and_fields (Sample tank density sw) = refl
 tag_and_fields (Opening plan) = refl
 tag_and_fields (Closing movement first second) = refl
 tag_and_fields (Cancel movement) = refl
+tag_and_fields (Settle tank gauged) = refl
 tag_and_fields (Reverse ticket) = refl
 tag_and_fields Stop = refl
 
@@ -111,7 +114,7 @@ dip_of f = Dip f.0 f.1.0 f.1.1.0 f.1.1.1.0 f.1.1.1.1.0 f.1.1.1.1.1
 abbrev FitsDip : Dipped → Type 0
 FitsDip f = (f.0 < 2 ^ 16) × (Unit {0} × (IsGoodList f.1.1.0 × (IsGoodList f.1.1.1.0 × (IsGoodList f.1.1.1.1.0 × SFits w64 f.1.1.1.1.1))))
 
--- a list for where there is none
+-- a list with no numbers
 no_list : Few
 no_list = record { count = 0; values = [] }
 

@@ -35,7 +35,7 @@ water_means rounding (tape ∷ tapes) number =
     let means = tapes_mean WATER_TAPE_COUNT WATER_TAPE_SPREAD rounding (tape ∷ tapes) number in
     (λ f. (λ (e : tape ∷ tapes ≡ []). cc, means.0 f), λ w. means.1 w.1)
 
--- what a level is: an innage, or why there is none
+-- what a level is: an innage, or the number of what is wrong with it
 record IsLevel (height : ℤ) (outage : Bool) (tape : ℤ) (level : Result ℤ ℕ) : Type 0 where
   fault : (number : ℕ) → level ≡ Err number → IsBelowDatum height outage tape × (number ≡ BELOW_DATUM)
   below : IsBelowDatum height outage tape → level ≡ Err BELOW_DATUM

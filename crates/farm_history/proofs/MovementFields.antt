@@ -1,15 +1,15 @@
--- The readers of Openings, Closings, Cancels and Reverses after their tags.
-use Rattle.std.proofs.Common.{◌≡◌, ℕ, ◌^◌, ◌<◌, ◌++◌, Option, None, refl, arith}
-use Rattle.std.specs.Int.{w32, to_be_bytes}
+-- The readers of Openings, Closings, Cancels, Settles and Reverses after their tags.
+use Rattle.std.proofs.Common.{◌≡◌, ℕ, ◌^◌, ◌<◌, Bool, true, false, ◌++◌, Option, None, refl, arith}
+use Rattle.std.specs.Int.{w16, w32, to_be_bytes}
 use Rattle.farm_history.specs.declared.command.Command.{Command}
-use Rattle.farm_history.specs.declared.command.Command.TheVariants.{Opening, Closing, Cancel, Reverse}
+use Rattle.farm_history.specs.declared.command.Command.TheVariants.{Opening, Closing, Cancel, Reverse, Settle}
 use Rattle.farm_history.specs.declared.plan.Gauged.{Gauged}
 use Rattle.farm_history.specs.declared.plan.Plan.{Plan}
 use Rattle.farm_history.specs.declared.plan.Plan.TheVariants.{Transfer}
-use Rattle.farm_history.specs.Decoding.{cancel_at, closing_at, opening_at, reverse_at}
+use Rattle.farm_history.specs.Decoding.{cancel_at, closing_at, made_at, number_at, opening_at, reverse_at, settle_at}
 use Rattle.farm_history.specs.Encoding.{IsTypedGauged, IsTypedPlan, IsTypedSecond, gauged_bytes, plan_bytes, second_bytes}
 use Rattle.farm_history.proofs.CommandFields.{IsOf, fields_bytes, tag_of}
-use Rattle.farm_history.proofs.NumberReaders.{number_reader, wide32}
+use Rattle.farm_history.proofs.NumberReaders.{number_reader, wide16, wide32}
 use Rattle.farm_history.proofs.PlanReaders.{gauged_reader, no_gauged, plan_reader}
 use Rattle.farm_history.proofs.Readers.{IsReader, made_reader, then_reader}
 use Rattle.farm_history.proofs.SecondReader.{second_reader}
@@ -97,74 +97,117 @@ closing_reader =
     made_reader (then_reader (number_reader w32 (2 ^ 32) wide32) (λ a ha. then_reader gauged_reader (λ b hb. second_reader)))
     (record { to = closing_to; same = λ f h. closing_same f; of = closing_parts; back = closing_back; of_fits = closing_fits })
 
--- ---- Cancels
+-- ---- Settles
 
--- the movement of a Cancel
-cancel_parts : Command → ℕ
-cancel_parts (Cancel movement) = movement
-cancel_parts command = 0
+-- the fields of a Settle
+abbrev Settled : Type 0
+Settled = ℕ × Gauged
 
--- a movement of its type makes a Cancel
-cancel_to : (movement : ℕ) → movement < 2 ^ 32 → IsOf 6 (Cancel movement)
+-- the Settle of its fields
+abbrev settle_of : Settled → Command
+settle_of f = Settle f.0 f.1
+
+-- the fields are each of their types
+abbrev FitsSettle : Settled → Type 0
+FitsSettle f = (f.0 < 2 ^ 16) × IsTypedGauged f.1
+
+-- the fields of a Settle
+settle_parts : Command → Settled
+settle_parts (Settle tank gauged) = (tank, gauged)
+settle_parts command = (0, no_gauged)
+
+-- fields of their types make a Settle
+settle_to : (f : Settled) → FitsSettle f → IsOf 7 (settle_of f)
 unfolding tag_of
-cancel_to movement h = (refl, (h, tt))
+settle_to f h = (refl, ((h.0, h.1), tt))
 
--- a Cancel is made of its movement
-cancel_back : (c : Command) → IsOf 6 c → Cancel (cancel_parts c) ≡ c
-unfolding tag_of cancel_parts
-cancel_back (Cancel movement) h = refl
-cancel_back c h = absurd (omega (arith, h.0))
+-- a Settle is made of its fields
+settle_back : (c : Command) → IsOf 7 c → settle_of (settle_parts c) ≡ c
+unfolding tag_of settle_parts
+settle_back (Settle tank gauged) h = refl
+settle_back c h = absurd (omega (arith, h.0))
+
+-- which are of their types
+settle_fits : (c : Command) → IsOf 7 c → FitsSettle (settle_parts c)
+unfolding tag_of settle_parts
+settle_fits (Settle tank gauged) h = (h.1.0.0, h.1.0.1)
+settle_fits c h = absurd (omega (arith, h.0))
+
+-- the bytes after the tag are those of the fields
+settle_same : (f : Settled) → fields_bytes (settle_of f) ≡ to_be_bytes w16 f.0 ++ gauged_bytes f.1
+unfolding fields_bytes
+settle_same f = refl
+
+-- Settles after their tag
+pub settle_reader : IsReader (IsOf 7) fields_bytes settle_at
+unfolding settle_at
+settle_reader =
+    made_reader (then_reader (number_reader w16 (2 ^ 16) wide16) (λ a ha. gauged_reader))
+    (record { to = settle_to; same = λ f h. settle_same f; of = settle_parts; back = settle_back; of_fits = settle_fits })
+
+-- ---- Cancels and Reverses, whose one field is a place
+
+-- a Reverse of a place, or else a Cancel of it
+abbrev placed : Bool → ℕ → Command
+placed true place = Reverse place
+placed false place = Cancel place
+
+-- the tag of a Reverse, or else that of a Cancel
+abbrev placed_tag : Bool → ℕ
+placed_tag true = 8
+placed_tag false = 6
+
+-- the place that a Cancel or a Reverse names
+place_named : Command → ℕ
+place_named (Cancel movement) = movement
+place_named (Reverse ticket) = ticket
+place_named command = 0
+
+-- a place of its type makes such a command
+placed_to : (reverse : Bool) (place : ℕ) → place < 2 ^ 32 → IsOf (placed_tag reverse) (placed reverse place)
+unfolding tag_of
+placed_to true place h = (refl, (h, tt))
+placed_to false place h = (refl, (h, tt))
+
+-- such a command is made of its place
+placed_back : (reverse : Bool) (c : Command) → IsOf (placed_tag reverse) c → placed reverse (place_named c) ≡ c
+unfolding tag_of place_named
+placed_back true (Reverse ticket) h = refl
+placed_back true c h = absurd (omega (arith, h.0))
+placed_back false (Cancel movement) h = refl
+placed_back false c h = absurd (omega (arith, h.0))
 
 -- which is of its type
-cancel_fits : (c : Command) → IsOf 6 c → cancel_parts c < 2 ^ 32
-unfolding tag_of cancel_parts
-cancel_fits (Cancel movement) h = h.1.0
-cancel_fits c h = absurd (omega (arith, h.0))
+placed_fits : (reverse : Bool) (c : Command) → IsOf (placed_tag reverse) c → place_named c < 2 ^ 32
+unfolding tag_of place_named
+placed_fits true (Reverse ticket) h = h.1.0
+placed_fits true c h = absurd (omega (arith, h.0))
+placed_fits false (Cancel movement) h = h.1.0
+placed_fits false c h = absurd (omega (arith, h.0))
 
--- the bytes after the tag are those of the movement
-cancel_same : (movement : ℕ) → fields_bytes (Cancel movement) ≡ to_be_bytes w32 movement
+-- the bytes after the tag are those of the place
+placed_same : (reverse : Bool) (place : ℕ) → fields_bytes (placed reverse place) ≡ to_be_bytes w32 place
 unfolding fields_bytes
-cancel_same movement = refl
+placed_same true place = refl
+placed_same false place = refl
+
+-- such commands after their tag
+placed_reader : (reverse : Bool) → IsReader (IsOf (placed_tag reverse)) fields_bytes (made_at (placed reverse) (number_at w32))
+placed_reader reverse =
+    made_reader (number_reader w32 (2 ^ 32) wide32) (record {
+      to = placed_to reverse;
+      same = λ place h. placed_same reverse place;
+      of = place_named;
+      back = placed_back reverse;
+      of_fits = placed_fits reverse;
+    })
 
 -- Cancels after their tag
 pub cancel_reader : IsReader (IsOf 6) fields_bytes cancel_at
 unfolding cancel_at
-cancel_reader =
-    made_reader (number_reader w32 (2 ^ 32) wide32)
-    (record { to = cancel_to; same = λ movement h. cancel_same movement; of = cancel_parts; back = cancel_back; of_fits = cancel_fits })
-
--- ---- Reverses
-
--- the ticket of a Reverse
-reverse_parts : Command → ℕ
-reverse_parts (Reverse ticket) = ticket
-reverse_parts command = 0
-
--- a ticket of its type makes a Reverse
-reverse_to : (ticket : ℕ) → ticket < 2 ^ 32 → IsOf 8 (Reverse ticket)
-unfolding tag_of
-reverse_to ticket h = (refl, (h, tt))
-
--- a Reverse is made of its ticket
-reverse_back : (c : Command) → IsOf 8 c → Reverse (reverse_parts c) ≡ c
-unfolding tag_of reverse_parts
-reverse_back (Reverse ticket) h = refl
-reverse_back c h = absurd (omega (arith, h.0))
-
--- which is of its type
-reverse_fits : (c : Command) → IsOf 8 c → reverse_parts c < 2 ^ 32
-unfolding tag_of reverse_parts
-reverse_fits (Reverse ticket) h = h.1.0
-reverse_fits c h = absurd (omega (arith, h.0))
-
--- the bytes after the tag are those of the ticket
-reverse_same : (ticket : ℕ) → fields_bytes (Reverse ticket) ≡ to_be_bytes w32 ticket
-unfolding fields_bytes
-reverse_same ticket = refl
+cancel_reader = placed_reader false
 
 -- Reverses after their tag
 pub reverse_reader : IsReader (IsOf 8) fields_bytes reverse_at
 unfolding reverse_at
-reverse_reader =
-    made_reader (number_reader w32 (2 ^ 32) wide32)
-    (record { to = reverse_to; same = λ ticket h. reverse_same ticket; of = reverse_parts; back = reverse_back; of_fits = reverse_fits })
+reverse_reader = placed_reader true

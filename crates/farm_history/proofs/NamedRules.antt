@@ -1,30 +1,28 @@
 -- The rules on what a command names: each definition answers exactly where the entry breaks the rule in its own words.
-use Rattle.std.proofs.Common.{◌≡◌, ◌↔◌, ◌⊎◌, inl, inr, ℕ, ◌<◌, ◌≤◌, nat_le, nat_lt, if◌then◌else◌, Bool, true, false, ◌||◌, not, Option, Some, None, Result, Ok, Err, refl, ap, subst, ◌∙◌}
+use Rattle.std.proofs.Common.{◌≡◌, ◌⊎◌, inl, inr, ℕ, Bool, true, ◌||◌, not, Option, Some, None, Result, Ok, Err, refl, ap, ◌∙◌, arith}
 use Rattle.std.specs.List.{list_any}
-use Rattle.std.proofs.lemmas.Bool.{both_ways, false_from_ne_true, le-leb, leb-true, lt-ltb, ltb-true, not-true, not_from_false, or_cases, or_left, or_right}
+use Rattle.std.proofs.lemmas.Bool.{both_ways, false_from_ne_true, not-true, not_from_false, or_cases, or_left, or_right}
 use Rattle.farm_fixed.specs.declared.records.ChainRule.{ChainRule}
 use Rattle.farm_fixed.specs.declared.records.ChainRule.TheVariants as refusals
 use Rattle.farm_fixed.specs.declared.records.Quantities.{Quantities}
 use Rattle.farm_history.specs.declared.command.Command.{Command}
-use Rattle.farm_history.specs.declared.command.Command.TheVariants.{Closing, Opening}
+use Rattle.farm_history.specs.declared.command.Command.TheVariants.{Closing}
 use Rattle.farm_history.specs.declared.entry.Entry.{Entry}
 use Rattle.farm_history.specs.declared.plan.Gauged.{Gauged}
 use Rattle.farm_history.specs.declared.plan.Named.{Named}
 use Rattle.farm_history.specs.declared.plan.Plan.{Plan}
 use Rattle.farm_history.specs.declared.plan.Plan.TheVariants.{Outside, Transfer}
-use Rattle.farm_history.specs.declared.rule.Rule.TheVariants.{UnknownReading, UnknownSample, StaleReading, NoEntry, CriticalZone, Negative}
-use Rattle.farm_history.specs.Breaking.{Breaks, HasNoReading, HasNoSample, IsRefusedOn, IsStale, NamesOther, NamesSuch, NamesTooFewOrMany}
+use Rattle.farm_history.specs.declared.rule.Rule.TheVariants.{UnknownReading, UnknownSample, NoEntry, CriticalZone, Negative}
+use Rattle.farm_history.specs.Breaking.{Breaks, HasNoReading, HasNoSample, IsRefusedOn, NamesOther, NamesSuch, NamesTooFewOrMany}
 use Rattle.farm_history.specs.Commands.{is_gauging_of, is_sample_of}
 use Rattle.farm_history.specs.Figures.{calculated_at, named_by}
-use Rattle.farm_history.specs.Given.{first_given}
 use Rattle.farm_history.specs.History.{History}
-use Rattle.farm_history.specs.MovementRules.{critical_zone, has_reading, has_sample, is_critical_zone, is_negative, is_no_entry, is_refused_on, is_refused_with, misses_one, names_each, names_too_few_or_many, negative, no_entry, stale_for, stale_reading, unknown_reading, unknown_sample, used_later}
-use Rattle.farm_history.specs.Movements.{opened_at, used_reading}
-use Rattle.farm_history.proofs.Given.{any_passed, found_such, passed, such_of}
-use Rattle.farm_history.proofs.MovementRules.{stands_from, stands_to}
-use Rattle.farm_history.proofs.OneRule.{test_says, value_says}
+use Rattle.farm_history.specs.MovementRules.{critical_zone, has_reading, has_sample, is_critical_zone, is_negative, is_no_entry, is_refused_on, is_refused_with, misses_one, names_each, names_too_few_or_many, negative, no_entry, unknown_reading, unknown_sample}
+use Rattle.farm_history.specs.Movements.{opened_at}
+use Rattle.farm_history.proofs.Given.{any_passed, passed}
+use Rattle.farm_history.proofs.OneRule.{test_says}
 use Rattle.farm_history.proofs.Says.{Says}
-use Rattle.farm_history.proofs.Uses.{uses_mean}
+use Rattle.farm_history.proofs.Standing.{stands_from, stands_to}
 
 -- where the test of any that a command names passes, it names such a one
 such_from : (history : History) (command : Command) (test : Named → Bool) (Holds : Named → Type 0) →
@@ -81,7 +79,7 @@ pub reading_says : (limit : ℕ) (history : History) (entry : Entry) →
     Says (Breaks limit history entry) 12 13 (unknown_reading history entry.cmd)
 unfolding unknown_reading
 reading_says limit history entry =
-    test_says (Breaks limit history entry) 12 UnknownReading (few || none) (λ value. refl) refl there back
+    test_says (Breaks limit history entry) 12 (omega arith) UnknownReading (few || none) (λ value. refl) refl there back
   where
     lacks : Named → Bool
     lacks pair = not (has_reading history pair)
@@ -121,7 +119,7 @@ pub sample_says : (limit : ℕ) (history : History) (entry : Entry) →
     Says (Breaks limit history entry) 13 14 (unknown_sample history entry.cmd)
 unfolding unknown_sample
 sample_says limit history entry =
-    test_says (Breaks limit history entry) 13 UnknownSample (list_any lacks (named_by history entry.cmd)) (λ value. refl) refl
+    test_says (Breaks limit history entry) 13 (omega arith) UnknownSample (list_any lacks (named_by history entry.cmd)) (λ value. refl) refl
     (such_from history entry.cmd lacks (HasNoSample history) lacks_from)
     (such_to history entry.cmd lacks (HasNoSample history) lacks_to)
   where
@@ -139,55 +137,6 @@ sample_says limit history entry =
         not_from_false (has_sample history pair) (false_from_ne_true (has_sample history pair) (λ test. missing
         (stands_from history pair.gauged.sample (is_sample_of pair.tank) (λ command. is_sample_of pair.tank command ≡ true)
         (λ command is. is) test)))
-
--- a reading that was used later than another is the one used last, and later
-used_later_is : (reading place : ℕ) (o : Option ℕ) → used_later reading o ≡ Some place → (o ≡ Some place) × (reading < place)
-used_later_is reading place None later = cc
-used_later_is reading place (Some used) later = by (nat_lt reading used) refl later
-  where
-    by : (b : Bool) → nat_lt reading used ≡ b → (if b then Some used else None) ≡ Some place → (Some used ≡ Some place) × (reading < place)
-    by true e found = let same : used ≡ place = cc in (found, subst (λ used. reading < used) same (ltb-true reading used e))
-    by false e found = cc
-
--- and the one used last, where it is later, is that
-used_later_of : (reading place : ℕ) → reading < place → used_later reading (Some place) ≡ Some place
-used_later_of reading place later = let e : nat_lt reading place ≡ true = lt-ltb reading place later in rw e refl
-
--- a place that isn't before a reading's
-reached_is : (reading movement place : ℕ) → (if nat_le reading movement then Some movement else None) ≡ Some place → (place ≡ movement) × (reading ≤ movement)
-reached_is reading movement place found = by (nat_le reading movement) refl found
-  where
-    by : (b : Bool) → nat_le reading movement ≡ b → (if b then Some movement else None) ≡ Some place → (place ≡ movement) × (reading ≤ movement)
-    by true e found = (cc, leb-true reading movement e)
-    by false e found = cc
-
--- the place for which a reading is stale is the one in the words of the rule
-pub stale_means : (history : History) (command : Command) (pair : Named) (place : ℕ) →
-    (stale_for history command pair ≡ Some place) ↔ IsStale history command pair place
-stale_means history (Opening plan) pair place =
-    let used = used_reading history pair.tank in (
-      λ found.
-          let is = used_later_is pair.gauged.reading place used found in
-          ((uses_mean history pair.tank place).0 is.0, is.1),
-      λ stale.
-          ap (used_later pair.gauged.reading) ((uses_mean history pair.tank place).1 stale.0)
-          ∙ used_later_of pair.gauged.reading place stale.1,
-    )
-stale_means history (Closing movement first second) pair place = (
-  λ found. reached_is pair.gauged.reading movement place found,
-  λ stale. let e : nat_le pair.gauged.reading movement ≡ true = le-leb pair.gauged.reading movement stale.1 in let same : place ≡ movement = stale.0 in rw (e, same) refl,
-)
-stale_means history command pair place = (λ found. cc, λ stale. absurd stale)
-
--- rule 15: a named reading is stale, the first tank's first
-pub stale_says : (limit : ℕ) (history : History) (entry : Entry) →
-    Says (Breaks limit history entry) 14 15 (stale_reading history entry.cmd)
-unfolding stale_reading
-stale_says limit history entry =
-    value_says (Breaks limit history entry) 14 StaleReading (first_given (stale_for history entry.cmd) (named_by history entry.cmd))
-    (λ place. refl) (λ place. refl)
-    (found_such (stale_for history entry.cmd) (IsStale history entry.cmd) (stale_means history entry.cmd) (named_by history entry.cmd))
-    (such_of (stale_for history entry.cmd) (IsStale history entry.cmd) (stale_means history entry.cmd) (named_by history entry.cmd))
 
 -- a calculation that tests as refused so is
 refused_from : (test : ChainRule → Bool) (refusal : ChainRule) (answer : Option (Result Quantities ChainRule)) →
@@ -229,7 +178,7 @@ only_negative other test = cc
 pub entry_says : (limit : ℕ) (history : History) (entry : Entry) → Says (Breaks limit history entry) 15 16 (no_entry history entry.cmd)
 unfolding no_entry
 entry_says limit history entry =
-    test_says (Breaks limit history entry) 15 NoEntry (is_refused_on is_no_entry history entry.cmd) (λ value. refl) refl
+    test_says (Breaks limit history entry) 15 (omega arith) NoEntry (is_refused_on is_no_entry history entry.cmd) (λ value. refl) refl
     (refusal_from history entry.cmd is_no_entry refusals.NoEntry only_no_entry)
     (refusal_to history entry.cmd is_no_entry refusals.NoEntry refl)
 
@@ -237,7 +186,7 @@ entry_says limit history entry =
 pub zone_says : (limit : ℕ) (history : History) (entry : Entry) → Says (Breaks limit history entry) 16 17 (critical_zone history entry.cmd)
 unfolding critical_zone
 zone_says limit history entry =
-    test_says (Breaks limit history entry) 16 CriticalZone (is_refused_on is_critical_zone history entry.cmd) (λ value. refl) refl
+    test_says (Breaks limit history entry) 16 (omega arith) CriticalZone (is_refused_on is_critical_zone history entry.cmd) (λ value. refl) refl
     (refusal_from history entry.cmd is_critical_zone refusals.CriticalZone only_critical_zone)
     (refusal_to history entry.cmd is_critical_zone refusals.CriticalZone refl)
 
@@ -245,6 +194,6 @@ zone_says limit history entry =
 pub negative_says : (limit : ℕ) (history : History) (entry : Entry) → Says (Breaks limit history entry) 17 18 (negative history entry.cmd)
 unfolding negative
 negative_says limit history entry =
-    test_says (Breaks limit history entry) 17 Negative (is_refused_on is_negative history entry.cmd) (λ value. refl) refl
+    test_says (Breaks limit history entry) 17 (omega arith) Negative (is_refused_on is_negative history entry.cmd) (λ value. refl) refl
     (refusal_from history entry.cmd is_negative refusals.Negative only_negative)
     (refusal_to history entry.cmd is_negative refusals.Negative refl)

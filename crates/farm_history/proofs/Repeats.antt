@@ -1,5 +1,5 @@
 -- A request that was accepted is answered again with its first reply, and in a legal history a key acts once.
-use Rattle.std.proofs.Common.{◌≡◌, ℕ, ◌+◌, ◌≤◌, ◌&&◌, ◌==◌, IsFalse, IsTrue, Contains, List, [], ◌∷◌, ◌++◌, Option, Some, None, ℤ, option_map, refl, ap, sym, ◌∙◌, append_assoc, length-append, subst, arith}
+use Rattle.std.proofs.Common.{All, ◌≡◌, ℕ, ◌+◌, ◌≤◌, ◌&&◌, ◌==◌, IsFalse, IsTrue, Contains, List, [], ◌∷◌, ◌++◌, Option, Some, None, ℤ, option_map, refl, ap, ap₂, sym, ◌∙◌, append_assoc, length-append, subst, arith}
 use Rattle.std.proofs.lemmas.Bool.{and_from, and_parts, both_ways, eq-eqb, eqb-true}
 use Rattle.std.proofs.lemmas.List.Elements.{All-contains, Contains-append_right}
 use Rattle.farm_base.specs.Steps.{or_else}
@@ -11,41 +11,29 @@ use Rattle.farm_history.specs.declared.rule.Rule.{Rule}
 use Rattle.farm_history.specs.declared.rule.Rule.TheVariants.{KeyReused}
 use Rattle.farm_history.specs.declared.verdict.Verdict.TheVariants.{Repeat, Accept}
 use Rattle.farm_history.specs.Commands.{same_command}
-use Rattle.farm_history.specs.Desk.{Answered, answered_on, desk_answer, reply_at, stamped, ticket_or_place}
+use Rattle.farm_history.specs.Desk.{Answered, answered_on, desk_answer, reply_at, reply_of, stamped}
 use Rattle.farm_history.specs.History.{History, followed_by, last_place, with_entry}
 use Rattle.farm_history.specs.Places.{first_place}
 use Rattle.farm_history.specs.Rules.{broken_by_command, broken_rule, history_full, is_repeat, key_reused, same_key}
 use Rattle.farm_history.specs.Verdicts.{IsLegal, refused_or_accepted, repeated_or, verdict}
 use Rattle.farm_history.proofs.Places.{none_before, place_after}
+use Rattle.farm_history.proofs.Accepted.{both_none, unbroken}
+use Rattle.farm_history.proofs.PostingsStay.{gain_stays}
 use Rattle.farm_history.proofs.SameCommands.{commands_decided}
 use Rattle.farm_history.proofs.Stays.{ticket_stays}
 
--- an accepted entry repeats none, and breaks no rule
-record IsAccepted (limit : ℕ) (history : History) (entry : Entry) : Type 0 where
-  new : first_place (is_repeat entry) history.entries ≡ None
-  unbroken : broken_rule limit history entry ≡ None
-
--- where nothing is broken, no rule is
-none_broken : (broken : Option Rule) → refused_or_accepted broken ≡ Accept → broken ≡ None
-none_broken None accepted = refl
-none_broken (Some rule) accepted = cc
-
--- so the verdict says
-accepted_is : (limit : ℕ) (history : History) (entry : Entry) → verdict limit history entry ≡ Accept → IsAccepted limit history entry
+-- an accepted entry repeats no entry
+accepted_new : (limit : ℕ) (history : History) (entry : Entry) → verdict limit history entry ≡ Accept →
+    first_place (is_repeat entry) history.entries ≡ None
 unfolding verdict
-accepted_is limit history entry accepted = by (first_place (is_repeat entry) history.entries) refl accepted
+accepted_new limit history entry accepted =
+    by (first_place (is_repeat entry) history.entries) (broken_rule limit history entry) accepted
   where
-    by : (o : Option ℕ) → first_place (is_repeat entry) history.entries ≡ o →
-        repeated_or o (refused_or_accepted (broken_rule limit history entry)) ≡ Accept → IsAccepted limit history entry
-    by None e accepted = record { new = e; unbroken = none_broken (broken_rule limit history entry) accepted }
-    by (Some place) e accepted = cc
+    by : (o : Option ℕ) (r : Option Rule) → repeated_or o (refused_or_accepted r) ≡ Accept → o ≡ None
+    by None r e = refl
+    by (Some place) r e = cc
 
--- of two answers the first is none
-first_none : (first second : Option Rule) → or_else first second ≡ None → first ≡ None
-first_none None second none = refl
-first_none (Some rule) second none = cc
-
--- no place keeps no rule
+-- where no rule is broken at a place, there is no place
 no_key : (o : Option ℕ) → option_map KeyReused o ≡ None → o ≡ None
 no_key None none = refl
 no_key (Some place) none = cc
@@ -57,7 +45,13 @@ unfolding broken_rule key_reused
 key_new limit history entry none =
     let key = first_place (same_key entry) history.entries in
     let rest = or_else (history_full limit history entry.cmd) (broken_by_command history entry.cmd) in
-    no_key key (first_none (option_map KeyReused key) rest none)
+    no_key key (both_none (option_map KeyReused key) rest none).0
+
+-- no entry has the account and the key of an accepted one
+pub new_key : (limit : ℕ) (history : History) (entry : Entry) → verdict limit history entry ≡ Accept →
+    All (λ other. IsFalse (same_key entry other)) history.entries
+new_key limit history entry accepted =
+    none_before (same_key entry) history.entries (key_new limit history entry (unbroken limit history entry accepted))
 
 -- an account and a key are the same from both sides
 keys_turn : (first second : Entry) → IsTrue (same_key first second) → IsTrue (same_key second first)
@@ -75,9 +69,7 @@ first_contained item items = (0, omega arith, refl)
 none_same : (limit : ℕ) (history : History) (entry other : Entry) (front back : List Entry) → verdict limit history entry ≡ Accept →
     history.entries ≡ front ++ other ∷ back → IsFalse (same_key entry other)
 none_same limit history entry other front back accepted split =
-    let known = accepted_is limit history entry accepted in
-    let none = key_new limit history entry known.unbroken in
-    let apart = none_before (same_key entry) history.entries none in
+    let apart = new_key limit history entry accepted in
     let contained = Contains-append_right front (other ∷ back) other (first_contained other back) in
     All-contains (λ item. IsFalse (same_key entry item)) history.entries other apart
     (subst (λ items. Contains items other) (sym split) contained)
@@ -109,7 +101,7 @@ unfolding verdict
 again_repeats limit history later caller again account key now then command back accepted split =
     let entry = stamped history caller now account key command in
     let repeat = stamped later again then account key command in
-    let new = (accepted_is limit history entry accepted).new in
+    let new = accepted_new limit history entry accepted in
     let found = place_after (is_repeat repeat) history.entries entry back (none_before (is_repeat entry) history.entries new)
     (repeats_itself history later caller again account key now then command) in
     ap (λ o. repeated_or o (refused_or_accepted (broken_rule limit later repeat))) (ap (first_place (is_repeat repeat)) split ∙ found)
@@ -143,7 +135,8 @@ unfolding reply_at
 reply_stays history entry more =
     let place = last_place history + 1 in
     let within : place ≤ last_place (with_entry history entry) = omega (arith, length-append history.entries (entry ∷ [])) in
-    ap (λ ticket. ticket_or_place ticket place) (ticket_stays (with_entry history entry) more place within)
+    ap₂ (λ ticket gain. reply_of ticket gain place) (ticket_stays (with_entry history entry) more place within)
+    (gain_stays (with_entry history entry) more place within)
 
 -- a request that was accepted is answered again with its first reply, and changes nothing
 pub repeats_change_nothing :

@@ -114,7 +114,7 @@ pub tank_says : (limit : ℕ) (history : History) (entry : Entry) →
     Says (Breaks limit history entry) 2 3 (unknown_tank history entry.cmd)
 unfolding unknown_tank
 tank_says limit history entry =
-    test_says (Breaks limit history entry) 2 UnknownTank (list_any (is_lacking history) (tanks_given entry.cmd)) (λ value. refl) refl there back
+    test_says (Breaks limit history entry) 2 (omega arith) UnknownTank (list_any (is_lacking history) (tanks_given entry.cmd)) (λ value. refl) refl there back
   where
     there : list_any (is_lacking history) (tanks_given entry.cmd) ≡ true → NamesNoTank history entry
     there any =
@@ -129,5 +129,5 @@ pub range_says : (limit : ℕ) (history : History) (entry : Entry) →
     Says (Breaks limit history entry) 4 5 (out_of_range entry.cmd)
 unfolding out_of_range first_bad_field
 range_says limit history entry =
-    value_says (Breaks limit history entry) 4 OutOfRange (first_place is_out_of_range (fields_of entry.cmd)) (λ field. refl) (λ field. refl)
+    value_says (Breaks limit history entry) 4 (omega arith) OutOfRange (first_place is_out_of_range (fields_of entry.cmd)) (λ field. refl) (λ field. refl)
     (found_place is_out_of_range (fields_of entry.cmd)) (place_of is_out_of_range (fields_of entry.cmd))

@@ -5,7 +5,7 @@ use Rattle.std.specs.Cmp.Rules.{signed_items}
 use Rattle.std.proofs.lemmas.Bool.Decides.{Decides-and, Decides-eqb, Decides-int_eq, Decides-like}
 use Rattle.farm_history.specs.declared.few.Few.{Few}
 use Rattle.farm_history.specs.declared.command.Command.{Command}
-use Rattle.farm_history.specs.declared.command.Command.TheVariants.{Gauge, Dip, Sample, Opening, Closing, Cancel, Reverse, Stop}
+use Rattle.farm_history.specs.declared.command.Command.TheVariants.{Gauge, Dip, Sample, Opening, Closing, Cancel, Reverse, Settle, Stop}
 use Rattle.farm_history.specs.declared.plan.Gauged.{Gauged}
 use Rattle.farm_history.specs.declared.plan.Plan.{Plan}
 use Rattle.farm_history.specs.declared.plan.Plan.TheVariants.{Outside, Transfer}
@@ -106,6 +106,9 @@ commands_decided (Closing movement first second) (Closing movement2 first2 secon
 commands_decided (Cancel movement) (Cancel movement2) =
     Decides-like (movement == movement2) (λ e. ap Cancel e) (λ e. cc) (Decides-eqb movement movement2)
 commands_decided (Reverse ticket) (Reverse ticket2) = Decides-like (ticket == ticket2) (λ e. ap Reverse e) (λ e. cc) (Decides-eqb ticket ticket2)
+commands_decided (Settle tank gauged) (Settle tank2 gauged2) =
+    Decides-like (tank == tank2 && same_gauged gauged gauged2) (λ h. let a = h.0 in let b = h.1 in cc) (λ e. (cc, cc))
+    (both (Decides-eqb tank tank2) (gauged_decided gauged gauged2))
 commands_decided Stop Stop = (λ _. refl, λ _. refl)
 commands_decided command other = (λ e. cc, λ e. cc)
 

@@ -47,7 +47,7 @@ not_below way opening closing taken = by (int_lt (differences way opening closin
     by false e taken = grind (arith, ints)
 
 -- figures that are found are those of the calculation
-figures_known : (history : History) (pair : Named) (figures : Quantities) → figures_at history pair ≡ Some figures →
+pub figures_known : (history : History) (pair : Named) (figures : Quantities) → figures_at history pair ≡ Some figures →
     calculated_at history pair ≡ Some (Ok figures)
 unfolding figures_at
 figures_known history pair figures e = by (calculated_at history pair) e

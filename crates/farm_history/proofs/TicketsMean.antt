@@ -65,13 +65,13 @@ closing_issues history place movement first second ticket e = by (opened_at hist
     by (Some plan) h e = planned plan (plan_to_close history movement first second plan) h refl e
 
 -- only a Closing issues such a ticket
-issued_closing : (history : History) (place : ℕ) (command : Command) (ticket : Ticket) → issued_by_closing history place command ≡ Some ticket →
+pub issued_closing : (history : History) (place : ℕ) (command : Command) (ticket : Ticket) → issued_by_closing history place command ≡ Some ticket →
     IsClosingTicket history place command ticket
 issued_closing history place (Closing movement first second) ticket e = closing_issues history place movement first second ticket e
 issued_closing history place command ticket e = cc
 
 -- the ticket of the Closing at a place is one in the words of the rule
-closed_at : (history : History) (place : ℕ) (ticket : Ticket) → closing_ticket history place ≡ Some ticket → IsClosedAt history place ticket
+pub closed_at : (history : History) (place : ℕ) (ticket : Ticket) → closing_ticket history place ≡ Some ticket → IsClosedAt history place ticket
 unfolding closing_ticket
 closed_at history place ticket e = by (entry_at history place) refl e
   where

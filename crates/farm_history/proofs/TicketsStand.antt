@@ -32,7 +32,7 @@ use Rattle.farm_history.proofs.FiguresStand.{before_is, computed, computed_later
 use Rattle.farm_history.proofs.OpenMovements.{opens_at}
 
 -- a legal history is legal up to each of its places
-legal_front : (limit : ℕ) (history : History) (front back : List Entry) → IsLegal limit history → history.entries ≡ front ++ back →
+pub legal_front : (limit : ℕ) (history : History) (front back : List Entry) → IsLegal limit history → history.entries ≡ front ++ back →
     IsLegal limit (record { site = history.site; entries = front })
 legal_front limit history front back legal split earlier later entry there =
     legal earlier (later ++ back) entry
@@ -57,7 +57,7 @@ opening_computed limit history movement plan pair computable legal opened given 
     subst Known (ap make (sym between.split)) figures
 
 -- the figures of what has them
-figures_known : (history : History) (pair : Named) → IsComputed history pair → (figures : Quantities) × (figures_at history pair ≡ Some figures)
+pub figures_known : (history : History) (pair : Named) → IsComputed history pair → (figures : Quantities) × (figures_at history pair ≡ Some figures)
 unfolding figures_at
 figures_known history pair known = (known.0, ap (option_and_then figures_of) known.1)
 
@@ -183,12 +183,12 @@ issues_closing limit history place (Closing movement first second) computable le
 issues_closing limit history place command computable legal known is = cc
 
 -- what an entry at a place of a legal history keeps, after the entries before it, which are legal
-record IsEntered (limit : ℕ) (history : History) (place : ℕ) (command : Command) : Type 0 where
-  legal : IsLegal limit (before history place)
-  keeps : IsKept (before history place) command
+pub record IsEntered (limit : ℕ) (history : History) (place : ℕ) (command : Command) : Type 0 where
+  pub legal : IsLegal limit (before history place)
+  pub keeps : IsKept (before history place) command
 
--- so each entry does
-entered : (limit : ℕ) (history : History) (place : ℕ) (entry : Entry) → IsLegal limit history → entry_at history place ≡ Some entry →
+-- each entry of a legal history keeps that
+pub entered : (limit : ℕ) (history : History) (place : ℕ) (entry : Entry) → IsLegal limit history → entry_at history place ≡ Some entry →
     IsEntered limit history place entry.cmd
 entered limit history place entry legal there =
     let between = between_of history place entry there in

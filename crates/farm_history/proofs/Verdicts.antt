@@ -1,36 +1,25 @@
--- The verdict is the one in the words of the rule, and there is no other.
-use Rattle.std.proofs.Common.{◌≡◌, inl, inr, ℕ, ◌<◌, ◌≤◌, Option, Some, None, option_and_then, refl, ap, sym, ◌∙◌, subst, arith}
-use Rattle.std.proofs.lemmas.Bool.{cases_order}
+-- The verdict is the one in the words of the rule.
+use Rattle.std.proofs.Common.{◌≡◌, ℕ, ◌<◌, ◌≤◌, Option, Some, None, option_and_then, refl, arith}
 use Rattle.farm_base.specs.Steps.{or_else}
-use Rattle.farm_history.specs.declared.command.Command.{Command}
 use Rattle.farm_history.specs.declared.entry.Entry.{Entry}
-use Rattle.farm_history.specs.declared.plan.Plan.{Plan}
 use Rattle.farm_history.specs.declared.rule.Rule.{Rule}
-use Rattle.farm_history.specs.declared.rule.Rule.TheVariants.{KeyReused, OutOfRange, Tape, TankBusy, StaleReading, AlreadyReversed}
-use Rattle.farm_history.specs.declared.verdict.Verdict.{Verdict}
-use Rattle.farm_history.specs.declared.verdict.Verdict.TheVariants.{Repeat, Refused, Accept}
-use Rattle.farm_history.specs.Breaking.{Breaks, HasFaultyTapes, IsStale, NamesBusyTank, ReversesSuch}
-use Rattle.farm_history.specs.Commands.{reverses, tanks_of_plan}
-use Rattle.farm_history.specs.Fields.{fields_of, is_out_of_range}
-use Rattle.farm_history.specs.Figures.{named_by}
-use Rattle.farm_history.specs.Gauging.{Gauging, gauging_after}
-use Rattle.farm_history.specs.Given.{IsFirstSuch}
+use Rattle.farm_history.specs.declared.rule.Rule.TheVariants.{KeyReused}
+use Rattle.farm_history.specs.Breaking.{Breaks}
+use Rattle.farm_history.specs.Gauging.{gauging_after}
 use Rattle.farm_history.specs.History.{History}
-use Rattle.farm_history.specs.MovementRules.{already_reversed, critical_zone, negative, no_entry, no_movement, other_product, same_tank, stale_for, stale_reading, tank_busy, unknown_party, unknown_reading, unknown_sample, unknown_ticket, wrong_way}
-use Rattle.farm_history.specs.Movements.{IsHeldBy, holding_movement}
-use Rattle.farm_history.specs.Places.{IsFirstPlace, first_place}
-use Rattle.farm_history.specs.RuleTable.{rule_number, rule_value}
-use Rattle.farm_history.specs.Rules.{broken_by_command, broken_by_figures, broken_by_movement, broken_by_names, broken_rule, history_full, is_repeat, key_reused, out_of_range, refused_gauging, same_key, unknown_tank}
-use Rattle.farm_history.specs.Verdicts.{IsFirstBroken, IsNew, IsVerdict, refused_or_accepted, repeated_or, verdict}
+use Rattle.farm_history.specs.MovementRules.{critical_zone, negative, no_entry, no_movement, other_product, same_tank, stale_reading, tank_busy, unknown_party, unknown_reading, unknown_sample, wrong_way}
+use Rattle.farm_history.specs.Places.{first_place}
+use Rattle.farm_history.specs.RuleTable.{rule_number}
+use Rattle.farm_history.specs.Rules.{broken_by_command, broken_by_figures, broken_by_movement, broken_by_names, broken_by_ticket, broken_rule, history_full, is_repeat, key_reused, out_of_range, refused_gauging, unknown_tank}
+use Rattle.farm_history.specs.Verdicts.{IsNew, IsVerdict, refused_or_accepted, repeated_or, verdict}
 use Rattle.farm_history.proofs.GaugingRules.{gauging_says}
-use Rattle.farm_history.proofs.Given.{one_such}
-use Rattle.farm_history.proofs.Holdings.{holdings_mean}
-use Rattle.farm_history.proofs.MovementRules.{busy_says, open_says, party_says, product_says, reversed_says, same_says, ticket_says}
-use Rattle.farm_history.proofs.NamedRules.{entry_says, negative_says, reading_says, sample_says, stale_means, stale_says, zone_says}
-use Rattle.farm_history.proofs.OneRule.{numbered_so}
-use Rattle.farm_history.proofs.Places.{found_place, no_place, none_any, one_place}
+use Rattle.farm_history.proofs.MovementRules.{busy_says, open_says, party_says, product_says, same_says}
+use Rattle.farm_history.proofs.NamedRules.{entry_says, negative_says, reading_says, sample_says, zone_says}
+use Rattle.farm_history.proofs.Places.{found_place, none_any}
 use Rattle.farm_history.proofs.Rules.{full_says, key_says, range_says, tank_says}
 use Rattle.farm_history.proofs.Says.{Says, says_on}
+use Rattle.farm_history.proofs.StaleReadings.{stale_says}
+use Rattle.farm_history.proofs.TicketRules.{tickets_say}
 use Rattle.farm_history.proofs.WrongWays.{way_says}
 
 -- rules 16 to 19, on the calculations
@@ -66,8 +55,7 @@ movement_says : (limit : ℕ) (history : History) (entry : Entry) → Says (Brea
 unfolding broken_by_movement
 movement_says limit history entry =
     let breaks : Rule → Type 0 = Breaks limit history entry in
-    let reversed = already_reversed history entry.cmd in
-    let ticket = or_else (unknown_ticket history entry.cmd) reversed in
+    let ticket = broken_by_ticket history entry.cmd in
     let names = or_else (broken_by_names history entry.cmd) ticket in
     let open_one = or_else (no_movement history entry.cmd) names in
     let busy = or_else (tank_busy history entry.cmd) open_one in
@@ -80,9 +68,7 @@ movement_says limit history entry =
     (says_on breaks 11 12 21 (no_movement history entry.cmd) names (omega arith) (omega arith)
     (open_says limit history entry)
     (says_on breaks 12 19 21 (broken_by_names history entry.cmd) ticket (omega arith) (omega arith)
-    (names_say limit history entry)
-    (says_on breaks 19 20 21 (unknown_ticket history entry.cmd) reversed (omega arith) (omega arith)
-    (ticket_says limit history entry) (reversed_says limit history entry))))))
+    (names_say limit history entry) (tickets_say limit history entry)))))
 
 -- the rules of the command by itself
 command_says : (limit : ℕ) (history : History) (entry : Entry) →
@@ -135,97 +121,3 @@ verdicts_mean limit history entry = by (first_place (is_repeat entry) history.en
     by None e =
         new_means limit history entry (broken_rule limit history entry) (none_any (is_repeat entry) history.entries e) (rules_say limit history entry)
     by (Some place) e = found_place (is_repeat entry) history.entries place e
-
--- tapes have one fault
-one_fault : (history : History) (entry : Entry) (fault other : ℕ) →
-    HasFaultyTapes history entry fault → HasFaultyTapes history entry other → fault ≡ other
-one_fault history entry fault other first second =
-    let here = first.of_command in
-    let there = second.of_command in
-    let same : first.gauging ≡ second.gauging = cc in
-    let moved = ap (λ (g : Gauging). g.reading) same in
-    let faulty = first.faulty in
-    let again = second.faulty in
-    cc
-
--- tanks of an Opening are held by one movement first
-one_busy : (history : History) (command : Command) (place other : ℕ) →
-    NamesBusyTank history command place → NamesBusyTank history command other → place ≡ other
-one_busy history command place other first second =
-    let here = first.given in
-    let there = second.given in
-    let same : second.plan ≡ first.plan = cc in
-    one_such (holding_movement history) (IsHeldBy history) (holdings_mean history) (tanks_of_plan first.plan) place other first.busy
-    (subst (λ (plan : Plan). IsFirstSuch (IsHeldBy history) (tanks_of_plan plan) other) same second.busy)
-
--- a command is the first Reverse of a ticket at a place
-abbrev IsReversedAt : History → Command → ℕ → Type 0
-IsReversedAt history command place = ReversesSuch command (λ ticket. IsFirstPlace (λ other. reverses ticket other.cmd) history.entries place)
-
--- a ticket is reversed at one place first
-one_reversal : (history : History) (command : Command) (place other : ℕ) →
-    IsReversedAt history command place → IsReversedAt history command other → place ≡ other
-one_reversal history command place other first second =
-    let here = first.given in
-    let there = second.given in
-    let same : second.ticket ≡ first.ticket = cc in
-    one_place (λ entry. reverses first.ticket entry.cmd) history.entries place other first.there
-    (subst (λ (ticket : ℕ). IsFirstPlace (λ entry. reverses ticket entry.cmd) history.entries other) same second.there)
-
--- of one number at most one rule is broken
-one_rule : (limit : ℕ) (history : History) (entry : Entry) (first second : Rule) →
-    Breaks limit history entry first → Breaks limit history entry second → rule_number first ≡ rule_number second → first ≡ second
-one_rule limit history entry (KeyReused place) second here there same =
-    let is : KeyReused (rule_value second) ≡ second = numbered_so 1 second (sym same) in
-    let again = subst (Breaks limit history entry) (sym is) there in
-    ap {B = Rule} KeyReused (one_place (same_key entry) history.entries place (rule_value second) here again) ∙ is
-one_rule limit history entry (OutOfRange field) second here there same =
-    let is : OutOfRange (rule_value second) ≡ second = numbered_so 5 second (sym same) in
-    let again = subst (Breaks limit history entry) (sym is) there in
-    ap {B = Rule} OutOfRange (one_place is_out_of_range (fields_of entry.cmd) field (rule_value second) here again) ∙ is
-one_rule limit history entry (Tape fault) second here there same =
-    let is : Tape (rule_value second) ≡ second = numbered_so 6 second (sym same) in
-    let again = subst (Breaks limit history entry) (sym is) there in
-    ap {B = Rule} Tape (one_fault history entry fault (rule_value second) here again) ∙ is
-one_rule limit history entry (TankBusy place) second here there same =
-    let is : TankBusy (rule_value second) ≡ second = numbered_so 11 second (sym same) in
-    let again = subst (Breaks limit history entry) (sym is) there in
-    ap {B = Rule} TankBusy (one_busy history entry.cmd place (rule_value second) here again) ∙ is
-one_rule limit history entry (StaleReading place) second here there same =
-    let is : StaleReading (rule_value second) ≡ second = numbered_so 15 second (sym same) in
-    let again = subst (Breaks limit history entry) (sym is) there in
-    ap {B = Rule} StaleReading
-    (one_such (stale_for history entry.cmd) (IsStale history entry.cmd) (stale_means history entry.cmd) (named_by history entry.cmd) place (rule_value second)
-    here again)
-    ∙ is
-one_rule limit history entry (AlreadyReversed place) second here there same =
-    let is : AlreadyReversed (rule_value second) ≡ second = numbered_so 21 second (sym same) in
-    let again = subst (Breaks limit history entry) (sym is) there in
-    ap {B = Rule} AlreadyReversed (one_reversal history entry.cmd place (rule_value second) here again) ∙ is
-one_rule limit history entry first second here there same = numbered_so (rule_number first) second (sym same)
-
--- the first broken rule is one
-one_first : (limit : ℕ) (history : History) (entry : Entry) (first second : Rule) →
-    IsFirstBroken limit history entry first → IsFirstBroken limit history entry second → first ≡ second
-one_first limit history entry first second here there = elim (cases_order (rule_number first) (rule_number second)) [
-  | inl same ↦ one_rule limit history entry first second here.broken there.broken same
-  | inr other ↦ elim other [
-    | inl l ↦ absurd (there.before first l here.broken)
-    | inr l ↦ absurd (here.before second l there.broken)
-  ]
-]
-
--- in the words of the rule there is one verdict at most
-pub verdicts_are_one : (limit : ℕ) (history : History) (entry : Entry) (first second : Verdict) →
-    IsVerdict limit history entry first → IsVerdict limit history entry second → first ≡ second
-verdicts_are_one limit history entry (Repeat place) (Repeat other) here there =
-    ap {B = Verdict} Repeat (one_place (is_repeat entry) history.entries place other here there)
-verdicts_are_one limit history entry (Repeat place) (Refused rule) here there = absurd (no_place (is_repeat entry) history.entries place there.0 here)
-verdicts_are_one limit history entry (Repeat place) Accept here there = absurd (no_place (is_repeat entry) history.entries place there.0 here)
-verdicts_are_one limit history entry (Refused rule) (Repeat place) here there = absurd (no_place (is_repeat entry) history.entries place here.0 there)
-verdicts_are_one limit history entry (Refused rule) (Refused other) here there =
-    ap {B = Verdict} Refused (one_first limit history entry rule other here.1 there.1)
-verdicts_are_one limit history entry (Refused rule) Accept here there = absurd (there.1 rule here.1.broken)
-verdicts_are_one limit history entry Accept (Repeat place) here there = absurd (no_place (is_repeat entry) history.entries place here.0 there)
-verdicts_are_one limit history entry Accept (Refused rule) here there = absurd (here.1 rule there.1.broken)
-verdicts_are_one limit history entry Accept Accept here there = refl

@@ -1,10 +1,9 @@
 -- The rule on the way that a volume goes: the definition answers exactly where the entry breaks the rule in its own words.
-use Rattle.std.proofs.Common.{◌≡◌, inl, inr, ℕ, Bool, true, false, ◌||◌, if◌then◌else◌, Option, Some, None, option_and_then, option_map, Result, Ok, Err, ℤ, pos, ◌-ℤ◌, ◌<ℤ◌, int_lt, refl, ap, sym, ◌∙◌, arith}
+use Rattle.std.proofs.Common.{◌≡◌, inl, inr, ℕ, Bool, true, false, ◌||◌, if◌then◌else◌, Option, Some, None, option_and_then, Result, Ok, Err, ℤ, pos, ◌-ℤ◌, ◌<ℤ◌, int_lt, refl, ap, sym, ◌∙◌, arith}
 use Rattle.std.proofs.lemmas.Bool.{or_cases, or_left, or_right}
 use Rattle.std.proofs.lemmas.Int.{ints}
 use Rattle.farm_fixed.specs.declared.records.ChainRule.{ChainRule}
 use Rattle.farm_fixed.specs.declared.records.Quantities.{Quantities}
-use Rattle.farm_movement.specs.Movements.{OpenMove}
 use Rattle.farm_ticket.specs.Amounts.{IsWrongWay, differences, moved}
 use Rattle.farm_ticket.specs.declared.amounts.WrongWay.{WrongWay as NoMove}
 use Rattle.farm_ticket.specs.declared.side.Moved.{Moved}
@@ -23,9 +22,10 @@ use Rattle.farm_history.specs.Figures.{calculated_at, figures_at, figures_of, na
 use Rattle.farm_history.specs.History.{History}
 use Rattle.farm_history.specs.MovementRules.{closes_wrong, is_wrong_way, wrong_way}
 use Rattle.farm_history.specs.Movements.{opened_at}
-use Rattle.farm_history.specs.Tickets.{figures_at_closing, is_refused, leg_at, movement_of, plan_to_close, to_close}
+use Rattle.farm_history.specs.Tickets.{is_refused, plan_to_close, to_close}
 use Rattle.farm_history.proofs.OneRule.{test_says}
 use Rattle.farm_history.proofs.Says.{Says}
+use Rattle.farm_history.proofs.SideTests.{none_closes, one_wrong, outside_test, side_wrong, transfer_test}
 
 -- one number less another tests as below zero: it is below the other
 below_from : (a b : ℤ) → int_lt (a -ℤ b) (pos 0) ≡ true → a <ℤ b
@@ -73,61 +73,6 @@ known_to : (history : History) (pair : Named) (figures : Quantities) →
     calculated_at history pair ≡ Some (Ok figures) → figures_at history pair ≡ Some figures
 unfolding figures_at
 known_to history pair figures is = ap (option_and_then figures_of) is
-
--- a side whose figures may be known goes the wrong way
-abbrev side_wrong : Way → Option Quantities → Option Quantities → Bool
-side_wrong way (Some opening) (Some closing) = is_refused (moved way opening closing)
-side_wrong way opening closing = false
-
--- one of two sides does, where all figures are known
-abbrev one_wrong : Option Quantities → Option Quantities → Option Quantities → Option Quantities → Bool
-one_wrong (Some opening) (Some other) (Some closing) (Some last) =
-    is_refused (moved Outward opening closing) || is_refused (moved Inward other last)
-one_wrong opening other closing last = false
-
--- a test, or one that fails
-or_false : (test : Bool) → (test || false) ≡ test
-or_false true = refl
-or_false false = refl
-
--- the test of a receipt or a delivery is that of its side
-outside_test : (history : History) (movement : ℕ) (first : Gauged) (second : Option Gauged) (way : Way) (tank party : ℕ) (gauged : Gauged)
-    (opening closing : Option Quantities) → figures_at history (named tank gauged) ≡ opening → figures_at history (named tank first) ≡ closing →
-    closes_wrong (plan_to_close history movement first second (Outside way tank party gauged)) ≡ side_wrong way opening closing
-unfolding movement_of leg_at figures_at_closing
-outside_test history movement first second way tank party gauged None closing opened closed = rw opened refl
-outside_test history movement first second way tank party gauged (Some opening) None opened closed = rw (opened, closed) refl
-outside_test history movement first second way tank party gauged (Some opening) (Some closing) opened closed =
-    rw (opened, closed) (or_false (is_refused (moved way opening closing)))
-
--- the test of a transfer is that of its sides
-transfer_test : (history : History) (movement : ℕ) (first second : Gauged) (from to : ℕ) (from_gauged to_gauged : Gauged)
-    (opening other closing last : Option Quantities) →
-    figures_at history (named from from_gauged) ≡ opening → figures_at history (named to to_gauged) ≡ other →
-    figures_at history (named from first) ≡ closing → figures_at history (named to second) ≡ last →
-    closes_wrong (plan_to_close history movement first (Some second) (Transfer from to from_gauged to_gauged)) ≡ one_wrong opening other closing last
-unfolding movement_of leg_at figures_at_closing
-transfer_test history movement first second from to from_gauged to_gauged None other closing last is_opening is_other is_closing is_last =
-    rw is_opening refl
-transfer_test history movement first second from to from_gauged to_gauged (Some opening) None closing last is_opening is_other is_closing is_last =
-    rw (is_opening, is_other) refl
-transfer_test history movement first second from to from_gauged to_gauged (Some opening) (Some other) None last is_opening is_other is_closing is_last =
-    rw (is_opening, is_other, is_closing) refl
-transfer_test history movement first second from to from_gauged to_gauged (Some opening) (Some other) (Some closing) None is_opening is_other is_closing is_last =
-    rw (is_opening, is_other, is_closing, is_last) refl
-transfer_test history movement first second from to from_gauged to_gauged (Some opening) (Some other) (Some closing) (Some last) is_opening is_other is_closing is_last =
-    rw (is_opening, is_other, is_closing, is_last) refl
-
--- a transfer isn't closed on one reading
-none_closes : (history : History) (movement : ℕ) (first : Gauged) (from to : ℕ) (from_gauged to_gauged : Gauged) →
-    closes_wrong (plan_to_close history movement first None (Transfer from to from_gauged to_gauged)) ≡ false
-unfolding figures_at_closing
-none_closes history movement first from to from_gauged to_gauged = by (movement_of history movement (Transfer from to from_gauged to_gauged))
-  where
-    by : (o : Option OpenMove) →
-        closes_wrong (option_and_then (λ move. option_map (λ (figures : Quantities × Option Quantities). (move, figures.0, figures.1)) None) o) ≡ false
-    by None = refl
-    by (Some move) = refl
 
 -- a side that went the wrong way, of figures that are known
 went_from : (history : History) (way : Way) (at_opening at_closing : Named) (opening closing : Quantities) →
@@ -255,5 +200,5 @@ closing_to history command closing =
 pub way_says : (limit : ℕ) (history : History) (entry : Entry) → Says (Breaks limit history entry) 18 19 (wrong_way history entry.cmd)
 unfolding wrong_way
 way_says limit history entry =
-    test_says (Breaks limit history entry) 18 WrongWay (is_wrong_way history entry.cmd) (λ value. refl) refl
+    test_says (Breaks limit history entry) 18 (omega arith) WrongWay (is_wrong_way history entry.cmd) (λ value. refl) refl
     (closing_from history entry.cmd) (closing_to history entry.cmd)

@@ -1,16 +1,17 @@
 -- What breaks each rule, in the words of the rule.
-use Rattle.std.specs.Prelude.{◌≡◌, ◌≢◌, ◌⊎◌, ℕ, ◌+◌, ◌<◌, ◌≤◌, Contains, IsTrue, map, Option, Some, None, Err, Ok, ◌<ℤ◌}
+use Rattle.std.specs.Prelude.{◌≡◌, ◌≢◌, ◌⊎◌, ℕ, ◌+◌, ◌<◌, ◌≤◌, All, Contains, IsFalse, IsTrue, map, Option, Some, None, Err, Ok, ◌<ℤ◌}
 use Rattle.farm_fixed.specs.declared.records.ChainRule.{ChainRule}
 use Rattle.farm_fixed.specs.declared.records.ChainRule.TheVariants as refusals
 use Rattle.farm_fixed.specs.declared.records.Quantities.{Quantities}
 use Rattle.farm_fixed.specs.declared.records.Reading.{Reading}
 use Rattle.farm_ticket.specs.Amounts.{IsWrongWay}
+use Rattle.farm_ticket.specs.Tickets.{Ticket}
 use Rattle.farm_ticket.specs.declared.side.Way.{Way}
 use Rattle.farm_ticket.specs.declared.side.Way.TheVariants.{Inward, Outward}
 use Rattle.site_items.specs.Parties.{party_number}
 use Rattle.site_items.specs.declared.records.Tank.{Tank}
 use Rattle.farm_history.specs.declared.command.Command.{Command}
-use Rattle.farm_history.specs.declared.command.Command.TheVariants.{Opening, Closing, Reverse, Stop}
+use Rattle.farm_history.specs.declared.command.Command.TheVariants.{Opening, Closing, Reverse, Settle, Stop}
 use Rattle.farm_history.specs.declared.entry.Entry.{Entry}
 use Rattle.farm_history.specs.declared.limits.TheConstants.{STOPS_BEYOND_LIMIT}
 use Rattle.farm_history.specs.declared.plan.Gauged.{Gauged}
@@ -18,8 +19,8 @@ use Rattle.farm_history.specs.declared.plan.Named.{Named}
 use Rattle.farm_history.specs.declared.plan.Plan.{Plan}
 use Rattle.farm_history.specs.declared.plan.Plan.TheVariants.{Outside, Transfer}
 use Rattle.farm_history.specs.declared.rule.Rule.{Rule}
-use Rattle.farm_history.specs.declared.rule.Rule.TheVariants.{KeyReused, HistoryFull, UnknownTank, UnknownParty, OutOfRange, Tape, AboveTable, WaterAboveLevel, SameTank, OtherProduct, TankBusy, NoMovement, UnknownReading, UnknownSample, StaleReading, NoEntry, CriticalZone, Negative, WrongWay, UnknownTicket, AlreadyReversed}
-use Rattle.farm_history.specs.Commands.{is_gauging_of, is_sample_of, reverses, tanks_given, tanks_of_plan}
+use Rattle.farm_history.specs.declared.rule.Rule.TheVariants.{KeyReused, HistoryFull, UnknownTank, UnknownParty, OutOfRange, Tape, AboveTable, WaterAboveLevel, SameTank, OtherProduct, TankBusy, NoMovement, UnknownReading, UnknownSample, StaleReading, NoEntry, CriticalZone, Negative, WrongWay, UnknownTicket, AlreadyReversed, Settled}
+use Rattle.farm_history.specs.Commands.{is_gauging_of, is_sample_of, reverses, settles, tanks_given, tanks_needed}
 use Rattle.farm_history.specs.Fields.{IsFirstBadField}
 use Rattle.farm_history.specs.Figures.{calculated_at, named, named_by}
 use Rattle.farm_history.specs.Gauging.{Gauging, gauging_after}
@@ -27,8 +28,9 @@ use Rattle.farm_history.specs.Given.{IsFirstSuch}
 use Rattle.farm_history.specs.History.{History, entry_at, last_place, tank_after}
 use Rattle.farm_history.specs.MovementRules.{movement_named}
 use Rattle.farm_history.specs.Movements.{IsHeldBy, IsOpen, IsUsedLast, opened_at}
-use Rattle.farm_history.specs.Places.{IsFirstPlace}
+use Rattle.farm_history.specs.Places.{IsFirstPlace, IsLastPlace}
 use Rattle.farm_history.specs.Rules.{same_key, top_of}
+use Rattle.farm_history.specs.Tickets.{closing_ticket, tanks_of_ticket}
 
 -- the history doesn't take the command: it has its limit and the command is no Stop, or it has its limit and as many more as may be
 -- Stops
@@ -82,11 +84,9 @@ pub record HoldDifferent (history : History) (from to : ℕ) : Type 0 where
   pub second : tank_after history to ≡ Some other
   pub different : tank.product ≢ other.product
 
--- the command opens a movement, and of its tanks that are held the first is held by the movement at this place
-pub record NamesBusyTank (history : History) (command : Command) (place : ℕ) : Type 0 where
-  pub plan : Plan
-  pub given : command ≡ Opening plan
-  pub busy : IsFirstSuch (IsHeldBy history) (tanks_of_plan plan) place
+-- the command opens a movement or settles a tank, and of its tanks that are held the first is held by the movement at this place
+abbrev pub NamesBusyTank : History → Command → ℕ → Type 0
+NamesBusyTank history command place = IsFirstSuch (IsHeldBy history) (tanks_needed command) place
 
 -- the command closes or cancels a movement, and none is open there
 pub record NamesNoMovement (history : History) (command : Command) : Type 0 where
@@ -105,7 +105,7 @@ abbrev pub NamesOther : Plan → Option Gauged → Type 0
 NamesOther (Outside way tank party gauged) second = second ≢ None
 NamesOther (Transfer from to from_gauged to_gauged) second = second ≡ None
 
--- the command is such a Closing
+-- the command is a Closing that names too few readings or too many
 pub record NamesTooFewOrMany (history : History) (command : Command) : Type 0 where
   pub movement : ℕ
   pub first : Gauged
@@ -129,10 +129,11 @@ HasNoReading history pair = ¬ (StandsAt history pair.gauged.reading (λ command
 abbrev pub HasNoSample : History → Named → Type 0
 HasNoSample history pair = ¬ (StandsAt history pair.gauged.sample (λ command. IsTrue (is_sample_of pair.tank command)))
 
--- The reading that a command names for a tank is stale, and this is the place that says so: an Opening's reading is earlier than the one
--- that the last Closing of the tank used, or a Closing's isn't later than the movement's Opening.
+-- The reading that a command names for a tank is stale, and this is the place that says so: the reading of an Opening or a Settle is
+-- earlier than the one that the last Closing or Settle of the tank used, or a Closing's isn't later than the movement's Opening.
 abbrev pub IsStale : History → Command → Named → ℕ → Type 0
 IsStale history (Opening plan) pair place = IsUsedLast history pair.tank place × (pair.gauged.reading < place)
+IsStale history (Settle tank gauged) pair place = IsUsedLast history pair.tank place × (pair.gauged.reading < place)
 IsStale history (Closing movement first second) pair place = (place ≡ movement) × (pair.gauged.reading ≤ movement)
 IsStale history command pair place = ⊥
 
@@ -162,7 +163,7 @@ ClosesWrong history first (Some second) (Transfer from to from_gauged to_gauged)
     × IsComputed history (named to to_gauged) × IsComputed history (named to second)
     × (WentWrong history Outward (named from from_gauged) (named from first) ⊎ WentWrong history Inward (named to to_gauged) (named to second))
 
--- the command is such a Closing
+-- the command is a Closing that goes the wrong way
 pub record IsWrongClosing (history : History) (command : Command) : Type 0 where
   pub movement : ℕ
   pub first : Gauged
@@ -187,6 +188,18 @@ IsClosing command = ⊥
 abbrev pub HasNoClosing : History → ℕ → Type 0
 HasNoClosing history place = ¬ (StandsAt history place IsClosing)
 
+-- this is the place of the last Settle of a tank, and it is later than a ticket
+abbrev pub IsSettledAfter : History → ℕ → ℕ → ℕ → Type 0
+IsSettledAfter history ticket tank place = IsLastPlace (λ other. settles tank other.cmd) history.entries place × (ticket < place)
+
+-- No Reverse names the ticket of the Closing at a place. Of its tanks whose last Settle is later than the ticket the first was settled at
+-- this place.
+pub record IsSettled (history : History) (place : ℕ) (ticket : ℕ) : Type 0 where
+  pub not_reversed : All (λ other. IsFalse (reverses ticket other.cmd)) history.entries
+  pub closed : Ticket
+  pub there : closing_ticket history ticket ≡ Some closed
+  pub settled : IsFirstSuch (IsSettledAfter history ticket) (tanks_of_ticket closed) place
+
 -- an entry breaks a rule after a history that may have this many entries
 abbrev pub Breaks : ℕ → History → Entry → Rule → Type 0
 Breaks limit history entry (KeyReused place) = IsFirstPlace (same_key entry) history.entries place
@@ -210,3 +223,4 @@ Breaks limit history entry Negative = IsRefusedOn refusals.Negative history entr
 Breaks limit history entry WrongWay = IsWrongClosing history entry.cmd
 Breaks limit history entry UnknownTicket = ReversesSuch entry.cmd (HasNoClosing history)
 Breaks limit history entry (AlreadyReversed place) = ReversesSuch entry.cmd (λ ticket. IsFirstPlace (λ other. reverses ticket other.cmd) history.entries place)
+Breaks limit history entry (Settled place) = ReversesSuch entry.cmd (IsSettled history place)

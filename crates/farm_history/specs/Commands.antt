@@ -4,7 +4,7 @@ use Rattle.std.specs.Cmp.Lexicographic.{pointwise}
 use Rattle.std.specs.Ordering.{int_eq}
 use Rattle.farm_history.specs.declared.few.Few.{Few}
 use Rattle.farm_history.specs.declared.command.Command.{Command}
-use Rattle.farm_history.specs.declared.command.Command.TheVariants.{Gauge, Dip, Sample, Opening, Closing, Cancel, Reverse, Stop}
+use Rattle.farm_history.specs.declared.command.Command.TheVariants.{Gauge, Dip, Sample, Opening, Closing, Cancel, Reverse, Settle, Stop}
 use Rattle.farm_history.specs.declared.plan.Gauged.{Gauged}
 use Rattle.farm_history.specs.declared.plan.Plan.{Plan}
 use Rattle.farm_history.specs.declared.plan.Plan.TheVariants.{Outside, Transfer}
@@ -30,6 +30,7 @@ IsWellFormedCommand (Opening plan) = Unit {0}
 IsWellFormedCommand (Closing movement first second) = Unit {0}
 IsWellFormedCommand (Cancel movement) = Unit {0}
 IsWellFormedCommand (Reverse ticket) = Unit {0}
+IsWellFormedCommand (Settle tank gauged) = Unit {0}
 IsWellFormedCommand Stop = Unit {0}
 
 -- two short lists are the same in their counts and in each of their eight numbers
@@ -50,7 +51,7 @@ same_way way other = false
 abbrev pub same_gauged : Gauged → Gauged → Bool
 same_gauged gauged other = gauged.reading == other.reading && gauged.sample == other.sample
 
--- two second tanks are, or there is none on both sides
+-- two second tanks are gauged at the same places, or neither command names a second tank
 abbrev pub same_second : Option Gauged → Option Gauged → Bool
 same_second None None = true
 same_second (Some gauged) (Some other) = same_gauged gauged other
@@ -77,6 +78,7 @@ same_command (Closing movement first second) (Closing movement2 first2 second2) 
     movement == movement2 && same_gauged first first2 && same_second second second2
 same_command (Cancel movement) (Cancel movement2) = movement == movement2
 same_command (Reverse ticket) (Reverse ticket2) = ticket == ticket2
+same_command (Settle tank gauged) (Settle tank2 gauged2) = tank == tank2 && same_gauged gauged gauged2
 same_command Stop Stop = true
 same_command command other = false
 
@@ -103,7 +105,14 @@ tanks_given (Gauge tank level water temperature ambient) = tank ∷ []
 tanks_given (Dip tank outage tapes water temperatures ambient) = tank ∷ []
 tanks_given (Sample tank density sw) = tank ∷ []
 tanks_given (Opening plan) = tanks_of_plan plan
+tanks_given (Settle tank gauged) = tank ∷ []
 tanks_given command = []
+
+-- The numbers of the tanks that a command needs free, in their order: no open movement may name them.
+abbrev pub tanks_needed : Command → List ℕ
+tanks_needed (Opening plan) = tanks_of_plan plan
+tanks_needed (Settle tank gauged) = tank ∷ []
+tanks_needed command = []
 
 -- a plan names a tank
 abbrev pub names_tank : ℕ → Plan → Bool
@@ -120,6 +129,16 @@ is_gauging_of tank command = false
 abbrev pub is_sample_of : ℕ → Command → Bool
 is_sample_of tank (Sample number density sw) = number == tank
 is_sample_of tank command = false
+
+-- a command settles the book of some tank
+abbrev pub is_settle : Command → Bool
+is_settle (Settle tank gauged) = true
+is_settle command = false
+
+-- a command settles the book of a tank
+abbrev pub settles : ℕ → Command → Bool
+settles tank (Settle number gauged) = number == tank
+settles tank command = false
 
 -- a command opens a movement that names a tank
 abbrev pub opens_on : ℕ → Command → Bool

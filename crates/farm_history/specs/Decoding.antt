@@ -5,7 +5,7 @@ use Rattle.std.specs.Int.{Width, w16, w32, w64, byte_len, cast_signed, from_be_b
 use Rattle.farm_base.specs.Steps.{◌>>=◌}
 use Rattle.farm_history.specs.declared.few.Few.{Few}
 use Rattle.farm_history.specs.declared.command.Command.{Command}
-use Rattle.farm_history.specs.declared.command.Command.TheVariants.{Gauge, Dip, Sample, Opening, Closing, Cancel, Reverse, Stop}
+use Rattle.farm_history.specs.declared.command.Command.TheVariants.{Gauge, Dip, Sample, Opening, Closing, Cancel, Reverse, Settle, Stop}
 use Rattle.farm_history.specs.declared.entry.Entry.{Entry}
 use Rattle.farm_history.specs.declared.plan.Gauged.{Gauged}
 use Rattle.farm_history.specs.declared.plan.Plan.{Plan}
@@ -143,13 +143,17 @@ closing_at = made_at (λ f. Closing f.0 f.1.0 f.1.1) (number_at w32 ▸ gauged_a
 unfoldable pub cancel_at : List ℕ → Result (Command × List ℕ) ℕ
 cancel_at = made_at Cancel (number_at w32)
 
+-- a Settle after its tag
+unfoldable pub settle_at : List ℕ → Result (Command × List ℕ) ℕ
+settle_at = made_at (λ f. Settle f.0 f.1) (number_at w16 ▸ gauged_at)
+
 -- a Reverse after its tag
 unfoldable pub reverse_at : List ℕ → Result (Command × List ℕ) ℕ
 reverse_at = made_at Reverse (number_at w32)
 
 -- a byte is the tag of a command
 abbrev pub is_tag : ℕ → Bool
-is_tag tag = tag == 1 || tag == 2 || tag == 3 || tag == 4 || tag == 5 || tag == 6 || tag == 8 || tag == 9
+is_tag tag = tag == 1 || tag == 2 || tag == 3 || tag == 4 || tag == 5 || tag == 6 || tag == 7 || tag == 8 || tag == 9
 
 -- the command of a tag
 unfoldable pub fields_at : ℕ → List ℕ → Result (Command × List ℕ) ℕ
@@ -160,7 +164,8 @@ fields_at tag bytes =
     else (if tag == 4 then opening_at bytes
     else (if tag == 5 then closing_at bytes
     else (if tag == 6 then cancel_at bytes
-    else (if tag == 8 then reverse_at bytes else Ok (Stop, bytes)))))))
+    else (if tag == 7 then settle_at bytes
+    else (if tag == 8 then reverse_at bytes else Ok (Stop, bytes))))))))
 
 -- a command
 unfoldable pub command_at : List ℕ → Result (Command × List ℕ) ℕ

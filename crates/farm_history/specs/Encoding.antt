@@ -4,7 +4,7 @@ use Rattle.std.specs.Int.{cast_unsigned, w16, w32, w64, to_be_bytes}
 use Rattle.std.specs.List.{flat_map}
 use Rattle.farm_history.specs.declared.few.Few.{Few}
 use Rattle.farm_history.specs.declared.command.Command.{Command}
-use Rattle.farm_history.specs.declared.command.Command.TheVariants.{Gauge, Dip, Sample, Opening, Closing, Cancel, Reverse, Stop}
+use Rattle.farm_history.specs.declared.command.Command.TheVariants.{Gauge, Dip, Sample, Opening, Closing, Cancel, Reverse, Settle, Stop}
 use Rattle.farm_history.specs.declared.entry.Entry.{Entry}
 use Rattle.farm_history.specs.declared.plan.Gauged.{Gauged}
 use Rattle.farm_history.specs.declared.plan.Plan.{Plan}
@@ -57,6 +57,7 @@ command_bytes (Sample tank density sw) = 3 ∷ to_be_bytes w16 tank ++ signed_by
 command_bytes (Opening plan) = 4 ∷ plan_bytes plan
 command_bytes (Closing movement first second) = 5 ∷ to_be_bytes w32 movement ++ gauged_bytes first ++ second_bytes second
 command_bytes (Cancel movement) = 6 ∷ to_be_bytes w32 movement
+command_bytes (Settle tank gauged) = 7 ∷ to_be_bytes w16 tank ++ gauged_bytes gauged
 command_bytes (Reverse ticket) = 8 ∷ to_be_bytes w32 ticket
 command_bytes Stop = 9 ∷ []
 
@@ -93,6 +94,7 @@ IsTypedCommand (Sample tank density sw) = (tank < 2 ^ 16) × All (FitsSigned w64
 IsTypedCommand (Opening plan) = IsTypedPlan plan
 IsTypedCommand (Closing movement first second) = (movement < 2 ^ 32) × IsTypedGauged first × IsTypedSecond second
 IsTypedCommand (Cancel movement) = movement < 2 ^ 32
+IsTypedCommand (Settle tank gauged) = (tank < 2 ^ 16) × IsTypedGauged gauged
 IsTypedCommand (Reverse ticket) = ticket < 2 ^ 32
 IsTypedCommand Stop = Unit {0}
 

@@ -79,4 +79,5 @@ named_for first second (Some plan) = named_at_closing first second plan
 unfoldable pub named_by : History → Command → List Named
 named_by history (commands.Opening plan) = named_at_opening plan
 named_by history (commands.Closing movement first second) = named_for first second (opened_at history movement)
+named_by history (commands.Settle tank gauged) = named tank gauged ∷ []
 named_by history command = []

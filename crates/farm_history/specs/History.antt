@@ -45,12 +45,12 @@ entry_at history place = if place == 0 then None else slice_get history.entries 
 abbrev pub last_place : History → ℕ
 last_place history = length history.entries
 
--- the moment of the last of these entries, or this moment where there is none
+-- the moment of the last of these entries, or this moment where there are no entries
 abbrev pub moment_after : ℤ → List Entry → ℤ
 moment_after moment [] = moment
 moment_after moment (entry ∷ entries) = moment_after entry.at entries
 
--- the moment of the last entry, 0 where there is none
+-- the moment of the last entry, 0 in a history without entries
 abbrev pub last_moment : History → ℤ
 last_moment history = moment_after (pos 0) history.entries
 

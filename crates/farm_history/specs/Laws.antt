@@ -1,5 +1,15 @@
 -- What follows from the definitions for every history.
-use Rattle.std.specs.Prelude.{◌≡◌, ◌↔◌, ℕ, Bool, IsFalse, IsTrue, List, ◌∷◌, ◌++◌, Some, Err, ℤ}
+use Rattle.std.specs.Prelude.{◌≡◌, ◌↔◌, ℕ, Bool, IsFalse, IsTrue, List, ◌∷◌, ◌++◌, map, Some, Err, option_map, ℤ}
+use Rattle.farm_fixed.specs.declared.records.Amount.{Amount}
+use Rattle.farm_stock.specs.Books as stock
+use Rattle.farm_stock.specs.Books.{plus}
+use Rattle.farm_stock.specs.Postings.{all_posted, amount_of, at_tank}
+use Rattle.farm_history.specs.declared.command.Command.TheVariants.{Reverse, Settle}
+use Rattle.farm_history.specs.declared.plan.Gauged.{Gauged}
+use Rattle.farm_history.specs.Conservation.{IsBook, IsTotal, Moves}
+use Rattle.farm_history.specs.Places.{IsLastPlace, last_such}
+use Rattle.farm_history.specs.Postings.{opposite_posting, posted_by, postings_at, postings_of}
+use Rattle.farm_history.specs.Stocks.{IsGainAt, book_of, gain_at, opening_books, total_of}
 use Rattle.farm_site.specs.Described.{Described}
 use Rattle.farm_rounding.specs.Table.{Row}
 use Rattle.farm_history.specs.declared.ask.Ask.TheVariants.{Do}
@@ -11,11 +21,11 @@ use Rattle.farm_history.specs.Commands.{IsWellFormedCommand, issues_ticket, same
 use Rattle.farm_history.specs.Desk.{desk_answer, stamped}
 use Rattle.farm_history.specs.Fields.{Field, IsInRange, is_out_of_range}
 use Rattle.farm_history.specs.Gauging.{IsDipFault, dip_reading}
-use Rattle.farm_history.specs.History.{History, empty_history, entry_at, followed_by}
+use Rattle.farm_history.specs.History.{History, empty_history, entry_at, followed_by, last_place, with_entry}
 use Rattle.farm_history.specs.Issued.{IsTicketAt}
 use Rattle.farm_history.specs.Movements.{IsHeldBy, IsOpen, IsUsedLast, holding_movement, open_movement, used_reading}
 use Rattle.farm_history.specs.Rules.{same_key}
-use Rattle.farm_history.specs.Sites.{AreComputable}
+use Rattle.farm_history.specs.Sites.{AreComputable, AreRising}
 use Rattle.farm_history.specs.Tickets.{ticket_at}
 use Rattle.farm_history.specs.declared.plan.Plan.{Plan}
 use Rattle.farm_ticket.specs.Tickets.{Ticket}
@@ -55,6 +65,58 @@ TicketsMean = (history : History) (place : ℕ) (ticket : Ticket) → ticket_at 
 abbrev pub TicketsStand : Type 0
 TicketsStand = (limit : ℕ) (history : History) (place : ℕ) (entry : Entry) → AreComputable history.site → IsLegal limit history →
     entry_at history place ≡ Some entry → IsTrue (issues_ticket entry.cmd) → (ticket : Ticket) × (ticket_at history place ≡ Some ticket)
+
+-- the last place of which something holds is the one in the words of the rule
+abbrev pub LastPlacesMean : Type 0
+LastPlacesMean = (holds : Entry → Bool) (entries : List Entry) (place : ℕ) → (last_such holds entries ≡ Some place) ↔ IsLastPlace holds entries place
+
+-- a gain is what the tank holds by its figures less what it held by its book, in the words of the rule
+abbrev pub GainsMean : Type 0
+GainsMean = (history : History) (place : ℕ) (gain : Amount) → gain_at history place ≡ Some gain → IsGainAt history place gain
+
+-- in a legal history of a site whose tanks can be computed, each Settle has a gain
+abbrev pub GainsStand : Type 0
+GainsStand = (limit : ℕ) (history : History) (place : ℕ) (entry : Entry) (tank : ℕ) (gauged : Gauged) → AreComputable history.site →
+    IsLegal limit history → entry_at history place ≡ Some entry → entry.cmd ≡ Settle tank gauged →
+    (gain : Amount) × (gain_at history place ≡ Some gain)
+
+-- a Reverse posts what its ticket posted with the opposite amounts, in the same order and of the same kinds
+abbrev pub ReversesPostBack : Type 0
+ReversesPostBack = (limit : ℕ) (history : History) (place ticket : ℕ) (entry : Entry) → IsLegal limit history →
+    entry_at history place ≡ Some entry → entry.cmd ≡ Reverse ticket →
+    postings_at history place ≡ map opposite_posting (postings_at history ticket)
+
+-- one entry more adds what it posts to the postings before it
+abbrev pub PostingsGrow : Type 0
+PostingsGrow = (history : History) (entry : Entry) →
+    postings_of (with_entry history entry) ≡ postings_of history ++ posted_by history (postings_of history) entry.cmd
+
+-- one entry more adds to each book what it posts at the tank
+abbrev pub BooksGrow : Type 0
+BooksGrow = (history : History) (entry : Entry) (tank : ℕ) →
+    let grown = with_entry history entry in
+    book_of grown tank ≡ option_map (λ book. plus book (amount_of (at_tank tank (postings_at grown (last_place grown))))) (book_of history tank)
+
+-- each book is its opening and its postings, kind by kind
+abbrev pub BooksMean : Type 0
+BooksMean = (history : History) (tank : ℕ) (book : Amount) → book_of history tank ≡ Some book → IsBook history tank book
+
+-- the total is the openings, receipts, deliveries and gains, where no two tanks have one number
+abbrev pub TotalsMean : Type 0
+TotalsMean = (history : History) → AreRising history.site → IsTotal history (total_of history)
+
+-- one entry more changes the total by the receipts, deliveries and gains that it posts
+abbrev pub TotalsGrow : Type 0
+TotalsGrow = (history : History) (entry : Entry) → AreRising history.site →
+    let grown = with_entry history entry in
+    Moves (postings_at grown (last_place grown)) (total_of history) (total_of grown)
+
+-- A stock of the openings of a site's tanks, to which the postings of a history are posted one after another, has the books of the
+-- history, and its total where no two tanks have one number.
+abbrev pub StocksAgree : Type 0
+StocksAgree = (history : History) →
+    let books = all_posted (opening_books history.site.tanks) (postings_of history) in
+    ((tank : ℕ) → stock.book_of tank books ≡ book_of history tank) × (AreRising history.site → stock.total_of books ≡ total_of history)
 
 -- the verdict is the one in the words of the rule
 abbrev pub VerdictsMean : Type 0

@@ -9,6 +9,9 @@ pub mod Movements
 pub mod Figures
 pub mod Tickets
 pub mod Issued
+pub mod Postings
+pub mod Stocks
+pub mod Conservation
 pub mod MovementRules
 pub mod RuleTable
 pub mod Rules

@@ -8,20 +8,21 @@ use Rattle.site_items.specs.Parties.{party_number}
 use Rattle.site_items.specs.declared.records.Tank.{Tank}
 use Rattle.site_keys.specs.Lists.{is_among}
 use Rattle.farm_history.specs.declared.command.Command.{Command}
-use Rattle.farm_history.specs.declared.command.Command.TheVariants.{Opening, Closing, Cancel, Reverse}
+use Rattle.farm_history.specs.declared.command.Command.TheVariants.{Opening, Closing, Cancel, Reverse, Settle}
 use Rattle.farm_history.specs.declared.entry.Entry.{Entry}
 use Rattle.farm_history.specs.declared.plan.Gauged.{Gauged}
 use Rattle.farm_history.specs.declared.plan.Named.{Named}
 use Rattle.farm_history.specs.declared.plan.Plan.{Plan}
 use Rattle.farm_history.specs.declared.plan.Plan.TheVariants.{Outside, Transfer}
 use Rattle.farm_history.specs.declared.rule.Rule.{Rule}
-use Rattle.farm_history.specs.declared.rule.Rule.TheVariants.{UnknownParty, SameTank, OtherProduct, TankBusy, NoMovement, UnknownReading, UnknownSample, StaleReading, NoEntry, CriticalZone, Negative, WrongWay, UnknownTicket, AlreadyReversed}
-use Rattle.farm_history.specs.Commands.{is_gauging_of, is_sample_of, plan_of, tanks_of_plan}
+use Rattle.farm_history.specs.declared.rule.Rule.TheVariants.{UnknownParty, SameTank, OtherProduct, TankBusy, NoMovement, UnknownReading, UnknownSample, StaleReading, NoEntry, CriticalZone, Negative, WrongWay, UnknownTicket, AlreadyReversed, Settled}
+use Rattle.farm_history.specs.Commands.{is_gauging_of, is_sample_of, plan_of, tanks_needed}
 use Rattle.farm_history.specs.Figures.{calculated_at, named_by}
 use Rattle.farm_history.specs.Given.{first_given}
 use Rattle.farm_history.specs.History.{History, entry_at, tank_after}
-use Rattle.farm_history.specs.Movements.{holding_movement, open_movement, opened_at, reversal_of, used_reading}
-use Rattle.farm_history.specs.Tickets.{ToClose, any_goes_wrong, to_close}
+use Rattle.farm_history.specs.Movements.{holding_movement, last_settlement, open_movement, opened_at, reversal_of, used_reading}
+use Rattle.farm_ticket.specs.Tickets.{Ticket}
+use Rattle.farm_history.specs.Tickets.{ToClose, any_goes_wrong, closing_ticket, tanks_of_ticket, to_close}
 
 -- a rule that is broken where a test passes
 abbrev pub broken_where : Bool → Rule → Option Rule
@@ -43,7 +44,7 @@ abbrev pub gives_one_tank : Plan → Bool
 gives_one_tank (Outside way tank party gauged) = false
 gives_one_tank (Transfer from to from_gauged to_gauged) = from == to
 
--- rule 9: it does
+-- rule 9: a transfer gives one tank twice
 unfoldable pub same_tank : Command → Option Rule
 same_tank command = option_and_then (λ plan. broken_where (gives_one_tank plan) SameTank) (plan_of command)
 
@@ -52,19 +53,18 @@ abbrev pub hold_different : Option Tank → Option Tank → Bool
 hold_different (Some tank) (Some other) = not (tank.product == other.product)
 hold_different tank other = false
 
--- the tanks of a transfer do
+-- the tanks of a transfer hold different products
 abbrev pub gives_other_product : History → Plan → Bool
 gives_other_product history (Outside way tank party gauged) = false
 gives_other_product history (Transfer from to from_gauged to_gauged) = hold_different (tank_after history from) (tank_after history to)
 
--- rule 10: they do
+-- rule 10: the tanks of a transfer hold different products
 unfoldable pub other_product : History → Command → Option Rule
 other_product history command = option_and_then (λ plan. broken_where (gives_other_product history plan) OtherProduct) (plan_of command)
 
--- rule 11: a tank of an Opening is named by an open movement, the first tank first
+-- rule 11: a tank of an Opening or a Settle is named by an open movement, the first tank first
 unfoldable pub tank_busy : History → Command → Option Rule
-tank_busy history command =
-    option_and_then (λ plan. option_map TankBusy (first_given (holding_movement history) (tanks_of_plan plan))) (plan_of command)
+tank_busy history command = option_map TankBusy (first_given (holding_movement history) (tanks_needed command))
 
 -- the movement that a Closing or a Cancel names
 abbrev pub movement_named : Command → Option ℕ
@@ -88,12 +88,12 @@ names_each (Outside way tank party gauged) (Some second) = false
 names_each (Transfer from to from_gauged to_gauged) None = false
 names_each (Transfer from to from_gauged to_gauged) (Some second) = true
 
--- it names another number of them
+-- there is a plan, and a Closing of it names too few readings or too many
 abbrev pub misses_one : Option Plan → Option Gauged → Bool
 misses_one None second = false
 misses_one (Some plan) second = not (names_each plan second)
 
--- a command is a Closing that does
+-- a command is a Closing that names too few readings or too many for its movement
 abbrev pub names_too_few_or_many : History → Command → Bool
 names_too_few_or_many history (Closing movement first second) = misses_one (opened_at history movement) second
 names_too_few_or_many history command = false
@@ -120,15 +120,16 @@ unknown_reading history command =
 unfoldable pub unknown_sample : History → Command → Option Rule
 unknown_sample history command = broken_where (list_any (λ pair. not (has_sample history pair)) (named_by history command)) UnknownSample
 
--- the reading that a tank's last Closing used, where a reading is earlier
+-- the reading that was used last for a tank, where a reading is earlier
 abbrev pub used_later : ℕ → Option ℕ → Option ℕ
 used_later reading None = None
 used_later reading (Some used) = if nat_lt reading used then Some used else None
 
 -- The place for which a reading that a command names is stale: of a Closing that of the Opening, which the reading isn't later than; of
--- an Opening that of the reading which the last Closing of the tank used, and which it is earlier than.
+-- an Opening or a Settle that of the reading which the last Closing or Settle of the tank used, and which it is earlier than.
 abbrev pub stale_for : History → Command → Named → Option ℕ
 stale_for history (Opening plan) pair = used_later pair.gauged.reading (used_reading history pair.tank)
+stale_for history (Settle tank gauged) pair = used_later pair.gauged.reading (used_reading history pair.tank)
 stale_for history (Closing movement first second) pair = if nat_le pair.gauged.reading movement then Some movement else None
 stale_for history command pair = None
 
@@ -180,7 +181,7 @@ abbrev pub is_wrong_way : History → Command → Bool
 is_wrong_way history (Closing movement first second) = closes_wrong (to_close history movement first second)
 is_wrong_way history command = false
 
--- rule 19: it does
+-- rule 19: a side of a movement that is closed goes the wrong way
 unfoldable pub wrong_way : History → Command → Option Rule
 wrong_way history command = broken_where (is_wrong_way history command) WrongWay
 
@@ -199,6 +200,20 @@ unfoldable pub unknown_ticket : History → Command → Option Rule
 unknown_ticket history command =
     option_and_then (λ ticket. broken_where (not (is_there is_closing (entry_at history ticket))) UnknownTicket) (ticket_named command)
 
--- rule 21: a Reverse names the ticket already, at this place
+-- rule 21, its first part: a Reverse names the ticket already, at this place
 unfoldable pub already_reversed : History → Command → Option Rule
 already_reversed history command = option_and_then (λ ticket. option_map AlreadyReversed (reversal_of history ticket)) (ticket_named command)
+
+-- the place of the last Settle of a tank, where it is later than a ticket
+abbrev pub settled_later : ℕ → Option ℕ → Option ℕ
+settled_later ticket None = None
+settled_later ticket (Some place) = if nat_lt ticket place then Some place else None
+
+-- the place of the last Settle of a tank of a ticket, where it is later than the ticket, the first tank first
+abbrev pub settled_after : History → ℕ → Ticket → Option ℕ
+settled_after history place ticket = first_given (λ tank. settled_later place (last_settlement history tank)) (tanks_of_ticket ticket)
+
+-- Rule 21, its second part, which is asked where no Reverse names the ticket: the last Settle of a tank of the ticket is later than it.
+unfoldable pub settled : History → Command → Option Rule
+settled history command =
+    option_and_then (λ place. option_map Settled (option_and_then (settled_after history place) (closing_ticket history place))) (ticket_named command)

@@ -1,17 +1,17 @@
--- Movements in a history: which are open, which of them holds a tank, which reading was used last for a tank, and where a ticket was
--- reversed. Each is read off the list of entries.
+-- Movements in a history: which are open, which of them holds a tank, which reading was used last for a tank, where a tank was settled
+-- last, and where a ticket was reversed. Each is read off the list of entries.
 use Rattle.std.specs.Prelude.{◌≡◌, ℕ, ◌+◌, ◌<◌, ◌==◌, ◌&&◌, not, Bool, All, IsFalse, IsTrue, if◌then◌else◌, List, [], ◌∷◌, ◌++◌, drop, length, Option, Some, None, option_and_then, option_map}
 use Rattle.std.specs.List.{list_any}
 use Rattle.farm_history.specs.declared.command.Command.{Command}
-use Rattle.farm_history.specs.declared.command.Command.TheVariants.{Opening, Closing}
+use Rattle.farm_history.specs.declared.command.Command.TheVariants.{Opening, Closing, Settle}
 use Rattle.farm_history.specs.declared.entry.Entry.{Entry}
 use Rattle.farm_history.specs.declared.plan.Gauged.{Gauged}
 use Rattle.farm_history.specs.declared.plan.Plan.{Plan}
 use Rattle.farm_history.specs.declared.plan.Plan.TheVariants.{Outside, Transfer}
-use Rattle.farm_history.specs.Commands.{ends, names_tank, opens_on, plan_of, reverses}
+use Rattle.farm_history.specs.Commands.{ends, names_tank, opens_on, plan_of, reverses, settles}
 use Rattle.farm_history.specs.Given.{IsLastGiven, last_given}
 use Rattle.farm_history.specs.History.{History, entry_at}
-use Rattle.farm_history.specs.Places.{first_place}
+use Rattle.farm_history.specs.Places.{first_place, last_such}
 
 -- the plan of the Opening at a place; none where no Opening stands there
 unfoldable pub opened_at : History → ℕ → Option Plan
@@ -62,18 +62,23 @@ reading_for tank first second (Outside way number party gauged) = if number == t
 reading_for tank first second (Transfer from to from_gauged to_gauged) =
     if from == tank then Some first.reading else (if to == tank then option_map (λ gauged. gauged.reading) second else None)
 
--- the reading that a command used for a tank: that which a Closing names for it
+-- the reading that a command used for a tank: that which a Closing or a Settle names for it
 abbrev pub used_by : History → ℕ → Command → Option ℕ
 used_by history tank (Closing movement first second) = option_and_then (reading_for tank first second) (opened_at history movement)
+used_by history tank (Settle number gauged) = if number == tank then Some gauged.reading else None
 used_by history tank command = None
 
--- the place of the reading that the last Closing of a tank used for it; none where there was no Closing
+-- the place of the reading that the last Closing or Settle of a tank used for it; none where there was no such entry
 unfoldable pub used_reading : History → ℕ → Option ℕ
 used_reading history tank = last_given (λ entry. used_by history tank entry.cmd) history.entries
 
--- a reading is the one that the last Closing of a tank used for it
+-- a reading is the one that the last Closing or Settle of a tank used for it
 abbrev pub IsUsedLast : History → ℕ → ℕ → Type 0
 IsUsedLast history tank reading = IsLastGiven (λ entry. used_by history tank entry.cmd) history.entries reading
+
+-- the place of the last Settle of a tank; none where there was no Settle of it
+unfoldable pub last_settlement : History → ℕ → Option ℕ
+last_settlement history tank = last_such (λ entry. settles tank entry.cmd) history.entries
 
 -- the place of the Reverse that names a ticket
 unfoldable pub reversal_of : History → ℕ → Option ℕ

@@ -1,7 +1,7 @@
 -- The numbers of the rules in their table, and what each rule keeps.
 use Rattle.std.specs.Prelude.{ℕ}
 use Rattle.farm_history.specs.declared.rule.Rule.{Rule}
-use Rattle.farm_history.specs.declared.rule.Rule.TheVariants.{KeyReused, HistoryFull, UnknownTank, UnknownParty, OutOfRange, Tape, AboveTable, WaterAboveLevel, SameTank, OtherProduct, TankBusy, NoMovement, UnknownReading, UnknownSample, StaleReading, NoEntry, CriticalZone, Negative, WrongWay, UnknownTicket, AlreadyReversed}
+use Rattle.farm_history.specs.declared.rule.Rule.TheVariants.{KeyReused, HistoryFull, UnknownTank, UnknownParty, OutOfRange, Tape, AboveTable, WaterAboveLevel, SameTank, OtherProduct, TankBusy, NoMovement, UnknownReading, UnknownSample, StaleReading, NoEntry, CriticalZone, Negative, WrongWay, UnknownTicket, AlreadyReversed, Settled}
 
 -- the number of a rule
 abbrev pub rule_number : Rule → ℕ
@@ -26,6 +26,7 @@ rule_number Negative = 18
 rule_number WrongWay = 19
 rule_number UnknownTicket = 20
 rule_number (AlreadyReversed place) = 21
+rule_number (Settled place) = 21
 
 -- the place or the number that a rule keeps, 0 where it keeps none
 abbrev pub rule_value : Rule → ℕ
@@ -50,3 +51,4 @@ rule_value Negative = 0
 rule_value WrongWay = 0
 rule_value UnknownTicket = 0
 rule_value (AlreadyReversed place) = place
+rule_value (Settled place) = place

@@ -15,7 +15,7 @@ use Rattle.farm_history.specs.Commands.{is_stop, same_command, tanks_given}
 use Rattle.farm_history.specs.Fields.{first_bad_field}
 use Rattle.farm_history.specs.Gauging.{Gauging, gauging_after}
 use Rattle.farm_history.specs.History.{History, last_place, tank_after}
-use Rattle.farm_history.specs.MovementRules.{already_reversed, broken_where, critical_zone, negative, no_entry, no_movement, other_product, same_tank, stale_reading, tank_busy, unknown_party, unknown_reading, unknown_sample, unknown_ticket, wrong_way}
+use Rattle.farm_history.specs.MovementRules.{already_reversed, broken_where, critical_zone, negative, no_entry, no_movement, other_product, same_tank, settled, stale_reading, tank_busy, unknown_party, unknown_reading, unknown_sample, unknown_ticket, wrong_way}
 use Rattle.farm_history.specs.Places.{first_place}
 
 -- another entry has the account and the key of an entry
@@ -83,6 +83,11 @@ broken_by_names history command =
     or_else (unknown_reading history command)
     (or_else (unknown_sample history command) (or_else (stale_reading history command) (broken_by_figures history command)))
 
+-- the first rule that is broken by the ticket which a Reverse names
+unfoldable pub broken_by_ticket : History → Command → Option Rule
+broken_by_ticket history command =
+    or_else (unknown_ticket history command) (or_else (already_reversed history command) (settled history command))
+
 -- the first rule on movements and tickets that a command breaks
 unfoldable pub broken_by_movement : History → Command → Option Rule
 broken_by_movement history command =
@@ -90,8 +95,7 @@ broken_by_movement history command =
     (or_else (other_product history command)
     (or_else (tank_busy history command)
     (or_else (no_movement history command)
-    (or_else (broken_by_names history command)
-    (or_else (unknown_ticket history command) (already_reversed history command))))))
+    (or_else (broken_by_names history command) (broken_by_ticket history command)))))
 
 -- the first rule that a command breaks whose key is new and for which there is room
 unfoldable pub broken_by_command : History → Command → Option Rule

@@ -1,7 +1,9 @@
--- Which sites can be computed: each tank has a capacity table and one of the site's products.
+-- What the program knows of each site that it keeps a history of.
 use Rattle.std.specs.Prelude.{All, IsTrue, map}
+use Rattle.std.specs.List.Sorted.{IsStrictlyIncreasing}
 use Rattle.farm_site.specs.Described.{Described}
 use Rattle.site_items.specs.Products.{product_number}
+use Rattle.site_items.specs.Tanks.{tank_number}
 use Rattle.site_items.specs.declared.records.Tank.{Tank}
 use Rattle.site_keys.specs.Lists.{is_among}
 use Rattle.strap_table.specs.Capacity.{IsCapTable}
@@ -14,3 +16,7 @@ pub record IsComputable (site : Described) (tank : Tank) : Type 0 where
 -- each tank of a site can be computed
 abbrev pub AreComputable : Described → Type 0
 AreComputable site = All (IsComputable site) site.tanks
+
+-- the tanks of a site stand in rising order of their numbers
+abbrev pub AreRising : Described → Type 0
+AreRising site = IsStrictlyIncreasing (map tank_number site.tanks)

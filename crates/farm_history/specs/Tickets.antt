@@ -9,6 +9,7 @@ use Rattle.farm_ticket.specs.Reversing.{reversal}
 use Rattle.farm_ticket.specs.Tickets.{Ticket}
 use Rattle.farm_ticket.specs.declared.amounts.WrongWay.{WrongWay}
 use Rattle.farm_ticket.specs.declared.side.Moved.{Moved}
+use Rattle.farm_ticket.specs.declared.side.Side.{Side}
 use Rattle.farm_ticket.specs.declared.side.Way.{Way}
 use Rattle.farm_ticket.specs.declared.side.Way.TheVariants.{Inward, Outward}
 use Rattle.farm_history.specs.declared.command.Command.{Command}
@@ -76,7 +77,7 @@ is_refused (Err wrong) = true
 abbrev pub goes_wrong : Leg → Quantities → Bool
 goes_wrong leg closing = is_refused (moved leg.way leg.opening closing)
 
--- the second side does, where there is one
+-- the second side goes the wrong way, where there is one
 abbrev pub second_goes_wrong : Option Leg → Option Quantities → Bool
 second_goes_wrong (Some leg) (Some closing) = goes_wrong leg closing
 second_goes_wrong leg closing = false
@@ -109,6 +110,15 @@ issued_by_closing history place command = None
 -- the ticket of the Closing at a place; none where no Closing stands there
 unfoldable pub closing_ticket : History → ℕ → Option Ticket
 closing_ticket history place = option_and_then (λ entry. issued_by_closing (before history place) place entry.cmd) (entry_at history place)
+
+-- the tanks of the sides of a ticket, the first one first
+abbrev pub tanks_of_sides : Side → Option Side → List ℕ
+tanks_of_sides first None = first.tank ∷ []
+tanks_of_sides first (Some second) = first.tank ∷ second.tank ∷ []
+
+-- the tanks of a ticket, that of its first side first
+abbrev pub tanks_of_ticket : Ticket → List ℕ
+tanks_of_ticket ticket = tanks_of_sides ticket.first ticket.second
 
 -- the ticket that a command issues at a place, after a history
 abbrev pub issued_by : History → ℕ → Command → Option Ticket

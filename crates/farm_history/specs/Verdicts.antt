@@ -35,8 +35,8 @@ pub record IsFirstBroken (limit : ℕ) (history : History) (entry : Entry) (rule
   pub broken : Breaks limit history entry rule
   pub before : (earlier : Rule) → rule_number earlier < rule_number rule → ¬ (Breaks limit history entry earlier)
 
--- The verdict in the words of the rule: the first place of the same command under the same account and key; or else there is none,
--- and it's the first rule that is broken, or acceptance where none is.
+-- The verdict in the words of the rule: a repeat of the first place at which the same command stands under the same account and key. Where
+-- it stands nowhere, the first rule that is broken, or acceptance where no rule is broken.
 abbrev pub IsVerdict : ℕ → History → Entry → Verdict → Type 0
 IsVerdict limit history entry (Repeat place) = IsFirstPlace (is_repeat entry) history.entries place
 IsVerdict limit history entry (Refused rule) = IsNew history entry × IsFirstBroken limit history entry rule

@@ -69,6 +69,13 @@ pub enum Command {
         /// The place of the Closing that issued it.
         ticket: u32,
     },
+    /// The book of a tank is brought to what was gauged, and the difference is recorded as a gain.
+    Settle {
+        /// The number of the tank.
+        tank: u16,
+        /// What its figures are computed from.
+        gauged: Gauged,
+    },
     /// The end of the desk's work.
     Stop,
 }

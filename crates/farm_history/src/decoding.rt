@@ -2,7 +2,7 @@
 
 ghost use Rattle.std.specs.Prelude.{◌≡◌, IfErr, IfOk, Ok};
 ghost use Rattle.farm_history.specs.declared.entry.Entry.{Entry};
-ghost use Rattle.farm_history.specs.Decoding.{Gives, cancel_at, closing_at, command_at, dip_at, entry_at, gauge_at, opening_at, reverse_at, sample_at, whole_entry};
+ghost use Rattle.farm_history.specs.Decoding.{Gives, cancel_at, closing_at, command_at, dip_at, entry_at, gauge_at, opening_at, reverse_at, sample_at, settle_at, whole_entry};
 ghost use Rattle.farm_history.specs.Encoding.{IsBadEntryAt, IsTyped, entry_encoding};
 ghost use Rattle.farm_history.specs.History.{IsWellFormed};
 
@@ -79,6 +79,7 @@ fn command_at(bytes: &[u8]) -> Result<(Command, &[u8]), usize>
         [4, rest @ ..] => opening_at(rest),
         [5, rest @ ..] => closing_at(rest),
         [6, rest @ ..] => cancel_at(rest),
+        [7, rest @ ..] => settle_at(rest),
         [8, rest @ ..] => reverse_at(rest),
         [9, rest @ ..] => Ok((Command::Stop, rest)),
         [_, ..] => Err(bytes.len()),
@@ -170,6 +171,16 @@ fn cancel_at(bytes: &[u8]) -> Result<(Command, &[u8]), usize>
 {
     let (movement, rest) = u32_at(bytes)?;
     Ok((Command::Cancel { movement }, rest))
+}
+
+// The fields of a Settle.
+#[tactic(auto, unfolding(crate::specs::Decoding::settle_at))]
+fn settle_at(bytes: &[u8]) -> Result<(Command, &[u8]), usize>
+    ensures settle { Gives (λ x. (x.0, x.1.now)) result (settle_at bytes.now) }
+{
+    let (tank, rest) = u16_at(bytes)?;
+    let (gauged, rest) = gauged_at(rest)?;
+    Ok((Command::Settle { tank, gauged }, rest))
 }
 
 // The ticket of a Reverse.

@@ -68,14 +68,7 @@ impl Command {
                 water,
                 temperatures,
                 ambient,
-            } => {
-                put_tank(out, 2, *tank);
-                out.push(&[u8::from(*outage)]);
-                put_list(out, tapes);
-                put_list(out, water);
-                put_list(out, temperatures);
-                out.push_numbers(&[*ambient]);
-            }
+            } => put_dip(out, *tank, *outage, tapes, water, temperatures, *ambient),
             Command::Sample { tank, density, sw } => {
                 put_tank(out, 3, *tank);
                 out.push_numbers(&[*density, *sw]);
@@ -85,16 +78,56 @@ impl Command {
                 movement,
                 first,
                 second,
-            } => {
-                put_place(out, 5, *movement);
-                put_gauged(out, first);
-                put_second(out, second);
-            }
+            } => put_closing(out, *movement, first, second),
             Command::Cancel { movement } => put_place(out, 6, *movement),
+            Command::Settle { tank, gauged } => put_settle(out, *tank, gauged),
             Command::Reverse { ticket } => put_place(out, 8, *ticket),
             Command::Stop => out.push(&[9]),
         }
     }
+}
+
+// Writes a dip.
+fn put_dip(
+    out: &mut Written,
+    tank: u16,
+    outage: bool,
+    tapes: &Few,
+    water: &Few,
+    temperatures: &Few,
+    ambient: i64,
+)
+    requires tapes { IsShortList tapes.now }
+    requires water { IsShortList water.now }
+    requires temperatures { IsShortList temperatures.now }
+    requires room { length out.old ≤ 24 }
+    ensures dip { out.new ≡ out.old ++ command_bytes (Command.Dip tank outage tapes.now water.now temperatures.now ambient) }
+{
+    put_tank(out, 2, tank);
+    out.push(&[u8::from(outage)]);
+    put_list(out, tapes);
+    put_list(out, water);
+    put_list(out, temperatures);
+    out.push_numbers(&[ambient]);
+}
+
+// Writes a Closing.
+fn put_closing(out: &mut Written, movement: u32, first: &Gauged, second: &Option<Gauged>)
+    requires room { length out.old ≤ 24 }
+    ensures closing { out.new ≡ out.old ++ command_bytes (Command.Closing movement first.now second.now) }
+{
+    put_place(out, 5, movement);
+    put_gauged(out, first);
+    put_second(out, second);
+}
+
+// Writes a Settle.
+fn put_settle(out: &mut Written, tank: u16, gauged: &Gauged)
+    requires room { length out.old ≤ 24 }
+    ensures settle { out.new ≡ out.old ++ command_bytes (Command.Settle tank gauged.now) }
+{
+    put_tank(out, 7, tank);
+    put_gauged(out, gauged);
 }
 
 // Writes the tag of a command and the number of its tank.

@@ -1,6 +1,6 @@
 //! What follows from the definitions for every history.
 
-ghost use Rattle.farm_history.specs.Laws.{DeskKeepsLegal, DipFaultsMean, EmptyIsLegal, HoldingsMean, KeysActOnce, OpenMovementsMean, RangesMean, RepeatsChangeNothing, SameCommandsAreOne, TicketsMean, TicketsStand, UsesMean, VerdictsAreOne, VerdictsMean};
+ghost use Rattle.farm_history.specs.Laws.{BooksGrow, BooksMean, DeskKeepsLegal, DipFaultsMean, EmptyIsLegal, GainsMean, GainsStand, HoldingsMean, KeysActOnce, LastPlacesMean, OpenMovementsMean, PostingsGrow, RangesMean, RepeatsChangeNothing, ReversesPostBack, SameCommandsAreOne, StocksAgree, TicketsMean, TicketsStand, TotalsGrow, TotalsMean, UsesMean, VerdictsAreOne, VerdictsMean};
 
 /// Does nothing: its contract is the laws of a history.
 pub fn laws()
@@ -12,6 +12,16 @@ pub fn laws()
     ensures uses_mean { UsesMean }
     ensures tickets_mean { TicketsMean }
     ensures tickets_stand { TicketsStand }
+    ensures last_places_mean { LastPlacesMean }
+    ensures gains_mean { GainsMean }
+    ensures gains_stand { GainsStand }
+    ensures reverses_post_back { ReversesPostBack }
+    ensures postings_grow { PostingsGrow }
+    ensures books_grow { BooksGrow }
+    ensures books_mean { BooksMean }
+    ensures totals_mean { TotalsMean }
+    ensures totals_grow { TotalsGrow }
+    ensures stocks_agree { StocksAgree }
     ensures verdicts_mean { VerdictsMean }
     ensures verdicts_are_one { VerdictsAreOne }
     ensures empty_is_legal { EmptyIsLegal }

@@ -34,4 +34,6 @@ pub use rule::{BELOW_DATUM, Rule, TAPE_COUNT, TAPE_SPREAD, WATER_TAPE_COUNT, WAT
 pub use verdict::Verdict;
 
 #[cfg(test)]
+mod test_entries;
+#[cfg(test)]
 mod tests;

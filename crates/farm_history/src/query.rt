@@ -5,4 +5,8 @@
 pub enum Query {
     /// The ticket of the entry at this place.
     Ticket(u32),
+    /// The book of the tank with this number, with its last reading and its last sample.
+    Stock(u16),
+    /// What the terminal holds in all.
+    Total,
 }

@@ -48,7 +48,7 @@ pub enum Rule {
     /// A place that is named has no sample of the tank.
     UnknownSample,
     /// A reading isn't later than the movement's Opening at this place, or is earlier than the reading at this place, which the
-    /// last Closing of the tank used.
+    /// last Closing or Settle of the tank used.
     StaleReading(u32),
     /// The factor file has no entry for the density and the temperature.
     NoEntry,
@@ -62,6 +62,8 @@ pub enum Rule {
     UnknownTicket,
     /// The ticket was reversed at this place.
     AlreadyReversed(u32),
+    /// A tank of the ticket was settled at this place, after the ticket.
+    Settled(u32),
 }
 
 impl Rule {
@@ -90,7 +92,7 @@ impl Rule {
             Rule::Negative => 18,
             Rule::WrongWay => 19,
             Rule::UnknownTicket => 20,
-            Rule::AlreadyReversed(_) => 21,
+            Rule::AlreadyReversed(_) | Rule::Settled(_) => 21,
         }
     }
 
@@ -102,7 +104,8 @@ impl Rule {
             Rule::KeyReused(place)
             | Rule::TankBusy(place)
             | Rule::StaleReading(place)
-            | Rule::AlreadyReversed(place) => *place,
+            | Rule::AlreadyReversed(place)
+            | Rule::Settled(place) => *place,
             Rule::OutOfRange(number) | Rule::Tape(number) => u32::from(*number),
             Rule::HistoryFull
             | Rule::UnknownTank

@@ -4,75 +4,11 @@ ghost use Rattle.farm_history.specs.Commands.{IsWellFormedCommand};
 ghost use Rattle.farm_history.specs.History.{IsMoment, IsWellFormed};
 
 use super::*;
+use crate::test_entries::*;
 use farm_ticket::Way;
 use std::alloc::Global;
 use std::process::Abort;
 use std::test::Fail;
-
-/// A Stop of caller 0, account 1 and key 1 at 1,700,000,000.
-const STOP: [u8; 25] = [
-    0, 0, 0, 0, 0, 0, 0, 1, 0, 0, 0, 0, 0, 0, 0, 1, 0, 0, 0, 0, 0x65, 0x53, 0xf1, 0, 9,
-];
-
-/// The same at the last moment.
-const LAST: [u8; 25] = [
-    0, 0, 0, 0, 0, 0, 0, 1, 0, 0, 0, 0, 0, 0, 0, 1, 0, 0, 0, 0x3a, 0xe7, 0xf9, 0xa2, 0, 9,
-];
-
-/// A sample of tank 101: 850.0 kg/m3, no sediment and water. Its key is 2.
-const SAMPLE: [u8; 43] = [
-    0, 0, 0, 0, 0, 0, 0, 1, 0, 0, 0, 0, 0, 0, 0, 2, 0, 0, 0, 0, 0x65, 0x53, 0xf1, 0, 3, 0, 0x65, 0,
-    0, 0, 0, 0, 0, 0x21, 0x34, 0, 0, 0, 0, 0, 0, 0, 0,
-];
-
-/// A gauge reading of tank 101: 8,000 mm, no water, 15.00 C twice.
-const GAUGE: [u8; 59] = [
-    0, 0, 0, 0, 0, 0, 0, 1, 0, 0, 0, 0, 0, 0, 0, 1, 0, 0, 0, 0, 0x65, 0x53, 0xf1, 0, 1, 0, 0x65, 0,
-    0, 0, 0, 0, 0, 0x1f, 0x40, 0, 0, 0, 0, 0, 0, 0, 0, 0, 0, 0, 0, 0, 0, 0x05, 0xdc, 0, 0, 0, 0, 0,
-    0, 0x05, 0xdc,
-];
-
-/// A dip of tank 102: two innages of 5,000 mm, no water tapes, 15.00 C, outside -0.50 C.
-const DIP: [u8; 63] = [
-    0, 0, 0, 0, 0, 0, 0, 1, 0, 0, 0, 0, 0, 0, 0, 1, 0, 0, 0, 0, 0x65, 0x53, 0xf1, 0, 2, 0, 0x66, 0,
-    2, 0, 0, 0, 0, 0, 0, 0x13, 0x88, 0, 0, 0, 0, 0, 0, 0x13, 0x88, 0, 1, 0, 0, 0, 0, 0, 0, 0x05,
-    0xdc, 0xff, 0xff, 0xff, 0xff, 0xff, 0xff, 0xff, 0xce,
-];
-
-/// The opening of a receipt in tank 101 from party 7, on reading 2 and sample 1.
-const RECEIPT: [u8; 38] = [
-    0, 0, 0, 0, 0, 0, 0, 1, 0, 0, 0, 0, 0, 0, 0, 1, 0, 0, 0, 0, 0x65, 0x53, 0xf1, 0, 4, 1, 0, 0x65,
-    0, 7, 0, 0, 0, 2, 0, 0, 0, 1,
-];
-
-/// The opening of a transfer from tank 101, on reading 4 and sample 1, to tank 102, on reading 7 and sample 6.
-const TRANSFER: [u8; 46] = [
-    0, 0, 0, 0, 0, 0, 0, 1, 0, 0, 0, 0, 0, 0, 0, 1, 0, 0, 0, 0, 0x65, 0x53, 0xf1, 0, 4, 3, 0, 0x65,
-    0, 0x66, 0, 0, 0, 4, 0, 0, 0, 1, 0, 0, 0, 7, 0, 0, 0, 6,
-];
-
-/// The closing of movement 3 on reading 4 and sample 1.
-const CLOSING: [u8; 38] = [
-    0, 0, 0, 0, 0, 0, 0, 1, 0, 0, 0, 0, 0, 0, 0, 1, 0, 0, 0, 0, 0x65, 0x53, 0xf1, 0, 5, 0, 0, 0, 3,
-    0, 0, 0, 4, 0, 0, 0, 1, 0,
-];
-
-/// The closing of movement 8 on reading 9 and sample 1, and for the second tank on reading 10 and sample 6.
-const CLOSING_OF_TWO: [u8; 46] = [
-    0, 0, 0, 0, 0, 0, 0, 1, 0, 0, 0, 0, 0, 0, 0, 1, 0, 0, 0, 0, 0x65, 0x53, 0xf1, 0, 5, 0, 0, 0, 8,
-    0, 0, 0, 9, 0, 0, 0, 1, 1, 0, 0, 0, 0x0a, 0, 0, 0, 6,
-];
-
-/// The cancel of movement 3.
-const CANCEL: [u8; 29] = [
-    0, 0, 0, 0, 0, 0, 0, 1, 0, 0, 0, 0, 0, 0, 0, 1, 0, 0, 0, 0, 0x65, 0x53, 0xf1, 0, 6, 0, 0, 0, 3,
-];
-
-/// The reversal of ticket 14.
-const REVERSE: [u8; 29] = [
-    0, 0, 0, 0, 0, 0, 0, 1, 0, 0, 0, 0, 0, 0, 0, 1, 0, 0, 0, 0, 0x65, 0x53, 0xf1, 0, 8, 0, 0, 0,
-    0x0e,
-];
 
 fn shared<T: Send + Sync>(value: T) -> T {
     value
@@ -203,6 +139,15 @@ fn entries_that_end_movements_have_their_bytes(rt: HostRuntime) -> Result<(), Fa
 }
 
 #[test]
+fn a_settlement_has_its_bytes(rt: HostRuntime) -> Result<(), Fail> {
+    let settle = Command::Settle {
+        tank: 101,
+        gauged: gauged(15, 1),
+    };
+    has_bytes(&rt, rt.alloc(), entry(16, 1_700_000_000, settle), &SETTLE)
+}
+
+#[test]
 fn a_bad_byte_is_refused_at_its_place(rt: HostRuntime) {
     for length in 0..STOP.len() {
         assert_eq!(&rt;
@@ -218,9 +163,11 @@ fn a_bad_byte_is_refused_at_its_place(rt: HostRuntime) {
             "a dip's first {length} bytes"
         );
     }
-    let cases: [(&[u8], usize, u8, usize); 18] = [
+    let cases: [(&[u8], usize, u8, usize); 20] = [
         (&STOP, 24, 0, 24),
-        (&STOP, 24, 7, 24),
+        (&STOP, 24, 7, 25),
+        (&SETTLE, 24, 0, 24),
+        (&SETTLE, 24, 10, 24),
         // The ways of a plan, and the byte of a Closing that says whether a second tank is named.
         (&RECEIPT, 25, 0, 25),
         (&RECEIPT, 25, 4, 25),
@@ -266,6 +213,7 @@ fn a_bad_byte_is_refused_at_its_place(rt: HostRuntime) {
         CLOSING_OF_TWO.as_slice(),
         CANCEL.as_slice(),
         REVERSE.as_slice(),
+        SETTLE.as_slice(),
     ] {
         for length in 0..entry.len() {
             assert_eq!(&rt; bad_place(&entry[..length]), Some(length));

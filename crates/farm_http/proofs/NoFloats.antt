@@ -7,12 +7,12 @@ use Rattle.serde_json.specs.Written.{members_have_float}
 use Rattle.farm_fixed.specs.declared.records.Quantities.{Quantities}
 use Rattle.farm_http.specs.Tickets.{with_observed, with_standard}
 
--- a whole number is none
+-- a whole number isn't a float
 no_float : (number : ℤ) → is_float (of_integer number) ≡ false
 no_float (pos n) = refl
 no_float (negsuc n) = refl
 
--- and so the figures have none
+-- so the figures of a ticket have no float
 pub figures_have_none : (q : Quantities) → members_have_float (with_standard q (with_observed q no_members)) ≡ false
 unfolding serde_json_on_literals
 figures_have_none q =

@@ -1,18 +1,28 @@
 -- The bodies of answers: JSON without blanks, its members in sorted order.
 use Rattle.std.specs.Prelude.{◌≡◌, ◌⊎◌, ◌↔◌, ◌++◌, ℕ, List, codes, decimal, IsSome}
-use Rattle.serde_json.specs.Data.{Members, no_members, object}
+use Rattle.serde_json.specs.Data.{Members, member, no_members, object}
 use Rattle.serde_json.specs.Written.{compact_text}
-use Rattle.farm_history.specs.declared.reply.Reply.TheVariants.{Placed, Refused, Ticket}
+use Rattle.farm_fixed.specs.declared.records.Amount.{Amount}
+use Rattle.farm_history.specs.declared.reply.Reply.TheVariants.{Gain, Placed, Refused, Stock, Ticket, Total}
 use Rattle.farm_history.specs.RuleTable.{rule_number, rule_value}
-use Rattle.farm_http.specs.Tickets.{numbered, ticket_members}
+use Rattle.farm_http.specs.Tickets.{numbered, signed, ticket_members}
 use Rattle.farm_http.specs.declared.page.Page.{Page}
 use Rattle.farm_http.specs.declared.page.Page.TheVariants as pages
+
+-- the members of an amount, with those after it
+abbrev pub amount_members : Amount → Members → Members
+amount_members amount members = signed (codes "kg") amount.kg (signed (codes "litres") amount.litres members)
 
 -- the members of an answer
 abbrev pub members_of : Page → Members
 members_of (pages.Reply (Placed place)) = numbered (codes "place") place no_members
 members_of (pages.Reply (Refused rule)) = numbered (codes "rule") (rule_number rule) (numbered (codes "value") (rule_value rule) no_members)
 members_of (pages.Reply (Ticket ticket)) = ticket_members ticket
+members_of (pages.Reply (Gain place amount)) =
+    member (codes "gain") (object (amount_members amount no_members)) (numbered (codes "place") place no_members)
+members_of (pages.Reply (Stock tank amount reading sample)) =
+    amount_members amount (numbered (codes "reading") reading (numbered (codes "sample") sample (numbered (codes "tank") tank no_members)))
+members_of (pages.Reply (Total entries amount)) = numbered (codes "entries") entries (amount_members amount no_members)
 members_of (pages.Status status allow) = numbered (codes "error") status no_members
 
 -- the text of an answer's body

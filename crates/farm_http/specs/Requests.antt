@@ -6,7 +6,7 @@ use Rattle.farm_history.specs.Commands.{IsWellFormedCommand}
 use Rattle.farm_history.specs.declared.ask.Ask.{Ask}
 use Rattle.farm_history.specs.declared.ask.Ask.TheVariants.{Do, Look}
 use Rattle.farm_history.specs.declared.command.Command.{Command}
-use Rattle.farm_history.specs.declared.command.Command.TheVariants.{Gauge, Dip, Sample, Opening, Closing, Cancel, Reverse, Stop}
+use Rattle.farm_history.specs.declared.command.Command.TheVariants.{Gauge, Dip, Sample, Opening, Closing, Cancel, Reverse, Settle, Stop}
 use Rattle.farm_history.specs.declared.plan.Gauged.{Gauged}
 use Rattle.farm_history.specs.declared.plan.Plan.TheVariants.{Outside, Transfer}
 use Rattle.farm_history.specs.declared.query.Query.TheVariants as queries
@@ -122,6 +122,13 @@ cancel_of value = option_map Cancel (place_at (codes "movement") value)
 unfoldable pub reverse_of : Data → Option Command
 reverse_of value = option_map Reverse (place_at (codes "ticket") value)
 
+-- a tank whose book is settled
+unfoldable pub settle_of : Data → Option Command
+settle_of value = do
+  tank ← tank_at (codes "tank") value
+  gauged ← gauged_at (codes "reading") (codes "sample") value
+  Some (Settle tank gauged)
+
 -- the command that is to be done, by its word
 unfoldable pub command_of : List ℕ → Data → Option Command
 command_of word value =
@@ -132,7 +139,8 @@ command_of word value =
     else (if bytes_eq word (codes "close") then closing_of value
     else (if bytes_eq word (codes "cancel") then cancel_of value
     else (if bytes_eq word (codes "reverse") then reverse_of value
-    else (if bytes_eq word (codes "stop") then Some Stop else None)))))))
+    else (if bytes_eq word (codes "settle") then settle_of value
+    else (if bytes_eq word (codes "stop") then Some Stop else None))))))))
 
 -- a command that is to be done: an account from 1 to 999,999, a key from 0 to 2^63 - 1, and the command of the word
 unfoldable pub do_of : List ℕ → Data → Option Ask
@@ -142,13 +150,20 @@ do_of word value = do
   command ← command_of word value
   Some (Do account key command)
 
--- a ticket that is looked up, which needs no account and no key
-unfoldable pub look_of : Data → Option Ask
-look_of value = option_map (λ place. Look (queries.Ticket place)) (place_at (codes "place") value)
+-- a ticket that is looked up
+unfoldable pub ticket_look_of : Data → Option Ask
+ticket_look_of value = option_map (λ place. Look (queries.Ticket place)) (place_at (codes "place") value)
 
--- what an object asks for, by its word
+-- the book of a tank that is looked up
+unfoldable pub stock_look_of : Data → Option Ask
+stock_look_of value = option_map (λ tank. Look (queries.Stock tank)) (tank_at (codes "tank") value)
+
+-- what an object asks for, by its word; a look-up needs no account and no key
 unfoldable pub ask_by : List ℕ → Data → Option Ask
-ask_by word value = if bytes_eq word (codes "ticket") then look_of value else do_of word value
+ask_by word value =
+    if bytes_eq word (codes "ticket") then ticket_look_of value
+    else (if bytes_eq word (codes "stock") then stock_look_of value
+    else (if bytes_eq word (codes "total") then Some (Look queries.Total) else do_of word value))
 
 -- what a value asks for
 unfoldable pub ask_of_value : Data → Option Ask

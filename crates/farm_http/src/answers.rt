@@ -10,6 +10,7 @@ ghost use Rattle.farm_http.specs.Answers.{IsAnswer, PlaceInBytes, body_text, mem
 use crate::Page;
 use crate::tickets::ticket_value;
 use farm_base::NoMemory;
+use farm_fixed::Amount;
 use farm_history::Reply;
 use serde_json::{Value, json};
 use std::alloc::{AllocError, Global};
@@ -33,11 +34,38 @@ fn object_of(alloc: Global, page: &Page) -> Result<Value, AllocError>
     match page {
         Page::Reply(Reply::Placed(place)) => json!(in alloc; {"place": *place}),
         Page::Reply(Reply::Ticket(ticket)) => ticket_value(alloc, ticket),
+        Page::Reply(Reply::Gain { place, amount }) => gain_value(alloc, *place, amount),
+        Page::Reply(
+            Reply::Stock {
+                tank,
+                amount,
+                reading,
+                sample,
+            },
+        ) => json!(in alloc; {
+            "kg": amount.kg,
+            "litres": amount.litres,
+            "reading": *reading,
+            "sample": *sample,
+            "tank": *tank
+        }),
+        Page::Reply(Reply::Total { entries, amount }) => {
+            json!(in alloc; {"entries": *entries, "kg": amount.kg, "litres": amount.litres})
+        }
         Page::Reply(Reply::Refused(rule)) => {
             json!(in alloc; {"rule": rule.number(), "value": rule.value()})
         }
         Page::Status(status, _) => json!(in alloc; {"error": *status}),
     }
+}
+
+// The object of a Settle: its gain and its place.
+fn gain_value(alloc: Global, place: u32, amount: &Amount) -> Result<Value, AllocError>
+    ensures object { IfOk result (λ value. view value ≡ object (members_of (Page.Reply (Reply.Gain place amount.now)))) }
+    ensures no_float { IfOk result (λ value. has_float (view value) ≡ false) }
+{
+    let gain = json!(in alloc; {"kg": amount.kg, "litres": amount.litres})?;
+    json!(in alloc; {"gain": gain, "place": place})
 }
 
 /// Does nothing: its contract says what bodies are, byte by byte.

@@ -3,7 +3,7 @@
 ghost use Rattle.std.specs.Prelude.{◌≡◌, IfSome};
 ghost use Rattle.serde_json.specs.View.{view};
 ghost use Rattle.farm_history.specs.Commands.{IsWellFormedCommand};
-ghost use Rattle.farm_http.specs.Requests.{cancel_of, closing_of, command_of, dip_of, gauge_of, gauged_at, opening_of, outage_of, outside_of, place_at, reverse_of, sample_of, second_of, tank_at, transfer_of};
+ghost use Rattle.farm_http.specs.Requests.{cancel_of, closing_of, command_of, dip_of, gauge_of, gauged_at, opening_of, outage_of, outside_of, place_at, reverse_of, sample_of, second_of, settle_of, tank_at, transfer_of};
 
 use crate::members::{few_at, natural_at, text_at, whole_at};
 use crate::requests::{GREATEST_PARTY, GREATEST_PLACE, GREATEST_TANK};
@@ -25,6 +25,7 @@ pub(crate) fn command_of(word: &str, value: &Value) -> Option<Command>
         "close" => closing_of(value),
         "cancel" => cancel_of(value),
         "reverse" => reverse_of(value),
+        "settle" => settle_of(value),
         "stop" => Some(Command::Stop),
         _ => None,
     }
@@ -76,7 +77,7 @@ fn sample_of(value: &Value) -> Option<Command>
 
 // The number of a tank.
 #[tactic(auto, unfolding(crate::specs::Requests::tank_at))]
-fn tank_at(value: &Value, name: &str) -> Option<u16>
+pub(crate) fn tank_at(value: &Value, name: &str) -> Option<u16>
     ensures value { result ≡ tank_at name.now (view value.now) }
 {
     let number = natural_at(value, name, 0, u64::from(GREATEST_TANK))?;
@@ -186,6 +187,18 @@ fn reverse_of(value: &Value) -> Option<Command>
 {
     let ticket = place_at(value, "ticket")?;
     Some(Command::Reverse { ticket })
+}
+
+// A tank whose book is settled.
+#[tactic(auto, unfolding(crate::specs::Requests::settle_of))]
+fn settle_of(value: &Value) -> Option<Command>
+    ensures value { result ≡ settle_of (view value.now) }
+    ensures well_formed { IfSome result IsWellFormedCommand }
+{
+    Some(Command::Settle {
+        tank: tank_at(value, "tank")?,
+        gauged: gauged_at(value, "reading", "sample")?,
+    })
 }
 
 // What is named for a tank: the place of a reading and that of a sample.

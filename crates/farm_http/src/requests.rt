@@ -2,9 +2,9 @@
 
 ghost use Rattle.std.specs.Prelude.{◌≡◌, IfSome};
 ghost use Rattle.serde_json.specs.View.{view};
-ghost use Rattle.farm_http.specs.Requests.{IsLineRead, IsValueRead, IsWellFormedAsk, ask_of_value, do_of, look_of};
+ghost use Rattle.farm_http.specs.Requests.{IsLineRead, IsValueRead, IsWellFormedAsk, ask_of_value, do_of, stock_look_of, ticket_look_of};
 
-use crate::commands::{command_of, place_at};
+use crate::commands::{command_of, place_at, tank_at};
 use crate::members::{natural_at, text_at};
 use farm_history::{Ask, Query};
 use serde_json::Value;
@@ -65,19 +65,31 @@ fn ask_of_value(value: &Value) -> Option<Ask>
     ensures well_formed { IfSome result IsWellFormedAsk }
 {
     match text_at(value, "do")? {
-        "ticket" => look_of(value),
+        "ticket" => ticket_look_of(value),
+        "stock" => stock_look_of(value),
+        "total" => Some(Ask::Look(Query::Total)),
         word => do_of(word, value),
     }
 }
 
 // A ticket that is looked up.
-#[tactic(auto, unfolding(crate::specs::Requests::look_of))]
-fn look_of(value: &Value) -> Option<Ask>
-    ensures value { result ≡ look_of (view value.now) }
+#[tactic(auto, unfolding(crate::specs::Requests::ticket_look_of))]
+fn ticket_look_of(value: &Value) -> Option<Ask>
+    ensures value { result ≡ ticket_look_of (view value.now) }
     ensures well_formed { IfSome result IsWellFormedAsk }
 {
     let place = place_at(value, "place")?;
     Some(Ask::Look(Query::Ticket(place)))
+}
+
+// The book of a tank that is looked up.
+#[tactic(auto, unfolding(crate::specs::Requests::stock_look_of))]
+fn stock_look_of(value: &Value) -> Option<Ask>
+    ensures value { result ≡ stock_look_of (view value.now) }
+    ensures well_formed { IfSome result IsWellFormedAsk }
+{
+    let tank = tank_at(value, "tank")?;
+    Some(Ask::Look(Query::Stock(tank)))
 }
 
 // A command that is to be done, by its word.

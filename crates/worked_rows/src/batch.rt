@@ -1,12 +1,9 @@
 //! `batch` on the row site.
 
-use crate::running::{answer_from, source_of};
+use crate::running::{BATCH, answer_from, batch_answer, push_rows, source_of};
 use farm_batch::BatchEnd;
 use farm_history::{Gauged, Named, Query};
-use std::alloc::Global;
 use std::test::Fail;
-
-const BATCH: &[&str] = &["batch", "--site", "row"];
 
 // Lines and their answers, in one batch: after a Stop no line is asked.
 const FIRST_BATCH: &[(&str, &str)] = &[
@@ -94,26 +91,13 @@ const DIPS: &[(&str, &str)] = &[
     ),
 ];
 
-// The lines of rows, and their answers, each with its line feed.
-fn texts_of(alloc: Global, rows: &[(&str, &str)]) -> Result<(String, String), Fail> {
-    let mut lines = String::new(alloc);
-    let mut answers = String::new(alloc);
-    for (line, answer) in rows {
-        lines.push_str(line)?;
-        lines.push('\n')?;
-        answers.push_str(answer)?;
-        answers.push('\n')?;
-    }
-    Ok((lines, answers))
-}
-
 #[test]
 fn rows_of_batches(rt: HostRuntime) -> Result<(), Fail> {
     for rows in [FIRST_BATCH, GAUGES, DIPS] {
-        let (lines, answers) = texts_of(rt.alloc(), rows)?;
-        let mut source = source_of(rt.alloc(), &[lines.as_str()])?;
-        let mut folder = row_site::row_folder(rt.alloc())?;
-        let (status, bytes) = answer_from(rt.alloc(), BATCH, &mut source, &mut folder)?;
+        let mut lines = String::new(rt.alloc());
+        let mut answers = String::new(rt.alloc());
+        push_rows(rows, &mut lines, &mut answers)?;
+        let (status, bytes) = batch_answer(rt.alloc(), lines.as_str())?;
         assert_eq!(rt; status, 0);
         assert_eq!(rt; bytes.as_slice(), answers.as_bytes());
     }
@@ -146,7 +130,9 @@ fn how_a_batch_ended_may_go_to_another_thread(rt: HostRuntime) {
 
 #[test]
 fn what_is_looked_up_and_named_may_go_to_another_thread(rt: HostRuntime) {
-    assert_eq!(&rt; shared(Query::Ticket(5)), Query::Ticket(5));
+    for query in [Query::Ticket(5), Query::Stock(101), Query::Total] {
+        assert_eq!(&rt; shared(query), query);
+    }
     let named = Named {
         tank: 101,
         gauged: Gauged {

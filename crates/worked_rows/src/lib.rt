@@ -8,7 +8,11 @@ mod batch;
 #[cfg(test)]
 mod calc;
 #[cfg(test)]
+mod day;
+#[cfg(test)]
 mod running;
+#[cfg(test)]
+mod stocks;
 #[cfg(test)]
 mod table;
 #[cfg(test)]

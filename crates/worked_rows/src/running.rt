@@ -8,6 +8,9 @@ use std::test::Fail;
 /// What a run ends with: its status, and the bytes that it put.
 pub type Answer = (u8, Vec<u8>);
 
+/// The words of a batch on the row site.
+pub const BATCH: &[&str] = &["batch", "--site", "row"];
+
 /// The moment of the clock of the runs.
 const MOMENT: i64 = 1_700_000_000;
 
@@ -46,6 +49,27 @@ pub fn answer_from(
     let clock = Fixed::new(alloc, MOMENT)?;
     let status = run(alloc, &owned, source, &mut sink, folder, &clock);
     Ok((status, Vec::from_slice(alloc, sink.bytes())?))
+}
+
+/// What a batch on the row site answers to its lines.
+pub fn batch_answer(alloc: Global, lines: &str) -> Result<Answer, Fail> {
+    let mut folder = row_site::row_folder(alloc)?;
+    answer(alloc, BATCH, lines, &mut folder)
+}
+
+/// Appends the lines of rows to a text and their answers to another, each with its line feed.
+pub fn push_rows(
+    rows: &[(&str, &str)],
+    lines: &mut String,
+    answers: &mut String,
+) -> Result<(), Fail> {
+    for (line, answer) in rows {
+        lines.push_str(line)?;
+        lines.push('\n')?;
+        answers.push_str(answer)?;
+        answers.push('\n')?;
+    }
+    Ok(())
 }
 
 /// What `calc` answers to an input.

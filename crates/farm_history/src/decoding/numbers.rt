@@ -1,5 +1,5 @@
-//! Numbers, bytes and short lists at the front of bytes. Each call answers the value and the bytes after it; where there is none,
-//! how many bytes are left from the first bad one on, 0 where bytes are missing.
+//! Numbers, bytes and short lists at the front of bytes. Each call answers the value and the bytes after it. Where the bytes don't begin
+//! with such a value it answers how many bytes are left from the first bad one on, 0 where bytes are missing.
 
 ghost use Rattle.std.specs.Prelude.{◌≡◌, ◌≤◌, nat_le};
 ghost use Rattle.std.specs.Int.{w16, w32, w64};

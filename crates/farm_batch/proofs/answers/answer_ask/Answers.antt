@@ -1,4 +1,4 @@
-use Rattle.std.proofs.Common.{◌≡◌, ℤ, Some, sym, subst, rules}
+use Rattle.std.proofs.Common.{ℤ, Some, sym, subst, rules}
 use Rattle.std.specs.Int.{w64}
 use Rattle.std.proofs.lemmas.Int.{to_z-of_z}
 use Rattle.farm_history.specs.declared.ask.Ask.{Ask}

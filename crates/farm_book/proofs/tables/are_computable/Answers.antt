@@ -1,6 +1,6 @@
 use Rattle.std.proofs.Common.{◌≡◌, ◌≤◌, List, length, subst}
 use Rattle.site_items.specs.declared.records.Tank.{Tank}
-use Rattle.farm_book.proofs.TablesRead.{AreRead, read_computable, read_more}
+use Rattle.farm_book.proofs.TablesRead.{AreRead, read_computable, read_more, site_rising}
 use Rattle.farm_book.proofs.tables.are_computable.Goals as goal
 
 pub loop-tank-preserved : goal.loop-tank-preserved
@@ -12,4 +12,4 @@ returns c =
     let tanks : c.get-tank-items.result.now ≡ c.args.site.now.tanks = c.get-tank-items.ensures.items in
     let read = subst (λ (tanks : List Tank). AreRead tanks c.loop-tank.tank-index) tanks c.loop-tank.invariant in
     let all = subst (λ (tanks : List Tank). length tanks ≤ c.loop-tank.tank-index) tanks c.loop-tank-test.false in
-    record { computable = read_computable c.args.site.now c.loop-tank.tank-index read all }
+    record { computable = read_computable c.args.site.now c.loop-tank.tank-index read all; rising = site_rising c.args.site.now }

@@ -1,22 +1,9 @@
-use Rattle.std.proofs.Common.{◌≡◌, Some, None}
-use Rattle.farm_history.specs.Tickets.{ticket_at}
-use Rattle.farm_book.proofs.Replies.{issues_there, none_there, ticket_given}
+use Rattle.std.proofs.Common.{◌≡◌, ℕ, subst}
+use Rattle.farm_book.specs.Replies.{IsTicketReply, IssuesAt}
 use Rattle.farm_book.proofs.book.Book.look.Goals as goal
 
-pub returns-in-Some-clause-ticket : goal.returns-in-Some-clause-ticket
-returns-in-Some-clause-ticket g c = λ place is at.
-    let given : ticket_at c.args.self.now.history place ≡ Some c.in-Some.ticket =
-    cc (rw is at c.ticket_at.ensures.ticket, c.in-Some.is, c.past.ensures.history) in
-    ticket_given c.args.self.now.history place c.in-Some.ticket given
-
-pub returns-in-Some-clause-none : goal.returns-in-Some-clause-none
-returns-in-Some-clause-none g c = λ place is none.
-    let given : ticket_at c.args.self.now.history place ≡ Some c.in-Some.ticket =
-    cc (rw is at c.ticket_at.ensures.ticket, c.in-Some.is, c.past.ensures.history) in
-    absurd (none (issues_there c.args.self.now.history place c.in-Some.ticket given))
-
-pub returns-in-None-clause-ticket : goal.returns-in-None-clause-ticket
-returns-in-None-clause-ticket g c = λ place is at.
-    let none : ticket_at c.args.self.now.history place ≡ None =
-    cc (rw is at c.ticket_at.ensures.ticket, c.in-None.is, c.past.ensures.history) in
-    absurd (none_there g.row.LIMIT c.args.self.now.history place c.past.ensures.sound none at)
+pub returns-in-Ticket-clause-ticket : goal.returns-in-Ticket-clause-ticket
+returns-in-Ticket-clause-ticket g c = λ place is.
+    let same : c.in-Ticket.place ≡ place = cc (c.in-Ticket.is, is) in
+    let Replies : ℕ → Type 0 = λ place. IssuesAt c.args.self.now.history place → IsTicketReply c.args.self.now.history place c.look_at_ticket.result in
+    subst Replies same c.look_at_ticket.ensures.ticket

@@ -1,0 +1,12 @@
+use Rattle.std.proofs.Common.{◌≡◌, length}
+use Rattle.farm_history.specs.History.{History, last_place}
+use Rattle.farm_history.specs.Stocks.{total_of}
+use Rattle.farm_book.proofs.StockReplies.{total_given}
+use Rattle.farm_book.proofs.book.Book.look_at_total.Goals as goal
+
+pub returns-clause-total : goal.returns-clause-total
+returns-clause-total g c =
+    let history : History = c.args.self.now.history in
+    let entries : length c.past-past.result.entries.now ≡ last_place history = cc c.past-past.ensures.history in
+    let total : c.total.result ≡ total_of history = cc (c.total.ensures.total, c.past-past.ensures.history) in
+    total_given history (length c.past-past.result.entries.now) c.total.result entries total c.past-past.ensures.sound.rising

@@ -1,0 +1,10 @@
+use Rattle.std.proofs.Common.{◌≡◌, ◌+◌, drop}
+use Rattle.farm_base.specs.Steps.{or_else}
+use Rattle.farm_history.specs.Commands.{settles}
+use Rattle.farm_history.specs.Places.{last_from}
+use Rattle.farm_entries.proofs.past.Past.last_settlement.Given as goal
+
+abbrev pub invariant-loop-index : goal.invariant-loop-index
+invariant-loop-index l =
+    or_else (last_from (l.index + 1) (λ entry. settles l.tank entry.cmd) (drop l.index l.self.entries.now)) l.last
+    ≡ last_from 1 (λ entry. settles l.tank entry.cmd) l.self.entries.now

@@ -1,0 +1,10 @@
+use Rattle.std.proofs.Common.{sym, subst}
+use Rattle.farm_entries.specs.Bounds.{AreSmallPostings}
+use Rattle.farm_entries.specs.Ledgers.{listed_postings}
+use Rattle.farm_entries.proofs.TicketPostings.{opposites_small}
+use Rattle.farm_entries.proofs.past.Past.posted_by_reverse.Goals as goal
+
+pub returns-in-Some-clause-small : goal.returns-in-Some-clause-small
+returns-in-Some-clause-small c =
+    subst AreSmallPostings (sym c.opposite_postings.ensures.posted)
+    (opposites_small (listed_postings c.posted_by_closing.result) c.posted_by_closing.ensures.small)

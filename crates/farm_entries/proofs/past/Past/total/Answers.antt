@@ -1,0 +1,11 @@
+use Rattle.std.proofs.Common.{◌∙◌}
+use Rattle.farm_entries.specs.Pasts.{history_of}
+use Rattle.farm_entries.proofs.HistoryStocks.{total_is}
+use Rattle.farm_entries.proofs.past.Past.total.Goals as goal
+
+pub returns : goal.returns
+returns c = record {
+  total =
+      c.total.ensures.total
+      ∙ total_is (history_of c.args.self.now.site.now c.args.self.now.entries.now) c.ledger.result c.ledger.ensures.books;
+}
