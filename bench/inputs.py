@@ -1,5 +1,5 @@
 """Writes into a folder two inputs of `calc` from levels, the greatest one and one of 100,000 short factor lines, a factor file, and
-batches: refused lines, repeated lines, and lines that are accepted."""
+batches: refused lines, repeated lines, lines that are accepted, and a history with tickets, without looks at its total and with them."""
 
 import pathlib
 import sys
@@ -40,7 +40,26 @@ def gauge(key, tank):
     return f'{{"do":"gauge","account":1,"key":{key},"tank":{tank},"level":1234,"water":10,"temperature":1850,"ambient":1200}}\n'
 
 
+def day():
+    """Commands that are accepted, 10,000 of them: a sample, and receipts, each from its two readings, of which the second is 1 mm higher."""
+    yield '{"do":"sample","account":1,"key":0,"tank":101,"density":8500,"sw":0}\n'
+    for key in range(1, 9_997, 4):
+        for offset in (0, 2):
+            named = f'"reading":{key + offset + 1},"sample":1'
+            level = f'"level":{1234 + offset // 2},"water":10,"temperature":1500,"ambient":1200'
+            yield f'{{"do":"gauge","account":1,"key":{key + offset},"tank":101,{level}}}\n'
+            if offset == 0:
+                yield f'{{"do":"open","account":1,"key":{key + 1},"way":"receipt","tank":101,"party":7,{named}}}\n'
+            else:
+                yield f'{{"do":"close","account":1,"key":{key + 3},"movement":{key + 2},{named}}}\n'
+    for key in range(9_997, 10_000):
+        yield gauge(key, 101)
+
+
 folder = pathlib.Path(sys.argv[1])
+entries = "".join(day())
+(folder / "entries.jsonl").write_text(entries)
+(folder / "looks.jsonl").write_text(entries + '{"do":"total"}\n' * 200)
 (folder / "refused.jsonl").write_text("".join(gauge(key, 99) for key in range(200_000)))
 (folder / "repeated.jsonl").write_text(gauge(1, 101) * 200_000)
 (folder / "accepted.jsonl").write_text("".join(gauge(key, 101) for key in range(10_000)))

@@ -71,6 +71,9 @@ if os.path.exists(f"{WORK}/batch"):
     for name, text in (("refused", '{"rule":3,"value":0}'), ("repeated", '{"place":1}')):
         compare(f"200,000 {name} lines of a batch, C with cJSON", BATCH, [f"{WORK}/batch", text], 9, f"{WORK}/{name}.jsonl")
 print(f"10,000 accepted lines of a batch: {least(BATCH, 3, f'{WORK}/accepted.jsonl'):.0f} ms")
+history = least(BATCH, 5, f"{WORK}/entries.jsonl")
+looked = least(BATCH, 5, f"{WORK}/looks.jsonl")
+print(f"a history of 10,000 entries with 2,499 tickets: {history:.0f} ms, and a look at its total: {(looked - history) / 200:.2f} ms")
 print(f"memory of a batch of 100,000 entries: {kilobytes(BATCH, f'{WORK}/many.jsonl')} KB")
 LOG = f"{TOP}/crates/shared_log/out/shared_log"
 for callers, turns in ((1, 200_000), (4, 50_000)):
