@@ -203,6 +203,6 @@ pub from_mapped : {E : Type 0} (places : ℕ) (least most : ℤ) (number : Numbe
     ((e : E) (fault : ReadFault) → post e fault → fault ≡ OutOfRange) →
     MatchResult new (λ x. Answered places least most number (Ok x)) (λ _. Answered places least most number (Err OutOfRange)) →
     MatchResult new (λ x. answer ≡ Ok x) (λ e. IsErrAnd answer (post e)) → Answered places least most number answer
-from_mapped places least most number (Ok x) answer post told answered is = is ∙ answered
-from_mapped places least most number (Err e) (Ok x) post told answered is = absurd is
-from_mapped places least most number (Err e) (Err fault) post told answered is = ap Err (told e fault is) ∙ answered
+from_mapped places least most number (Ok x) answer post range_kept answered is = is ∙ answered
+from_mapped places least most number (Err e) (Ok x) post range_kept answered is = absurd is
+from_mapped places least most number (Err e) (Err fault) post range_kept answered is = ap Err (range_kept e fault is) ∙ answered

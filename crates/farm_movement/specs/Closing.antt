@@ -39,7 +39,7 @@ ticket_of movement place number first second = record {
 abbrev pub GoesWrong : Leg → Quantities → Type 0
 GoesWrong leg closing = IsWrongWay leg.way leg.opening closing
 
--- the second leg would, where there are one and figures for it
+-- there is a second leg, with figures, and it goes the wrong way on them
 abbrev pub SecondGoesWrong : Option Leg → Option Quantities → Type 0
 SecondGoesWrong (Some leg) (Some closing) = GoesWrong leg closing
 SecondGoesWrong (Some leg) None = ⊥

@@ -45,7 +45,7 @@ field_there (x ∷ fields) (suc i) within none = field_there fields i (omega ari
 abbrev rows_of : ℕ → List (List (List ℕ)) → Result (List Listed) ℕ
 rows_of above records = csv.rows_from (λ above fields. row_of fields) above records
 
--- the same rows, or the fault of the first record that is none
+-- the same rows, or the fault of the first record that is no row
 abbrev with_fault : Result (List Listed) ℕ → Result (List Listed) FactorFault
 with_fault (Ok rows) = Ok rows
 with_fault (Err number) = Err (BadField number)

@@ -141,10 +141,10 @@ grid_grows row rows =
 -- the grid that is made in the end, or none
 pub finished : {E : Type 0} (grown : Grown) (made : Result Grid E) (answer : Option Grid) → OkIff made (IsGrid (grid_of grown)) (grid_of grown) → answer ≡ result_ok made →
     (grown.column == 0) ≡ true → Finishes grown answer
-finished grown (Ok grid) answer is told zero row rows few answered =
+finished grown (Ok grid) answer is invariant zero row rows few answered =
     let all : grid_of_rows (row ∷ rows) ≡ Ok (grid_of grown) = rw zero at answered in
-    rw told (all ∙ ap Ok (sym is.1))
-finished grown (Err e) answer is told zero row rows few answered = absurd (is (grid_is row rows (grid_of grown) few (rw zero at answered)))
+    rw invariant (all ∙ ap Ok (sym is.1))
+finished grown (Err e) answer is invariant zero row rows few answered = absurd (is (grid_is row rows (grid_of grown) few (rw zero at answered)))
 
 -- a last block that is short
 pub unfinished : (grown : Grown) → (grown.column == 0) ≡ false → Finishes grown None

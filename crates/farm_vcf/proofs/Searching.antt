@@ -108,8 +108,8 @@ at_default : (listed : List ℤ) (i : ℕ) (d : ℤ) → i < length listed → g
 at_default listed i d within = get_or_default listed i d (pos 0) within
 
 -- what the binary search asks of rising values
-pub parted : (value : ℤ) (listed : List ℤ) → Rises listed → IsPartitionedBy (λ other. int_lt other value) listed
-parted value listed up i j d later within below =
+pub partitioned : (value : ℤ) (listed : List ℤ) → Rises listed → IsPartitionedBy (λ other. int_lt other value) listed
+partitioned value listed up i j d later within below =
     let first = at_default listed i d (omega arith) in
     let second = at_default listed j d within in
     let over : listed_at listed i ≤ℤ listed_at listed j = rises_on listed up i j later within in

@@ -15,7 +15,7 @@ returns-then-self-ne0 c =
 pub returns : goal.returns
 returns c =
     let P : Grown → Type 0 = λ grown. OkIff c.from_grid.result (IsGrid (grid_of grown)) (grid_of grown) in
-    let told : P c.args.self = subst P c.self.view_is c.from_grid.ensures in
+    let invariant : P c.args.self = subst P c.self.view_is c.from_grid.ensures in
     let column : c.self.inside.column ≡ c.args.self.column = ap (λ (grown : Grown). grown.column) c.self.view_is in
     let zero : (c.args.self.column == 0) ≡ true = grind (arith, nat_tests) in
-    finished c.args.self c.from_grid.result c.ok.result told c.ok.ensures.value zero
+    finished c.args.self c.from_grid.result c.ok.result invariant c.ok.ensures.value zero
