@@ -223,3 +223,21 @@ fn bodies_are_compact(rt: HostRuntime) -> Result<(), Fail> {
     assert_eq!(rt; shared(Page::Status(507, None)), Page::Status(507, None));
     Ok(())
 }
+
+#[test]
+fn a_settlement_and_what_is_asked_of_stocks_are_read(rt: HostRuntime) {
+    let alloc = rt.alloc();
+    let settle = r#"{"do":"settle","account":1,"key":3,"tank":101,"reading":15,"sample":1}"#;
+    let want = first(Command::Settle {
+        tank: 101,
+        gauged: gauged(15, 1),
+    });
+    assert_eq!(rt; line(alloc, settle.as_bytes()), want);
+    let stock = LineAsked::Ask(Ask::Look(Query::Stock(101)));
+    assert_eq!(rt;
+        line(alloc, r#"{"do":"stock","tank":101}"#.as_bytes()),
+        stock
+    );
+    let total = LineAsked::Ask(Ask::Look(Query::Total));
+    assert_eq!(rt; line(alloc, r#"{"do":"total"}"#.as_bytes()), total);
+}
