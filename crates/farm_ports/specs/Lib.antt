@@ -1,4 +1,5 @@
 pub mod Ports
 pub mod Pieces
 pub mod Folders
+pub mod Links
 pub mod Objects
