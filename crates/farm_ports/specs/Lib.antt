@@ -3,3 +3,4 @@ pub mod Pieces
 pub mod Folders
 pub mod Links
 pub mod Objects
+pub mod Wires

@@ -14,11 +14,14 @@ mod fault;
 mod files;
 mod folder;
 mod gather;
+mod kept_calls;
 mod links;
 mod ports;
 mod real;
+mod responses;
 mod script;
 mod system_clock;
+mod wire;
 
 pub use clock::{Clock, Fixed};
 pub use copying::{put_all, read_up_to};
@@ -32,6 +35,7 @@ pub use ports::{Failed, Port, Sink, Source};
 pub use real::{StdSink, StdSource};
 pub use script::Script;
 pub use system_clock::SystemClock;
+pub use wire::Wire;
 
 #[cfg(test)]
 mod tests;

@@ -1,0 +1,97 @@
+//! The calls that a link in memory took, as long as there is memory to keep each.
+
+ghost use Rattle.std.specs.Prelude.{◌≡◌, [], ◌∷◌, IfOk, IsOk, IsErr, IsSome, None, OnOk, Some};
+ghost use Rattle.farm_base.specs.Known.{WhereKnown};
+ghost use Rattle.farm_ports.specs.Links.{AddsCalls};
+ghost use Rattle.farm_ports.specs.Wires.{CanKeep, HasRoom};
+
+use crate::{Bytes, LinkCall};
+use farm_base::NoMemory;
+use std::alloc::Global;
+use std::marker::Model;
+
+/// The calls in their order. Where one finds no memory they aren't known from then on.
+#[derive(Drop)]
+pub struct KeptCalls {
+    calls: Vec<LinkCall>,
+    known: bool,
+}
+
+impl Model for KeptCalls {
+    ghost use Rattle.std.specs.Prelude.{if◌then◌else◌, Some, None, vec_capacity};
+    ghost use Rattle.farm_ports.specs.Wires.{KeptState};
+
+    ghost Value = { KeptState };
+
+    ghost view = { λ kept. record { calls = if kept.known then Some kept.calls.items else None; room = vec_capacity kept.calls } };
+}
+
+impl KeptCalls {
+    /// No call yet, and room for one pause.
+    pub fn new(alloc: Global) -> Result<Self, NoMemory>
+        ensures known { IfOk result (λ kept. kept.calls ≡ Some []) }
+        ensures room { IfOk result (λ kept. HasRoom 1 kept.calls kept.room) }
+    {
+        Ok(KeptCalls {
+            calls: Vec::with_capacity(alloc, 1)?,
+            known: true,
+        })
+    }
+
+    /// The calls, where they are known.
+    pub fn get(&self) -> &[LinkCall]
+        ensures known { WhereKnown self.now.calls (λ calls. calls ≡ result.now) }
+    {
+        &self.calls
+    }
+
+    /// Makes room for a call and for one pause after it.
+    pub fn make_room(&mut self) -> Result<(), NoMemory>
+        ensures room { OnOk result (HasRoom 2 self.new.calls self.new.room) }
+        ensures stays { OnOk result (self.new.calls ≡ self.old.calls) }
+        ensures forgotten { IsErr result → self.new.calls ≡ None }
+        ensures there { CanKeep 2 self.old.calls self.old.room → IsOk result }
+    {
+        let made = self.calls.reserve(2);
+        if made.is_err() {
+            self.known = false;
+        }
+        Ok(made?)
+    }
+
+    /// Makes room for a call and for one pause after it, and copies the bytes of the call.
+    pub fn copy(&mut self, alloc: Global, bytes: &[u8]) -> Result<Bytes, NoMemory>
+        ensures copied { IfOk result (λ copy. copy ≡ bytes.now) }
+        ensures room { IsOk result → HasRoom 2 self.new.calls self.new.room }
+        ensures stays { IsOk result → self.new.calls ≡ self.old.calls }
+        ensures forgotten { IsErr result → self.new.calls ≡ None }
+    {
+        self.make_room()?;
+        let copied = bytes.to_vec(alloc);
+        if copied.is_err() {
+            self.known = false;
+        }
+        Ok(Bytes::new(copied?))
+    }
+
+    /// Keeps a call where there is room for it. Takes no memory.
+    pub fn push(&mut self, call: LinkCall)
+        ensures added { AddsCalls self.old.calls self.new.calls (call ∷ []) }
+        ensures known { CanKeep 1 self.old.calls self.old.room → IsSome self.new.calls }
+        ensures room { HasRoom 2 self.old.calls self.old.room → HasRoom 1 self.new.calls self.new.room }
+    {
+        let has_room = self.calls.len() < self.calls.capacity();
+        self.known = self.known && has_room && self.calls.push(call).is_ok();
+    }
+
+    /// Keeps a call that took no bytes, and makes room for it and for one pause after it.
+    pub fn keep(&mut self, call: LinkCall)
+        ensures added { AddsCalls self.old.calls self.new.calls (call ∷ []) }
+        ensures known { CanKeep 2 self.old.calls self.old.room → IsSome self.new.calls }
+        ensures room { HasRoom 1 self.new.calls self.new.room }
+    {
+        if self.make_room().is_ok() {
+            self.push(call);
+        }
+    }
+}
