@@ -1,5 +1,5 @@
 -- What objects of the outside show to clauses. One in memory shows what it holds and its calls, a real one what it stands over.
-use Rattle.std.specs.Prelude.{◌≡◌, ℕ, ◌+◌, ◌-◌, ◌^◌, ◌==◌, min, List, IsTrue}
+use Rattle.std.specs.Prelude.{◌≡◌, Bool, ℕ, ◌+◌, ◌-◌, ◌^◌, ◌==◌, min, List, IsTrue}
 use Rattle.std.specs.List.{list_any}
 use Rattle.farm_ports.specs.Folders.{File}
 
@@ -43,4 +43,10 @@ pub record FilesState : Type 0 where
 -- a real object: what it stands over, and its faults
 pub record Counted (A : Type 0) : Type 0 where
   pub over : A
+  pub faults : ℕ
+
+-- a link of the system: what it stands over, whether it has a connection, and its faults
+pub record Connected (A : Type 0) : Type 0 where
+  pub over : A
+  pub connected : Bool
   pub faults : ℕ

@@ -21,6 +21,7 @@ mod real;
 mod responses;
 mod script;
 mod system_clock;
+mod tcp_link;
 mod wire;
 
 pub use clock::{Clock, Fixed};
@@ -35,6 +36,7 @@ pub use ports::{Failed, Port, Sink, Source};
 pub use real::{StdSink, StdSource};
 pub use script::Script;
 pub use system_clock::SystemClock;
+pub use tcp_link::TcpLink;
 pub use wire::Wire;
 
 #[cfg(test)]
