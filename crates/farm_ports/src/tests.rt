@@ -2,6 +2,8 @@ ghost use Rattle.std.specs.Prelude.{ℕ, List, IfOk, OnOk};
 ghost use Rattle.farm_base.specs.Known.{Adds, Takes, WhereKnown};
 ghost use Rattle.farm_ports.specs.Folders.{ReadsFile};
 
+mod links;
+
 use super::*;
 use farm_base::NoMemory;
 use std::alloc::{AllocError, Global};
