@@ -1,9 +1,9 @@
-//! The ports of the custody desk to the outside: sources of bytes, sinks for them, folders of files and
-//! clocks, in memory and real.
+//! The ports of the custody desk to the outside: sources of bytes, sinks for them, folders of files, links to devices
+//! and clocks, in memory and real.
 //!
 //! A port counts its faults in a number that never falls, a call answers `Failed` only where the count rose in that call, and
 //! a call that answers anything else leaves the count as it was. What a port in memory took, has left or holds is known to
-//! contracts, and so are a folder's files; of a real one nothing is known.
+//! contracts, and so are a folder's files and the calls that a link took; of a real one nothing is known.
 #![tactic(auto)]
 
 mod clock;
