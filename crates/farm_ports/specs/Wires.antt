@@ -32,8 +32,7 @@ abbrev pub responses_after : List (List ℕ) → List (List ℕ)
 responses_after [] = []
 responses_after (response ∷ responses) = responses
 
--- a link in memory: its calls where each could be kept, for how many it has memory, the responses still to come, what there is
--- to receive, and its numbered calls
+-- a link in memory: its calls where each could be kept, room for how many, responses to come, what is left to receive, its count
 pub record WireState : Type 0 where
   pub calls : Option (List LinkCall)
   pub room : ℕ

@@ -84,7 +84,7 @@ impl KeptCalls {
         self.known = self.known && has_room && self.calls.push(call).is_ok();
     }
 
-    /// Keeps a call that took no bytes, and makes room for it and for one pause after it.
+    /// Makes room for a call that moved no bytes and for one pause after it, and keeps the call.
     pub fn keep(&mut self, call: LinkCall)
         ensures added { AddsCalls self.old.calls self.new.calls (call ∷ []) }
         ensures known { CanKeep 2 self.old.calls self.old.room → IsSome self.new.calls }
