@@ -1,1 +1,5 @@
 pub mod Maps
+pub mod Decoding
+pub mod Deadbands
+pub mod Pieces
+pub mod Polls

@@ -1,6 +1,9 @@
 //! Gauge lines, gauges, and the fields among their registers.
 
-use farm_base::Items;
+ghost use Rattle.std.specs.Prelude.{◌≡◌, IfOk};
+
+use farm_base::{Items, NoMemory};
+use std::alloc::Global;
 
 /// A number in the registers that a gauge reads: one word, or two as one number.
 ///
@@ -76,4 +79,17 @@ pub struct LineMap {
     pub port: u16,
     /// Its gauges, in the order of the site file.
     pub gauges: Gauges,
+}
+
+impl LineMap {
+    /// A copy of the line.
+    pub fn copy(&self, alloc: Global) -> Result<LineMap, NoMemory>
+        ensures equal { IfOk result (λ line. line ≡ self.now) }
+    {
+        Ok(LineMap {
+            host: Host::new(self.host.get().to_vec(alloc)?),
+            port: self.port,
+            gauges: Gauges::new(self.gauges.get().to_vec(alloc)?),
+        })
+    }
 }

@@ -1,43 +1,62 @@
+ghost use Rattle.std.specs.Prelude.{◌≡◌, ◌≤◌, ◌+◌, ◌<◌, IfOk, IsTrue};
+ghost use Rattle.modbus_poll.specs.Maps.{is_gauge_map, is_line_map};
+
 use super::*;
+use farm_base::NoMemory;
+use std::alloc::Global;
 use std::test::Fail;
 
-fn shared<T: Send + Sync>(value: T) -> T {
+mod conversations;
+mod deadbands;
+mod decoding;
+mod polling;
+
+fn shared<T: Send + Sync>(value: T) -> T
+    ensures { result ≡ value }
+{
     value
 }
 
-#[test]
-fn a_line_lends_its_host_and_its_gauges(rt: HostRuntime) -> Result<(), Fail> {
-    let alloc = rt.alloc();
-    let field = shared(Field {
-        offset: 0,
-        words: 2,
-        swapped: true,
-        signed: false,
-        mul: 1,
-        div: 10,
-    });
-    let valid = shared(Valid { offset: 4, bit: 15 });
-    let gauge = shared(GaugeMap {
-        tank: 101,
-        unit: 17,
-        function: 4,
-        start: 8,
-        quantity: 5,
-        level: field,
-        temperature: field,
-        water: None,
-        ambient: Some(field),
-        ambient_fixed: 1_500,
-        valid: Some(valid),
-        deadband_mm: 1,
-        deadband_centi: 5,
-    });
-    let line = shared(LineMap {
+// A field of one word in the unit of what it measures.
+const PLAIN: Field = Field {
+    offset: 0,
+    words: 1,
+    swapped: false,
+    signed: false,
+    mul: 1,
+    div: 1,
+};
+
+// Three input registers of unit 17: the level, the temperature in 0.1 C, and a word whose lowest bit says that they are valid.
+const GAUGE: GaugeMap = GaugeMap {
+    tank: 101,
+    unit: 17,
+    function: 4,
+    start: 8,
+    quantity: 3,
+    level: PLAIN,
+    temperature: Field {
+        offset: 1,
+        signed: true,
+        mul: 10,
+        ..PLAIN
+    },
+    water: None,
+    ambient: None,
+    ambient_fixed: 1_500,
+    valid: Some(Valid { offset: 2, bit: 0 }),
+    deadband_mm: 1,
+    deadband_centi: 5,
+};
+
+// A line with one gauge.
+fn line(alloc: Global, gauge: GaugeMap) -> Result<LineMap, NoMemory>
+    requires { IsTrue (is_gauge_map gauge) }
+    ensures { IfOk result (λ line. IsTrue (is_line_map line)) }
+{
+    Ok(LineMap {
         host: Host::new(b"10.0.0.7".to_vec(alloc)?),
         port: 502,
-        gauges: Gauges::new(vec![in alloc; gauge, gauge]?),
-    });
-    assert_eq!(rt; line.host.get(), b"10.0.0.7".as_slice());
-    assert_eq!(rt; line.gauges.get(), [gauge, gauge].as_slice());
-    Ok(())
+        gauges: Gauges::new(vec![in alloc; gauge]?),
+    })
 }

@@ -1,0 +1,6 @@
+pub mod Gauges
+pub mod Due
+pub mod Needs
+pub mod SentPieces
+pub mod ComePieces
+pub mod Ways
