@@ -17,4 +17,4 @@ pub use names::{LONGEST_NAME, Name, name_at};
 pub use parties::{MOST_PARTIES, parties_of};
 pub use products::{MOST_PRODUCTS, products_of};
 pub use records::{Party, Product, Tank};
-pub use tanks::{MOST_TANKS, tanks_of};
+pub use tanks::{MOST_STOCK, MOST_TANKS, tanks_of};

@@ -30,7 +30,7 @@ use toml::Value;
 pub const MOST_TANKS: usize = 64;
 
 /// An opening stock is at most this many litres or kilograms either way.
-const MOST_STOCK: i64 = 1_000_000_000;
+pub const MOST_STOCK: i64 = 1_000_000_000;
 
 impl Numbered for Tank {
     ghost use Rattle.site_items.specs.Tanks.{tank_number};

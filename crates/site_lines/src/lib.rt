@@ -5,4 +5,4 @@ mod fields;
 mod gauges;
 mod lines;
 
-pub use lines::lines_of;
+pub use lines::{MOST_GAUGES, MOST_LINES, lines_of};

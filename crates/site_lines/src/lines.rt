@@ -16,10 +16,10 @@ use std::alloc::Global;
 use toml::Value;
 
 /// A site has at most this many gauge lines.
-const MOST_LINES: usize = 16;
+pub const MOST_LINES: usize = 16;
 
 /// A line has at most this many gauges.
-const MOST_GAUGES: usize = 16;
+pub const MOST_GAUGES: usize = 16;
 
 /// The gauge lines of the site, in the order of the file. Each gauge is on one of these tanks, and no two are on one.
 #[tactic(auto, unfolding(crate::specs::Lines::lines_of))]
