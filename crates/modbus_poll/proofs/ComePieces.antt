@@ -1,5 +1,5 @@
 -- A response that comes piece after piece.
-use Rattle.std.proofs.Common.{◌≡◌, ◌⊎◌, inl, inr, ℕ, ◌+◌, ◌≤◌, List, [], ◌∷◌, ◌++◌, length, take, drop, sym, ap, subst, refl, ◌∙◌, arith, append-nil, Option, true, false}
+use Rattle.std.proofs.Common.{◌≡◌, ◌⊎◌, inl, inr, ℕ, ◌+◌, ◌≤◌, List, [], ◌∷◌, ◌++◌, length, take, drop, sym, ap, subst, refl, ◌∙◌, arith, Option, true, false}
 use Rattle.std.specs.List.{concat}
 use Rattle.std.proofs.Common.{le_refl, drop_at, length-take-le, Result, Ok, Err}
 use Rattle.std.proofs.Math.Seq.{take-add}
@@ -7,7 +7,6 @@ use Rattle.std.proofs.lemmas.List.{map-append, take-append-le}
 use Rattle.std.proofs.lemmas.Slice.{take-put_mid_below}
 use borrow.Rule.Slice.PartMut.{put_mid, post_of}
 use Rattle.farm_ports.specs.declared.ports.Failed.{Failed}
-use Rattle.std.proofs.lemmas.List.Folds.{concat-append}
 use Rattle.farm_ports.specs.declared.links.LinkCall.{LinkCall}
 use Rattle.farm_ports.specs.declared.links.LinkCall.TheVariants.{Received}
 use Rattle.farm_ports.specs.Links.{AddsCalls, Receives}
@@ -16,6 +15,7 @@ use Rattle.modbus_frame.specs.declared.expect.Expect.{Expect}
 use Rattle.modbus_frame.specs.declared.frame.Frame.{Frame}
 use Rattle.modbus_frame.specs.declared.frame.Frame.TheVariants.{Need, Words, Exception, Wrong}
 use Rattle.modbus_frame.specs.Reading.{IsDecided, frame_answer}
+use Rattle.modbus_poll.proofs.SentPieces.{concat_more}
 use Rattle.modbus_poll.specs.Pieces.{ReceivesAsNeeded, ReceivesPiece, ReceivesWhole, StopsReceiving, TakesPiece, received}
 
 -- bytes came, in pieces with as many bytes as were needed at most
@@ -24,10 +24,6 @@ pub record HasCome (old new : Option (List LinkCall)) (expect : Expect) (bytes :
   pub as_needed : ReceivesAsNeeded expect came
   pub joined : concat came ≡ bytes
   pub made : AddsCalls old new (received came)
-
--- the pieces, and one more
-concat_more : (pieces : List (List ℕ)) (piece : List ℕ) → concat (pieces ++ piece ∷ []) ≡ concat pieces ++ piece
-concat_more pieces piece = concat-append pieces (piece ∷ []) ∙ ap (λ t. concat pieces ++ t) (append-nil piece)
 
 -- an item stands last of a list, or before the last
 record IsLast {A : Type 0} (items before : List A) (last item : A) : Type 0 where

@@ -19,8 +19,8 @@ pub record HasSent (old new : Option (List LinkCall)) (bytes : List ℕ) : Type 
   pub joined : concat pieces ≡ bytes
   pub made : AddsCalls old new (sent pieces)
 
--- the pieces, and one more
-concat_more : (pieces : List (List ℕ)) (piece : List ℕ) → concat (pieces ++ piece ∷ []) ≡ concat pieces ++ piece
+-- pieces and one more, joined
+pub concat_more : (pieces : List (List ℕ)) (piece : List ℕ) → concat (pieces ++ piece ∷ []) ≡ concat pieces ++ piece
 concat_more pieces piece = concat-append pieces (piece ∷ []) ∙ ap (λ t. concat pieces ++ t) (append-nil piece)
 
 -- a front of a request, and then a front of its rest, are a front of it
