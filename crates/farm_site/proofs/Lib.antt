@@ -1,3 +1,4 @@
 mod RoundingRows
 pub mod TankFacts
 pub mod Meaning
+mod BytesRead

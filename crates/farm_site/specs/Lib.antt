@@ -2,3 +2,5 @@ pub mod Rounds
 pub mod Described
 pub mod Members
 pub mod Sites
+pub mod Encoding
+pub mod Decoding

@@ -5,14 +5,18 @@
 //! looked at, under "Site".
 #![tactic(auto)]
 
+mod decoding;
+mod encoding;
 mod lists;
 mod rounds;
 mod site;
 
+pub use encoding::MOST_SITE_BYTES;
 pub use lists::{Lines, Parties, Products, Tanks};
 pub use site::Site;
 pub use site_items::{Format, Name, Party, Product, Tank};
 pub use site_keys::{SiteFault, SiteReadFault};
+pub use site_reading::SiteBytesFault;
 
 #[cfg(test)]
 mod tests;

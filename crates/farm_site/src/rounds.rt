@@ -3,7 +3,7 @@
 ghost use Rattle.std.specs.Prelude.{◌≡◌, ◌==◌, [], length, map, MatchResult, Ok, IfOk, IfSome, IsTrue};
 ghost use Rattle.std.specs.List.{after_first, before_first, position};
 ghost use Rattle.toml.specs.View.{view};
-ghost use Rattle.farm_rounding.specs.Table.{is_row};
+ghost use Rattle.farm_rounding.specs.Table.{IsTable, is_row};
 ghost use Rattle.farm_site.specs.Rounds.{half_or_zero, mode_of, row_in, row_of_value, rounds_at, rows_after, step_of, twelve_rows};
 
 use farm_rounding::{FACTOR_TIES, Mode, RoundTable};
@@ -19,6 +19,7 @@ const ROWS: usize = 12;
 pub fn rounds_at(format: Format, top: &Keys<'_>) -> Result<RoundTable, SiteFault>
     requires { top.now.item ≡ 0 }
     ensures rounds { result ≡ rounds_at format (view top.now.table.now) }
+    ensures table { IfOk result IsTable }
 {
     if !top.has("rounding") {
         return Ok(RoundTable::usual());
@@ -29,6 +30,7 @@ pub fn rounds_at(format: Format, top: &Keys<'_>) -> Result<RoundTable, SiteFault
 // The rounding table of twelve values.
 fn twelve_rows(format: Format, values: &[Value]) -> Result<RoundTable, SiteFault>
     ensures rounds { result ≡ twelve_rows format (map view values.now) }
+    ensures table { IfOk result IsTable }
 {
     if values.len() != ROWS {
         return Err(bad(FIELD, 0));

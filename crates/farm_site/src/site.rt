@@ -8,6 +8,7 @@ ghost use Rattle.farm_chain.specs.Reading.{IsFloatingRoof};
 ghost use Rattle.farm_fixed.specs.Range.{IsWithin};
 ghost use Rattle.farm_fixed.specs.declared.limits.TheConstants.{MOST_COEFFICIENT};
 ghost use Rattle.farm_ports.specs.Folders.{File};
+ghost use Rattle.farm_rounding.specs.Table.{IsTable};
 ghost use Rattle.site_keys.specs.Faults.{IsMissing, refusal_of};
 ghost use Rattle.site_keys.specs.Files.{FailsAsMissing};
 ghost use Rattle.site_keys.specs.Lists.{is_among};
@@ -45,6 +46,7 @@ pub struct Site {
     /// The gauge lines, at most 16, in the order of the site file. Each gauge is on a tank of the site, and no two are on one.
     pub lines: Lines,
     pub ghost is_named: { IsTrue (is_name name) },
+    pub ghost has_rounds: { IsTable rounds },
     pub ghost has_products: { IsTrue (are_products products) },
     pub ghost has_parties: { IsTrue (are_parties parties) },
     pub ghost has_tanks: { IsTrue (are_tanks (map product_number products) tanks) },

@@ -1,7 +1,9 @@
 //! A site with every key, and what no file of cases can show: bytes that are no UTF-8, reads that fail, and the texts of faults.
 
+mod bytes;
 mod every_key;
 mod files;
+mod from_bytes;
 
 use super::*;
 use crate::tests::files::{FILES, STRAPPED};

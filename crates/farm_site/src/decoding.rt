@@ -1,0 +1,56 @@
+//! How a site is read from its bytes. docs/formats.md has the format.
+
+ghost use Rattle.std.specs.Prelude.{◌≡◌, IfOk, MatchResult};
+ghost use Rattle.site_reading.specs.Decoding.{Gives};
+ghost use Rattle.site_reading.specs.declared.fault.SiteBytesFault.TheVariants.{NoMemory};
+ghost use Rattle.farm_site.specs.Decoding.{whole_site};
+ghost use Rattle.farm_site.specs.Described.{Described};
+ghost use Rattle.farm_site.specs.Encoding.{IsSite, OneEncoding, site_encoding};
+ghost use Rattle.farm_site.specs.Sites.{described};
+
+use crate::{Lines, Parties, Products, Site, SiteBytesFault, Tanks};
+use site_reading::{head_at, lines_at, parties_at, products_at, reading_laws, tanks_at};
+use std::alloc::Global;
+
+impl Site {
+    /// The site that these bytes are, all of them. `BadSite` exactly where they are no site's, and `NoMemory` at any time.
+    pub fn from_bytes(alloc: Global, bytes: &[u8]) -> Result<Site, SiteBytesFault>
+        ensures found { IfOk result (λ site. bytes.now ≡ site_encoding (described site)) }
+        ensures sound { IfOk result (λ site. IsSite (described site)) }
+        ensures only { (site : Described) → IsSite site → bytes.now ≡ site_encoding site →
+            MatchResult result (λ found. described found ≡ site) (λ fault. fault ≡ NoMemory) }
+
+        // Two sites with the same bytes are one.
+        ensures one_encoding { OneEncoding }
+    {
+        reading_laws();
+        Site::whole(alloc, bytes)
+    }
+
+    // The same, as it is read part by part.
+    #[tactic(auto, unfolding(crate::specs::Decoding::whole_site, crate::specs::Decoding::site_at))]
+    fn whole(alloc: Global, bytes: &[u8]) -> Result<Site, SiteBytesFault>
+        ensures whole { Gives (described) result (whole_site bytes.now) }
+    {
+        reading_laws();
+        let ((name, rounds), rest) = match head_at(alloc, bytes) {
+            Ok(read) => read,
+            Err(fault) => return Err(fault),
+        };
+        let (products, rest) = products_at(alloc, rest)?;
+        let (parties, rest) = parties_at(alloc, rest)?;
+        let (tanks, rest) = tanks_at(alloc, &products, rest)?;
+        let (lines, rest) = lines_at(alloc, &tanks, rest)?;
+        if !rest.is_empty() {
+            return Err(SiteBytesFault::BadSite);
+        }
+        Ok(Site {
+            name,
+            rounds,
+            products: Products::new(products),
+            parties: Parties::new(parties),
+            tanks: Tanks::new(tanks),
+            lines: Lines::new(lines),
+        })
+    }
+}

@@ -1,0 +1,8 @@
+use Rattle.std.proofs.Common.{take}
+use Rattle.std.specs.List.{flat_map}
+use Rattle.site_bytes.specs.Buffers.{IsPut}
+use Rattle.site_bytes.proofs.writing.encoded.put_each.Given as goal
+
+-- the items so far were put
+abbrev pub invariant-loop-item : goal.invariant-loop-item
+invariant-loop-item g l = IsPut l.fn.out l.out (flat_map g.T.Encoded.bytes (take l.item-index l.items))

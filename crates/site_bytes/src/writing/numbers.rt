@@ -1,0 +1,44 @@
+//! Numbers of lists: densities, temperatures and factors of a product, and the rows of a capacity table.
+
+ghost use Rattle.std.specs.Prelude.{pos};
+ghost use Rattle.std.specs.Int.{w16, w32};
+ghost use Rattle.site_bytes.specs.Encoding.{natural_bytes, signed_bytes};
+ghost use Rattle.strap_table.specs.Capacity.{IsVolume};
+
+use crate::writing::encoded::{Encoded, put};
+use farm_fixed::{Centi, Dens, Fac5};
+
+impl Encoded for Dens {
+    ghost bytes = { natural_bytes w16 };
+
+    fn put(&self, out: &mut Vec<u8>) {
+        put(out, &(self.get() as u16).to_be_bytes());
+    }
+}
+
+impl Encoded for Centi {
+    ghost bytes = { signed_bytes w16 };
+
+    fn put(&self, out: &mut Vec<u8>) {
+        put(out, &(self.get() as i16).to_be_bytes());
+    }
+}
+
+impl Encoded for Fac5 {
+    ghost bytes = { natural_bytes w32 };
+
+    fn put(&self, out: &mut Vec<u8>) {
+        put(out, &(self.get() as u32).to_be_bytes());
+    }
+}
+
+/// A row of a capacity table, in litres.
+impl Encoded for i64 {
+    ghost bytes = { natural_bytes w32 };
+
+    ghost fits = { IsVolume };
+
+    fn put(&self, out: &mut Vec<u8>) {
+        put(out, &(*self as u32).to_be_bytes());
+    }
+}

@@ -1,0 +1,9 @@
+pub mod Readers
+mod NumberReaders
+mod ListReaders
+mod HeadReaders
+mod ProductReaders
+mod TankReaders
+mod GaugeReaders
+mod Counted
+mod Grids

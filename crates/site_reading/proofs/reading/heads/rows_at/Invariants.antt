@@ -1,0 +1,11 @@
+use Rattle.std.proofs.Common.{◌≡◌, ◌-◌, length, take}
+use Rattle.site_reading.specs.Decoding.{counted_at, round_at}
+use Rattle.site_reading.proofs.Counted.{with_front}
+use Rattle.site_reading.proofs.reading.heads.rows_at.Given as goal
+
+-- the rows so far and those that follow are all of them
+abbrev pub invariant-loop-index : goal.invariant-loop-index
+invariant-loop-index l = record {
+  whole : with_front (take l.index l.rows) (counted_at round_at (12 - l.index) l.rest) ≡ counted_at round_at 12 l.bytes;
+  twelve : length l.rows ≡ 12;
+}

@@ -1,0 +1,4 @@
+pub mod Typed
+pub mod Decoding
+pub mod Readers
+pub mod Parts
