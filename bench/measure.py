@@ -79,3 +79,28 @@ LOG = f"{TOP}/crates/shared_log/out/shared_log"
 for callers, turns in ((1, 200_000), (4, 50_000)):
     words = [str(callers), str(turns), "500"]
     compare(f"200,000 turns of a microsecond, {callers} thread(s), a Mutex", [LOG, *words], [f"{WORK}/turns", *words], 9)
+
+
+def polls_a_second(words, polls):
+    """The most polls a second of some runs."""
+    assert answer(words).split() == [str(polls).encode()], "not every poll gave registers"
+    return 1000 * polls / least(words, 9)
+
+
+# libmodbus's own server, polled by us and by libmodbus's client, where there is libmodbus. The server ends by itself after two minutes.
+if os.path.exists(f"{WORK}/poll_client"):
+    POLLS, PORT = 20_000, str(20_000 + os.getpid() % 20_000)
+    server = subprocess.Popen([f"{WORK}/poll_server", PORT], stdout=subprocess.PIPE)
+    try:
+        assert server.stdout.readline() == b"ready\n", "the server has no port"
+        rates = [polls_a_second([program, PORT, str(POLLS)], POLLS) for program in (f"{TOP}/crates/poll_bench/out/poll_bench", f"{WORK}/poll_client")]
+        print(f"polls of a gauge on 127.0.0.1: {rates[0]:.0f} a second, libmodbus {rates[1]:.0f}, ratio {rates[0] / rates[1]:.2f}")
+    finally:
+        server.kill()
+
+# The bytes of a site with every list at its limit. What a run takes beside its loop, as reading the folder, is taken off.
+SITE = [f"{TOP}/crates/site_bench/out/site_bench", f"{WORK}/limits"]
+begun = {what: least([*SITE, what, "0"], 5) for what in ("copy", "write", "read")}
+spent = {what: (least([*SITE, what, "40"], 5) - begun[what]) / 40 for what in ("copy", "write", "read")}
+for what in ("write", "read"):
+    print(f"{what} the bytes of a site: {spent[what]:.2f} ms, copying them {spent['copy']:.2f} ms, ratio {spent[what] / spent['copy']:.2f}")

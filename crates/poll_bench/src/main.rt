@@ -1,0 +1,82 @@
+//! Polls a gauge of a device on 127.0.0.1 as often as it is asked to, with the words PORT POLLS, and prints how many polls gave a
+//! reading: what bench/ times beside libmodbus.
+#![tactic(auto)]
+
+use farm_base::NoMemory;
+use farm_ports::TcpLink;
+use modbus_poll::{Field, GaugeMap, Gauges, Host, LineMap, Polled, Poller};
+use std::alloc::Global;
+use std::net::Net;
+use std::rt::Env;
+use std::{env, io};
+
+/// It polls at most so often.
+const MOST_POLLS: u32 = 1_000_000;
+
+// A field of one register.
+fn register(offset: u8) -> Field {
+    Field {
+        offset,
+        words: 1,
+        swapped: false,
+        signed: false,
+        mul: 1,
+        div: 1,
+    }
+}
+
+// A line of one gauge with five input registers.
+fn line(alloc: Global, port: u16) -> Result<LineMap, NoMemory> {
+    let gauge = GaugeMap {
+        tank: 1,
+        unit: 1,
+        function: 4,
+        start: 0,
+        quantity: 5,
+        level: register(0),
+        temperature: register(1),
+        water: Some(register(2)),
+        ambient: Some(register(3)),
+        ambient_fixed: 1_500,
+        valid: None,
+        deadband_mm: 1,
+        deadband_centi: 5,
+    };
+    Ok(LineMap {
+        host: Host::new(b"127.0.0.1".to_vec(alloc)?),
+        port,
+        gauges: Gauges::new(vec![in alloc; gauge]?),
+    })
+}
+
+// How many polls gave a reading, up to the first that gave none.
+fn polled<R: Net>(rt: R, mut poller: Poller, polls: u32) -> u32 {
+    let mut link = TcpLink::new(rt);
+    for done in 0..polls {
+        if !matches!(poller.turn(&mut link), Polled::Value(..)) {
+            return done;
+        }
+    }
+    polls
+}
+
+// The numbers among the words after the program's name.
+fn numbers(rt: &(impl Env + AllocGlobal)) -> io::Result<Vec<u32>> {
+    let mut numbers = Vec::new(rt.alloc());
+    for word in env::args(rt)?.skip(1) {
+        if let Ok(number) = word.parse::<u32>() {
+            numbers.push(number)?;
+        }
+    }
+    Ok(numbers)
+}
+
+fn main(rt: HostRuntime) -> io::Result<()> {
+    let numbers = numbers(&rt)?;
+    let [port @ 1..=65_535, polls] = numbers.as_slice() else {
+        return println!(rt; "usage: poll_bench PORT POLLS");
+    };
+    let line = line(rt.alloc(), *port as u16)?;
+    let poller = Poller::new(rt.alloc(), line)?;
+    println!(rt; "{}", polled(&rt, poller, (*polls).min(MOST_POLLS)))
+}
