@@ -1,11 +1,10 @@
 -- The reader of sites: what is read is a site's bytes, and what is a site's bytes is read.
-use Rattle.std.proofs.Common.{◌≡◌, ℕ, ◌==◌, ◌<◌, Bool, true, false, cond, List, [], ◌∷◌, ◌++◌, length, Result, Ok, Err, refl, sym, ap, subst, ◌∙◌, append_assoc, append-nil, map}
+use Rattle.std.proofs.Common.{◌≡◌, ℕ, ◌==◌, cond, List, [], ◌∷◌, ◌++◌, length, Result, Ok, Err, refl, sym, ap, subst, ◌∙◌, append_assoc, append-nil, map}
 use Rattle.std.specs.Prelude.{MatchResult}
 use Rattle.std.specs.Int.{w16}
 use Rattle.std.specs.List.{flat_map}
 use Rattle.std.proofs.lemmas.Bool.{eqb-true}
 use Rattle.std.proofs.lemmas.List.{nil_from_length}
-use Rattle.farm_base.specs.Steps.{◌>>=◌}
 use Rattle.farm_rounding.specs.Table.{Row}
 use Rattle.modbus_poll.specs.declared.map.LineMap.{LineMap}
 use Rattle.site_reading.specs.declared.fault.SiteBytesFault.{SiteBytesFault}

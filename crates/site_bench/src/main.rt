@@ -5,8 +5,7 @@
 use farm_ports::DirFolder;
 use farm_site::Site;
 use std::alloc::Global;
-use std::io;
-use std::env;
+use std::{env, io};
 
 /// It copies, writes or reads at most so often.
 const MOST_TIMES: u32 = 1_000_000;
@@ -31,7 +30,7 @@ fn main(rt: HostRuntime) -> io::Result<()> {
         return println!(rt; "usage: site_bench DIR copy|write|read TIMES");
     };
     let times = times.parse::<u32>().unwrap_or(0).min(MOST_TIMES);
-    let mut folder = DirFolder::new(&rt, directory.clone());
+    let mut folder = DirFolder::new(&rt, directory.clone()?);
     let Ok(site) = Site::read(alloc, &mut folder) else {
         return println!(rt; "no site");
     };

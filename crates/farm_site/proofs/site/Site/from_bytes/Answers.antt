@@ -1,7 +1,6 @@
 use Rattle.std.proofs.Common.{arith}
 use Rattle.std.proofs.lemmas.Result.{IfOk-weaker}
 use Rattle.site_reading.specs.Readers.{IsBytes}
-use Rattle.farm_site.specs.Encoding.{IsSite, site_encoding}
 use Rattle.farm_site.specs.Sites.{described}
 use Rattle.farm_site.proofs.BytesRead.{PartsAreRead, found_site, one_encoding, only_site}
 use Rattle.farm_site.proofs.site.Site.from_bytes.Goals as goal
