@@ -15,6 +15,8 @@ mod calc;
 #[cfg(test)]
 mod day;
 #[cfg(test)]
+mod encoding;
+#[cfg(test)]
 mod running;
 #[cfg(test)]
 mod stocks;
