@@ -1,0 +1,100 @@
+-- What a write and a sync make of the bytes that a crash may leave.
+use Rattle.std.proofs.Common.{◌≡◌, ◌⊎◌, inl, inr, ⊎_elim, refl, ℕ, ◌+◌, ◌<◌, ◌≤◌, max, List, length, get_or, ◌∙◌, arith, rules, ◌∷◌}
+use Rattle.std.proofs.lemmas.Bool.{cases_lt}
+use Rattle.std.proofs.lemmas.List.{ext_get_or, places}
+use Rattle.farm_disk.specs.Images.{IsCrashImage, State, overlaid}
+use Rattle.farm_disk.specs.Laws.{BegunKeepsImages, BegunReaches, WrittenOver, SyncedIsImage, SyncedIsOne, WrittenIsImage, WrittenReaches}
+
+-- a position that is in no range from `at` on is before it or past it
+beside_range : (at size i : ℕ) → ((at ≤ i) × (i < at + size) → ⊥) → (i < at) ⊎ (at + size ≤ i)
+beside_range at size i beside =
+    ⊎_elim inl (λ from. inr (⊎_elim (λ within. absurd (beside (from, within))) (λ past. past) (cases_lt i (at + size)))) (cases_lt i at)
+
+-- what lies over others reaches as far as both
+pub length-overlaid : (filler at : ℕ) (bytes old : List ℕ) → length (overlaid filler at bytes old) ≡ max (length old) (at + length bytes)
+unfolding overlaid
+length-overlaid filler at bytes old = search (rules, places)
+
+-- before the offset the others stand as they were
+pub overlaid_before : (filler at : ℕ) (bytes old : List ℕ) (i : ℕ) → i < length old → i < at →
+    get_or (overlaid filler at bytes old) i 0 ≡ get_or old i 0
+unfolding overlaid
+overlaid_before filler at bytes old i within before = search (rules, places)
+
+-- past the last of the bytes the others stand as they were
+pub overlaid_after : (filler at : ℕ) (bytes old : List ℕ) (i : ℕ) → at + length bytes ≤ i →
+    get_or (overlaid filler at bytes old) i 0 ≡ get_or old i 0
+unfolding overlaid
+overlaid_after filler at bytes old i after = search (rules, places)
+
+-- the bytes stand from the offset on
+pub overlaid_here : (filler at : ℕ) (bytes old : List ℕ) (i : ℕ) → i < length bytes →
+    get_or (overlaid filler at bytes old) (at + i) 0 ≡ get_or bytes i 0
+unfolding overlaid
+overlaid_here filler at bytes old i within = search (rules, places)
+
+-- between the end of the others and the offset stands the filler
+pub overlaid_gap : (filler at : ℕ) (bytes old : List ℕ) (i : ℕ) → length old ≤ i → i < at →
+    get_or (overlaid filler at bytes old) i 0 ≡ filler
+unfolding overlaid
+overlaid_gap filler at bytes old i past before = search (rules, places)
+
+-- beside the bytes the others stand as they were
+pub overlaid_beside : (filler at : ℕ) (bytes old : List ℕ) (i : ℕ) → i < length old →
+    ((at ≤ i) × (i < at + length bytes) → ⊥) → get_or (overlaid filler at bytes old) i 0 ≡ get_or old i 0
+overlaid_beside filler at bytes old i within beside =
+    ⊎_elim (overlaid_before filler at bytes old i within) (overlaid_after filler at bytes old i)
+    (beside_range at (length bytes) i beside)
+
+-- after a good sync a crash leaves what reads give
+pub synced_is_one : SyncedIsOne
+synced_is_one state image is =
+    ext_get_or 0 image state.seen (omega (arith, is.least, is.most))
+    (λ i within. is.kept i (omega (arith, is.most)) (λ never. never))
+
+-- and a crash may leave it
+pub synced_is_image : SyncedIsImage
+synced_is_image state = record { least = omega arith; most = omega arith; kept = λ i within free. refl }
+
+-- one range more reaches no less far
+pub begun_keeps_images : BegunKeepsImages
+begun_keeps_images state at bytes image is = record {
+  least = is.least;
+  most = omega (arith, is.most);
+  kept = λ i within free. is.kept i within (λ before. free (inr before));
+}
+
+-- bytes over an image from before, of as many as a write that has begun since, are an image
+pub overlaid_is_image : (filler at size : ℕ) (bytes : List ℕ) (state : State) (image : List ℕ) → length bytes ≡ size →
+    IsCrashImage state image →
+    IsCrashImage (record state { ranges = record { at = at; size = size } ∷ state.ranges }) (overlaid filler at bytes image)
+overlaid_is_image filler at size bytes state image whole is = record {
+  least = omega (arith, is.least, length-overlaid filler at bytes image);
+  most = omega (arith, is.most, length-overlaid filler at bytes image);
+  kept = λ i within free.
+      let same : get_or (overlaid filler at bytes image) i 0 ≡ get_or image i 0 =
+      overlaid_beside filler at bytes image i (omega (arith, is.least))
+      (λ here. free (inl (here.0, omega (arith, here.1)))) in
+      same ∙ is.kept i within (λ before. free (inr before));
+}
+
+-- what a write makes of an image from before it is an image once it has begun
+pub written_is_image : WrittenIsImage
+written_is_image state at bytes image is = overlaid_is_image 0 at (length bytes) bytes state image refl is
+
+-- a write reaches as far as what there was and its own end
+pub written_reaches : WrittenReaches
+written_reaches at bytes old = length-overlaid 0 at bytes old
+
+-- what a write makes of the bytes, position by position
+pub written_over : WrittenOver
+written_over at bytes old = record {
+  here = overlaid_here 0 at bytes old;
+  before = overlaid_before 0 at bytes old;
+  after = overlaid_after 0 at bytes old;
+  gap = overlaid_gap 0 at bytes old;
+}
+
+-- a write that begins may reach as far as the writes before it and its own end
+pub begun_reaches : BegunReaches
+begun_reaches state at bytes = refl

@@ -1,0 +1,6 @@
+pub mod Images
+pub mod States
+pub mod Replay
+pub mod MemoryCalls
+pub mod Overlays
+pub mod Rebuilt

@@ -1,0 +1,5 @@
+pub mod Images
+pub mod Calls
+pub mod Laws
+pub mod Memory
+pub mod Rebuilt

@@ -1,0 +1,103 @@
+//! What a disk in memory keeps: the bytes at the start, its writes and syncs since, and what reads give.
+
+ghost use Rattle.std.specs.Prelude.{◌≡◌, ◌+◌, ◌*◌, ◌++◌, [], ◌∷◌, IfOk, OnErr, OnOk, length};
+ghost use Rattle.farm_disk.specs.Memory.{seen_of};
+ghost use Rattle.farm_disk.specs.Rebuilt.{found_at, rebuilt};
+
+use crate::overlay::overlay;
+use crate::rebuilding::image_at;
+use crate::{DiskCall, Fill};
+use farm_base::NoMemory;
+use farm_ports::Bytes;
+use std::alloc::Global;
+use std::marker::Model;
+
+/// The bytes at the start, the writes and syncs in their order, and the bytes that reads give.
+#[derive(Drop)]
+pub struct KeptDisk {
+    start: Vec<u8>,
+    calls: Vec<DiskCall>,
+    seen: Vec<u8>,
+}
+
+impl Model for KeptDisk {
+    ghost use Rattle.std.specs.Prelude.{◌≡◌};
+    ghost use Rattle.farm_disk.specs.Memory.{KeptDisk as Kept, seen_of};
+
+    ghost Value = { Kept };
+
+    ghost view = { λ disk. record { start = disk.start.items; calls = disk.calls.items } };
+
+    ghost invariant = { λ disk. disk.seen.items ≡ seen_of disk.start.items disk.calls.items };
+}
+
+impl KeptDisk {
+    /// A disk with these bytes, all of them synced.
+    #[tactic(auto, unfolding(crate::specs::Memory::seen_of))]
+    pub fn new(alloc: Global, bytes: Vec<u8>) -> Result<Self, NoMemory>
+        ensures start { IfOk result (λ disk. disk.start ≡ bytes.items) }
+        ensures calls { IfOk result (λ disk. disk.calls ≡ []) }
+    {
+        Ok(KeptDisk {
+            start: bytes.to_vec(alloc)?,
+            calls: Vec::new(alloc),
+            seen: bytes,
+        })
+    }
+
+    /// The bytes that reads give.
+    pub fn seen(&self) -> &[u8]
+        ensures { result.now ≡ seen_of self.now.start self.now.calls }
+    {
+        &self.seen
+    }
+
+    /// Keeps a write, and lets reads give what it wrote where it is done. Changes nothing where there is no memory.
+    pub fn write(
+        &mut self,
+        alloc: Global,
+        at: u64,
+        bytes: &[u8],
+        done: bool,
+    ) -> Result<(), NoMemory>
+        ensures kept { OnOk result (self.new.calls ≡ self.old.calls ++ DiskCall.Write at bytes.now done ∷ []) }
+        ensures start { self.new.start ≡ self.old.start }
+        ensures stays { OnErr result (self.new.calls ≡ self.old.calls) }
+    {
+        let copy = Bytes::new(bytes.to_vec(alloc)?);
+        self.calls.reserve(1)?;
+        if done {
+            overlay(&mut self.seen, at, bytes, 0)?;
+        }
+        let call = DiskCall::Write {
+            at,
+            bytes: copy,
+            done,
+        };
+        Ok(self.calls.push(call)?)
+    }
+
+    /// Keeps a sync. Changes nothing where there is no memory.
+    #[tactic(auto, using(crate::proofs::Replay::seen_of_sync))]
+    pub fn sync(&mut self, done: bool) -> Result<(), NoMemory>
+        ensures kept { OnOk result (self.new.calls ≡ self.old.calls ++ DiskCall.Sync done ∷ []) }
+        ensures start { self.new.start ≡ self.old.start }
+        ensures stays { OnErr result (self.new.calls ≡ self.old.calls) }
+    {
+        Ok(self.calls.push(DiskCall::Sync { done })?)
+    }
+
+    /// What a crash at a moment leaves by a fill.
+    pub fn image(&self, alloc: Global, moment: u64, fill: Fill) -> Result<Vec<u8>, NoMemory>
+        ensures { IfOk result (λ image. image.items ≡ rebuilt fill self.now.start self.now.start (found_at self.now.calls moment)) }
+    {
+        image_at(alloc, &self.start, &self.calls, moment, fill)
+    }
+
+    /// The present moment: each write or sync took two.
+    pub fn moment(&self) -> u64
+        ensures { result ≡ 2 * length self.now.calls }
+    {
+        2 * self.calls.len() as u64
+    }
+}
