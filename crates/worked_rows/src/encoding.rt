@@ -48,16 +48,23 @@ fn bytes_of_the_row_site_are_neither_missing_nor_too_many(rt: HostRuntime) -> Re
     Ok(())
 }
 
+// Puts another byte at an offset.
+fn put(bytes: &mut [u8], offset: usize, byte: u8) {
+    if let Some(place) = bytes.get_mut(offset) {
+        *place = byte;
+    }
+}
+
 #[test]
 fn another_format_and_tanks_in_falling_order_are_no_site(rt: HostRuntime) -> Result<(), Fail> {
     let alloc = rt.alloc();
     let mut bytes = row_bytes(alloc)?;
-    bytes[0] = 2;
+    put(&mut bytes, 0, 2);
     assert!(rt; is_bad(alloc, &bytes), "format 2");
-    bytes[0] = 1;
+    put(&mut bytes, 0, 1);
     assert!(rt; !is_bad(alloc, &bytes), "format 1");
-    bytes[FIRST + 1] = 102;
-    bytes[SECOND + 1] = 101;
+    put(&mut bytes, FIRST + 1, 102);
+    put(&mut bytes, SECOND + 1, 101);
     assert!(rt; is_bad(alloc, &bytes), "tank 102 before tank 101");
     Ok(())
 }
