@@ -11,7 +11,7 @@ use Rattle.farm_disk.specs.declared.disk_call.DiskCall.{DiskCall}
 use Rattle.farm_disk.specs.declared.disk_call.DiskCall.TheVariants.{Write, Sync}
 use Rattle.farm_disk.specs.declared.fill.Fill.{Fill}
 use Rattle.farm_disk.specs.declared.fill.Fill.TheVariants.{Old, New, Byte}
-use Rattle.farm_disk.proofs.Images.{begun_keeps_images, length-overlaid, overlaid_after, overlaid_before, overlaid_beside, overlaid_gap, overlaid_here, overlaid_is_image, synced_is_image, written_is_image}
+use Rattle.farm_disk.proofs.Images.{begun_keeps_images, begun_seen, length-overlaid, overlaid_after, overlaid_before, overlaid_beside, overlaid_gap, overlaid_here, overlaid_is_image, synced_is_image, written_is_image}
 
 -- at the first moment no call has begun
 found_none : (calls : List DiskCall) → found_at calls 0 ≡ []
@@ -57,11 +57,13 @@ found_state state (call ∷ calls) (suc (suc moment)) within = found_state (call
 -- what a fill leaves where a write has begun is among what a crash may leave then
 filled_is_image : (fill : Fill) (at : ℕ) (bytes : List ℕ) (state : State) (image : List ℕ) → IsCrashImage state image →
     IsCrashImage (begun at bytes state) (filled fill at bytes image)
+unfolding overlaid
 filled_is_image Old at bytes state image is = begun_keeps_images state at bytes image is
 filled_is_image New at bytes state image is = written_is_image state at bytes image is
-filled_is_image (Byte value) at bytes state image is =
-    overlaid_is_image value at (length bytes) (replicate (length bytes) value) state image
-    (length-replicate (length bytes) value) is
+filled_is_image (Byte value) at [] state image is = is
+filled_is_image (Byte value) at (byte ∷ bytes) state image is =
+    let size = length (byte ∷ bytes) in
+    overlaid_is_image value at size (replicate size value) state image (omega arith) (length-replicate size value) is
 
 -- what is rebuilt is among what a crash may leave after the calls
 rebuilt_is_image : (fill : Fill) (state : State) (image : List ℕ) (calls : List DiskCall) → IsCrashImage state image →
@@ -72,7 +74,9 @@ rebuilt_is_image fill state image (Write at bytes true ∷ calls) is =
     rebuilt_is_image fill (written at bytes state) (filled fill at bytes image) calls
     (record { least = now.least; most = now.most; kept = now.kept })
 rebuilt_is_image fill state image (Write at bytes false ∷ calls) is =
-    rebuilt_is_image fill (begun at bytes state) (filled fill at bytes image) calls (filled_is_image fill at bytes state image is)
+    subst (λ seen. IsCrashImage (state_after (begun at bytes state) calls) (rebuilt fill seen (filled fill at bytes image) calls))
+    (begun_seen at bytes state)
+    (rebuilt_is_image fill (begun at bytes state) (filled fill at bytes image) calls (filled_is_image fill at bytes state image is))
 rebuilt_is_image fill state image (Sync true ∷ calls) is =
     rebuilt_is_image fill (synced state) state.seen calls (synced_is_image state)
 rebuilt_is_image fill state image (Sync false ∷ calls) is = rebuilt_is_image fill state image calls is
@@ -80,8 +84,10 @@ rebuilt_is_image fill state image (Sync false ∷ calls) is = rebuilt_is_image f
 -- the old bytes are the base
 rebuilt_old : (state : State) (calls : List DiskCall) → rebuilt Old state.seen state.base calls ≡ (state_after state calls).base
 rebuilt_old state [] = refl
-rebuilt_old state (Write at bytes true ∷ calls) = rebuilt_old (written at bytes state) calls
-rebuilt_old state (Write at bytes false ∷ calls) = rebuilt_old (begun at bytes state) calls
+rebuilt_old state (Write at [] true ∷ calls) = rebuilt_old (written at [] state) calls
+rebuilt_old state (Write at (byte ∷ bytes) true ∷ calls) = rebuilt_old (written at (byte ∷ bytes) state) calls
+rebuilt_old state (Write at [] false ∷ calls) = rebuilt_old state calls
+rebuilt_old state (Write at (byte ∷ bytes) false ∷ calls) = rebuilt_old (begun at (byte ∷ bytes) state) calls
 rebuilt_old state (Sync true ∷ calls) = rebuilt_old (synced state) calls
 rebuilt_old state (Sync false ∷ calls) = rebuilt_old state calls
 
@@ -92,11 +98,12 @@ rebuilt_new (Write at bytes done ∷ calls) seen image = rebuilt_new calls _ _
 rebuilt_new (Sync done ∷ calls) seen image = rebuilt_new calls _ _
 
 -- before a write that has begun, the image has the value wherever a crash may leave any byte
-covered_before : (value at : ℕ) (bytes : List ℕ) (state : State) (image : List ℕ) (i : ℕ) → IsCoveredBy value state image → i < at →
-    (length state.base ≤ i) ⊎ IsWritten state.ranges i → get_or (overlaid value at bytes image) i 0 ≡ value
-covered_before value at bytes state image i is before free =
+covered_before : (value at : ℕ) (bytes : List ℕ) (state : State) (image : List ℕ) (i : ℕ) → 0 < length bytes →
+    IsCoveredBy value state image → i < at → (length state.base ≤ i) ⊎ IsWritten state.ranges i →
+    get_or (overlaid value at bytes image) i 0 ≡ value
+covered_before value at bytes state image i some is before free =
     ⊎_elim (λ within. overlaid_before value at bytes image i within before ∙ is.covered i within free)
-    (λ past. overlaid_gap value at bytes image i past before) (cases_lt i (length image))
+    (λ past. overlaid_gap value at bytes image i some past before) (cases_lt i (length image))
 
 -- so it has where the write goes
 covered_here : (value at size : ℕ) (image : List ℕ) (i : ℕ) → at ≤ i → i < at + size →
@@ -131,11 +138,14 @@ reach_least least (range ∷ ranges) = omega (arith, reach_least least ranges)
 -- one value wherever a crash may leave any byte, once a write has begun
 covered_more : (value at : ℕ) (bytes : List ℕ) (state : State) (image : List ℕ) → IsCoveredBy value state image →
     IsCoveredBy value (begun at bytes state) (overlaid value at (replicate (length bytes) value) image)
-covered_more value at bytes state image is =
-    let size = length bytes in
+unfolding overlaid
+covered_more value at [] state image is = is
+covered_more value at (byte ∷ bytes) state image is =
+    let size = length (byte ∷ bytes) in
     let cover = replicate size value in
+    let some : 0 < length cover = omega (arith, length-replicate size value) in
     let reached : length (overlaid value at cover image) ≡ max (length image) (at + size) =
-    length-overlaid value at cover image ∙ ap (λ size. max (length image) (at + size)) (length-replicate size value) in
+    length-overlaid value at cover image some ∙ ap (λ size. max (length image) (at + size)) (length-replicate size value) in
     record {
       size = omega (arith, reached, is.size);
       kept = λ i within free.
@@ -143,7 +153,7 @@ covered_more value at bytes state image is =
           (λ here. free (inl (here.0, omega (arith, here.1, length-replicate size value))))
           ∙ is.kept i within (λ before. free (inr before));
       covered = λ i within free.
-          ⊎_elim (λ before. covered_before value at cover state image i is before (free_before at size state i before free))
+          ⊎_elim (λ before. covered_before value at cover state image i some is before (free_before at size state i before free))
           (λ from. ⊎_elim (λ here. covered_here value at size image i from here)
           (λ after. overlaid_after value at cover image i (omega (arith, length-replicate size value))
           ∙ is.covered i (omega (arith, reached)) (free_after at size state i after free)) (cases_lt i (at + size)))
@@ -166,7 +176,10 @@ rebuilt_byte value state image (Write at bytes true ∷ calls) is =
     let now = covered_more value at bytes state image is in
     rebuilt_byte value (written at bytes state) _ calls (record { size = now.size; kept = now.kept; covered = now.covered })
 rebuilt_byte value state image (Write at bytes false ∷ calls) is =
-    rebuilt_byte value (begun at bytes state) _ calls (covered_more value at bytes state image is)
+    let now = overlaid value at (replicate (length bytes) value) image in
+    subst (λ seen. IsCoveredBy value (state_after (begun at bytes state) calls) (rebuilt (Byte value) seen now calls))
+    (begun_seen at bytes state)
+    (rebuilt_byte value (begun at bytes state) now calls (covered_more value at bytes state image is))
 rebuilt_byte value state image (Sync true ∷ calls) is = rebuilt_byte value (synced state) state.seen calls (covered_synced value state)
 rebuilt_byte value state image (Sync false ∷ calls) is = rebuilt_byte value state image calls is
 

@@ -1,10 +1,10 @@
 -- The states of a disk in memory follow from the bytes at the start, one call after another.
 use Rattle.std.proofs.Common.{◌≡◌, ℕ, ◌+◌, ◌*◌, ◌<◌, Bool, true, false, List, [], ◌∷◌, ◌++◌, length, sym, ap, ◌∙◌, refl, subst, arith}
-use Rattle.farm_disk.specs.Images.{IsCrashImage, State, at_rest, present, written_at}
+use Rattle.farm_disk.specs.Images.{IsCrashImage, State, at_rest, begun, present, written_at}
 use Rattle.farm_disk.specs.Memory.{call_begun, call_over, seen_of, state_after, states_of, states_through}
 use Rattle.farm_disk.specs.declared.disk_call.DiskCall.{DiskCall}
 use Rattle.farm_disk.specs.declared.disk_call.DiskCall.TheVariants.{Write, Sync}
-use Rattle.farm_disk.proofs.Images.{begun_keeps_images, synced_is_image, written_is_image}
+use Rattle.farm_disk.proofs.Images.{begun_keeps_images, begun_seen, synced_is_image, written_is_image}
 use Rattle.farm_disk.proofs.States.{present_after}
 
 -- each call takes two moments
@@ -43,7 +43,9 @@ over_is_image : (state : State) (call : DiskCall) → IsCrashImage state state.s
 over_is_image state (Write at bytes true) is =
     let image = written_is_image state at bytes state.seen is in
     record { least = image.least; most = image.most; kept = image.kept }
-over_is_image state (Write at bytes false) is = begun_keeps_images state at bytes state.seen is
+over_is_image state (Write at bytes false) is =
+    subst (λ seen. IsCrashImage (begun at bytes state) seen) (sym (begun_seen at bytes state))
+    (begun_keeps_images state at bytes state.seen is)
 over_is_image state (Sync true) is = synced_is_image state
 over_is_image state (Sync false) is = is
 
@@ -95,7 +97,9 @@ seen_of_write start calls at bytes = ap (λ state. state.seen) (state_after_more
 pub seen_of_failed : (start : List ℕ) (calls : List DiskCall) (at : ℕ) (bytes : List ℕ) →
     seen_of start (calls ++ Write at bytes false ∷ []) ≡ seen_of start calls
 unfolding seen_of
-seen_of_failed start calls at bytes = ap (λ state. state.seen) (state_after_more (at_rest start) calls (Write at bytes false))
+seen_of_failed start calls at bytes =
+    ap (λ state. state.seen) (state_after_more (at_rest start) calls (Write at bytes false))
+    ∙ begun_seen at bytes (state_after (at_rest start) calls)
 
 -- a sync leaves what reads give
 pub seen_of_sync : (start : List ℕ) (calls : List DiskCall) (done : Bool) →

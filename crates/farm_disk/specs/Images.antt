@@ -36,9 +36,12 @@ pub record IsCrashImage (state : State) (image : List ℕ) : Type 0 where
   pub kept : (position : ℕ) → position < length state.base → (IsWritten state.ranges position → ⊥) →
       slice_index image position ≡ slice_index state.base position
 
--- these bytes over others at an offset, with one value at each position between the end of the others and the offset
+-- These bytes over others at an offset, with one value at each position between the end of the others and the offset. No byte
+-- changes nothing.
 unfoldable pub overlaid : ℕ → ℕ → List ℕ → List ℕ → List ℕ
-overlaid filler at bytes old = take at (old ++ replicate at filler) ++ bytes ++ drop (at + length bytes) old
+overlaid filler at [] old = old
+overlaid filler at (byte ∷ bytes) old =
+    take at (old ++ replicate at filler) ++ (byte ∷ bytes) ++ drop (at + length (byte ∷ bytes)) old
 
 -- these bytes written over others at an offset, with zeros where the others are shorter than the offset
 abbrev pub written_at : ℕ → List ℕ → List ℕ → List ℕ
@@ -48,9 +51,10 @@ written_at at bytes old = overlaid 0 at bytes old
 abbrev pub at_rest : List ℕ → State
 at_rest bytes = record { seen = bytes; base = bytes; ranges = [] }
 
--- a write of these bytes at an offset has begun, and reads give what they gave before
+-- A write of these bytes at an offset has begun, and reads give what they gave before. One without a byte begins no range.
 abbrev pub begun : ℕ → List ℕ → State → State
-begun at bytes state = record state { ranges = record { at = at; size = length bytes } ∷ state.ranges }
+begun at [] state = state
+begun at (byte ∷ bytes) state = record state { ranges = record { at = at; size = length (byte ∷ bytes) } ∷ state.ranges }
 
 -- such a write has succeeded, and reads give what it wrote
 abbrev pub written : ℕ → List ℕ → State → State

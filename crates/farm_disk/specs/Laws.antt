@@ -2,7 +2,7 @@
 use Rattle.std.specs.Prelude.{◌≡◌, ℕ, ◌+◌, ◌<◌, ◌≤◌, max, List, [], ◌∷◌, ◌++◌, length, slice_index, Option}
 use Rattle.farm_base.specs.Known.{WhereKnown}
 use Rattle.farm_disk.specs.Calls.{AddsTwo}
-use Rattle.farm_disk.specs.Images.{IsCrashImage, State, begun, present, reach, state_at, synced, unchanged, written_at}
+use Rattle.farm_disk.specs.Images.{IsCrashImage, State, begun, present, reach, state_at, synced, unchanged, written, written_at}
 
 -- after a good sync a crash leaves what reads give, and nothing else
 abbrev pub SyncedIsOne : Type 0
@@ -26,16 +26,22 @@ abbrev pub WrittenIsImage : Type 0
 WrittenIsImage = (state : State) (at : ℕ) (bytes image : List ℕ) → IsCrashImage state image →
     IsCrashImage (begun at bytes state) (written_at at bytes image)
 
--- a write that begins may reach as far as the writes before it and its own end
-abbrev pub BegunReaches : Type 0
-BegunReaches = (state : State) (at : ℕ) (bytes : List ℕ) → reach (begun at bytes state) ≡ max (at + length bytes) (reach state)
+-- a write without a byte changes nothing, neither once it has begun nor once it is over
+abbrev pub EmptyWriteChangesNothing : Type 0
+EmptyWriteChangesNothing = (state : State) (at : ℕ) → (begun at [] state ≡ state) × (written at [] state ≡ state)
 
--- after a write there are as many bytes as before, or as many as it reaches
+-- a write of at least one byte that begins may reach as far as the writes before it and its own end
+abbrev pub BegunReaches : Type 0
+BegunReaches = (state : State) (at : ℕ) (bytes : List ℕ) → 0 < length bytes →
+    reach (begun at bytes state) ≡ max (at + length bytes) (reach state)
+
+-- after a write of at least one byte there are as many bytes as before, or as many as it reaches
 abbrev pub WrittenReaches : Type 0
-WrittenReaches = (at : ℕ) (bytes old : List ℕ) → length (written_at at bytes old) ≡ max (length old) (at + length bytes)
+WrittenReaches = (at : ℕ) (bytes old : List ℕ) → 0 < length bytes →
+    length (written_at at bytes old) ≡ max (length old) (at + length bytes)
 
 -- A write puts its bytes from its offset on. Before it and past it the bytes are those that were there, and between the end
--- of those and the offset they are zeros.
+-- of those and the offset they are zeros. A write without a byte leaves no byte there, and a list has 0 past its end.
 pub record IsWrittenOver (at : ℕ) (bytes old new : List ℕ) : Type 0 where
   pub here : (position : ℕ) → position < length bytes → slice_index new (at + position) ≡ slice_index bytes position
   pub before : (position : ℕ) → position < length old → position < at → slice_index new position ≡ slice_index old position

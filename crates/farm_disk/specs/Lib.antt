@@ -3,3 +3,5 @@ pub mod Calls
 pub mod Laws
 pub mod Memory
 pub mod Rebuilt
+pub mod Files
+pub mod Runs

@@ -5,7 +5,7 @@ ghost use Rattle.farm_base.specs.Counts.{HasCause};
 ghost use Rattle.farm_base.specs.Known.{WhereKnown};
 ghost use Rattle.farm_disk.specs.Calls.{Measures, Passes, Reads, Syncs, Writes};
 ghost use Rattle.farm_disk.specs.Images.{IsCrashImage, State, present};
-ghost use Rattle.farm_disk.specs.Laws.{AddedIsPresent, BegunKeepsImages, BegunReaches, PastStays, SyncLeavesOne, SyncedIsImage, SyncedIsOne, WrittenIsImage, WrittenOver, WrittenReaches};
+ghost use Rattle.farm_disk.specs.Laws.{AddedIsPresent, BegunKeepsImages, BegunReaches, EmptyWriteChangesNothing, PastStays, SyncLeavesOne, SyncedIsImage, SyncedIsOne, WrittenIsImage, WrittenOver, WrittenReaches};
 
 use farm_ports::Failed;
 
@@ -43,7 +43,8 @@ pub trait Disk {
         ensures cause { HasCause (Self.faults self.old) (Self.faults self.new) result }
         ensures quiet { OnOk result (Self.faults self.new ≡ Self.faults self.old) };
 
-    /// Writes all of `bytes` at an offset, over what is there and past the end, with zeros up to an offset past the end.
+    /// Writes all of `bytes` at an offset, over what is there and past the end, with zeros up to an offset past the end. A write
+    /// without a byte takes its two moments and changes nothing.
     ///
     /// Before the next sync that succeeds, a crash may leave any bytes in the place of these, also after an error.
     fn write_at(&mut self, at: u64, bytes: &[u8]) -> Result<(), Failed>
@@ -74,6 +75,7 @@ pub fn disk_laws()
     ensures synced_is_image { SyncedIsImage }
     ensures begun_keeps_images { BegunKeepsImages }
     ensures written_is_image { WrittenIsImage }
+    ensures empty_write { EmptyWriteChangesNothing }
     ensures begun_reaches { BegunReaches }
     ensures written_reaches { WrittenReaches }
     ensures written_over { WrittenOver }

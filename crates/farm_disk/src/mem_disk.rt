@@ -9,12 +9,11 @@ ghost use Rattle.farm_disk.specs.Memory.{Keeps, seen_of, states_of};
 ghost use Rattle.farm_disk.specs.Rebuilt.{IsFilled};
 ghost use Rattle.farm_ports.specs.Objects.{CountsCall, FailsNext};
 
-use crate::call_count::CallCount;
 use crate::kept_disk::KeptDisk;
 use crate::overlay::copy_at;
 use crate::{Disk, DiskCall, Fill, Stand};
 use farm_base::NoMemory;
-use farm_ports::Failed;
+use farm_ports::{Failed, FailingCalls};
 use std::alloc::Global;
 use std::marker::Model;
 
@@ -26,7 +25,7 @@ use std::marker::Model;
 pub struct MemDisk {
     alloc: Global,
     kept: KeptDisk,
-    counted: CallCount,
+    counted: FailingCalls,
 }
 
 impl Model for MemDisk {
@@ -53,7 +52,7 @@ impl MemDisk {
         Ok(MemDisk {
             alloc,
             kept: KeptDisk::new(alloc, bytes)?,
-            counted: CallCount::new(fails),
+            counted: FailingCalls::new(fails),
         })
     }
 
@@ -87,7 +86,7 @@ impl Disk for MemDisk {
         ensures start { self.new.start ≡ self.old.start }
         ensures calls { self.new.calls ≡ self.old.calls }
     {
-        self.counted.next()?;
+        self.counted.begin()?;
         Ok(self.kept.seen().len() as u64)
     }
 
@@ -104,7 +103,7 @@ impl Disk for MemDisk {
         ensures start { self.new.start ≡ self.old.start }
         ensures calls { self.new.calls ≡ self.old.calls }
     {
-        self.counted.next()?;
+        self.counted.begin()?;
         Ok(copy_at(self.kept.seen(), at, into))
     }
 
@@ -121,7 +120,7 @@ impl Disk for MemDisk {
         ensures unlisted { IsErr result → (FailsNext self.old.counted → ⊥) → self.new.calls ≡ self.old.calls }
         ensures start { self.new.start ≡ self.old.start }
     {
-        let answer = self.counted.next();
+        let answer = self.counted.begin();
         let kept = self.kept.write(self.alloc, at, bytes, answer.is_ok());
         if kept.is_ok() {
             return answer;
@@ -143,7 +142,7 @@ impl Disk for MemDisk {
         ensures unlisted { IsErr result → (FailsNext self.old.counted → ⊥) → self.new.calls ≡ self.old.calls }
         ensures start { self.new.start ≡ self.old.start }
     {
-        let answer = self.counted.next();
+        let answer = self.counted.begin();
         let kept = self.kept.sync(answer.is_ok());
         if kept.is_ok() {
             return answer;

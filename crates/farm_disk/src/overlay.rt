@@ -24,13 +24,16 @@ fn put(file: &mut [u8], from: usize, bytes: &[u8])
     file[from..from + bytes.len()].copy_from_slice(bytes);
 }
 
-/// Puts bytes over those of a file at an offset, and `filler` between its end and an offset past it.
+/// Puts bytes over those of a file at an offset, and `filler` between its end and an offset past it. No byte changes nothing.
 ///
 /// Where there is no memory the file stays as it was.
 pub fn overlay(file: &mut Vec<u8>, at: u64, bytes: &[u8], filler: u8) -> Result<(), NoMemory>
     ensures over { OnOk result (file.new.items ≡ overlaid filler at bytes.now file.old.items) }
     ensures stays { OnErr result (file.new.items ≡ file.old.items) }
 {
+    if bytes.is_empty() {
+        return Ok(());
+    }
     let from = at as usize;
     let end = from.checked_add(bytes.len()).ok_or(NoMemory)?;
     lengthen(file, end, filler)?;

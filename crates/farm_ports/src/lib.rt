@@ -27,6 +27,7 @@ mod wire;
 pub use clock::{Clock, Fixed};
 pub use copying::{put_all, read_up_to};
 pub use dir_folder::DirFolder;
+pub use failing_calls::FailingCalls;
 pub use fault::PortFault;
 pub use files::Files;
 pub use folder::{Folder, FolderFault};
@@ -38,6 +39,3 @@ pub use script::Script;
 pub use system_clock::SystemClock;
 pub use tcp_link::TcpLink;
 pub use wire::Wire;
-
-#[cfg(test)]
-mod tests;

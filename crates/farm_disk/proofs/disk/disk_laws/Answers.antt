@@ -1,4 +1,4 @@
-use Rattle.farm_disk.proofs.Images.{begun_keeps_images, begun_reaches, synced_is_image, synced_is_one, written_is_image, written_over, written_reaches}
+use Rattle.farm_disk.proofs.Images.{begun_keeps_images, begun_reaches, empty_write_changes_nothing, synced_is_image, synced_is_one, written_is_image, written_over, written_reaches}
 use Rattle.farm_disk.proofs.States.{added_is_present, past_stays, sync_leaves_one}
 use Rattle.farm_disk.proofs.disk.disk_laws.Goals as goal
 
@@ -16,6 +16,9 @@ returns-clause-written_is_image c = written_is_image
 
 pub returns-clause-written_reaches : goal.returns-clause-written_reaches
 returns-clause-written_reaches c = written_reaches
+
+pub returns-clause-empty_write : goal.returns-clause-empty_write
+returns-clause-empty_write c = empty_write_changes_nothing
 
 pub returns-clause-begun_reaches : goal.returns-clause-begun_reaches
 returns-clause-begun_reaches c = begun_reaches

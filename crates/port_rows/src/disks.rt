@@ -1,17 +1,16 @@
+//! A disk in memory: what a crash at each moment leaves, and which calls fail.
+
 ghost use Rattle.std.specs.Prelude.{◌≡◌, ℕ, List, OnOk};
 ghost use Rattle.farm_base.specs.Known.{WhereKnown};
 ghost use Rattle.farm_disk.specs.Images.{IsCrashImage, present};
 
-use super::*;
+use crate::sharing::shared;
 use farm_base::NoMemory;
+use farm_disk::{Disk, Fill, MemDisk, Stand, disk_laws};
 use farm_ports::Failed;
 use std::alloc::Global;
 use std::process::Abort;
 use std::test::Fail;
-
-fn shared<T: Send + Sync>(value: T) -> T {
-    value
-}
 
 // A disk with "abcd" and these calls that fail.
 fn four_bytes(alloc: Global, fails: &[u64]) -> Result<MemDisk, NoMemory> {
@@ -43,11 +42,11 @@ fn assert_images(
 }
 
 /// Writes bytes and syncs them.
-#[tactic(auto, using(crate::proofs::States::sync_leaves_one))]
 fn keep<D: Disk>(disk: &mut D, at: u64, bytes: &[u8]) -> Result<(), Failed>
     // From then on a crash leaves what reads give, and nothing else.
     ensures { OnOk result (WhereKnown (D.trace disk.new) (λ states. (image : List ℕ) → IsCrashImage (present states) image → image ≡ (present states).seen)) }
 {
+    disk_laws();
     disk.write_at(at, bytes)?;
     disk.sync()
 }

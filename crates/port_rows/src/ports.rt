@@ -1,19 +1,19 @@
+//! Sources, sinks, folders and clocks, in memory and real.
+
 ghost use Rattle.std.specs.Prelude.{ℕ, List, IfOk, OnOk};
 ghost use Rattle.farm_base.specs.Known.{Adds, Takes, WhereKnown};
 ghost use Rattle.farm_ports.specs.Folders.{ReadsFile};
 
-mod links;
-
-use super::*;
+use crate::sharing::shared;
 use farm_base::NoMemory;
+use farm_ports::{
+    Clock, DirFolder, Failed, Files, Fixed, Folder, FolderFault, Gather, Port, PortFault, Script,
+    Sink, Source, StdSink, StdSource, SystemClock, put_all, read_up_to,
+};
 use std::alloc::{AllocError, Global};
 use std::io::Read;
 use std::test::Fail;
 use std::{fs, io};
-
-fn shared<T: Send + Sync>(value: T) -> T {
-    value
-}
 
 // "ab", then a piece without a byte, then "cde"; the second take fails.
 fn three_pieces(alloc: Global) -> Result<Script, NoMemory> {

@@ -1,6 +1,13 @@
-use super::*;
-use std::io::Write;
+//! A link in memory, and one over TCP to a device on the loopback.
+
+use crate::sharing::shared;
+use farm_base::NoMemory;
+use farm_ports::{Failed, Link, LinkCall, Port, TcpLink, Wire};
+use std::alloc::Global;
+use std::io;
+use std::io::{Read, Write};
 use std::net::{Net, OpenListener, TcpListener};
+use std::test::Fail;
 
 // Connects, sends a request, and receives what comes first of the answer.
 fn ask<L: Link>(link: &mut L, port: u16, into: &mut [u8]) -> Result<usize, Failed> {
