@@ -12,6 +12,3 @@ mod named_rules;
 mod tables;
 
 pub use book::Book;
-
-#[cfg(test)]
-mod tests;

@@ -11,6 +11,3 @@ mod volumes;
 
 pub use reading::quantities;
 pub use volumes::figures;
-
-#[cfg(test)]
-mod tests;

@@ -137,6 +137,3 @@ fn carried(roof: &Roof, level: Mm) -> Result<Kg, ChainRule>
     }
     Err(ChainRule::CriticalZone)
 }
-
-#[cfg(test)]
-mod tests;

@@ -23,6 +23,3 @@ pub use units::{
     Millimetre, Mm, Permil5, TenthKilogramPerCubicMetre, TenthMillimetre, ThousandthPercent,
 };
 pub use whole::whole_number;
-
-#[cfg(test)]
-mod tests;

@@ -32,8 +32,3 @@ pub use query::Query;
 pub use reply::Reply;
 pub use rule::{BELOW_DATUM, Rule, TAPE_COUNT, TAPE_SPREAD, WATER_TAPE_COUNT, WATER_TAPE_SPREAD};
 pub use verdict::Verdict;
-
-#[cfg(test)]
-mod test_entries;
-#[cfg(test)]
-mod tests;

@@ -16,6 +16,3 @@ pub use page::{Allow, Page};
 pub use requests::{
     GREATEST_ACCOUNT, GREATEST_KEY, GREATEST_PARTY, GREATEST_PLACE, GREATEST_TANK, LineAsked, line,
 };
-
-#[cfg(test)]
-mod tests;

@@ -13,6 +13,3 @@ pub use cancelled::CancelledMove;
 pub use closed::ClosedMove;
 pub use leg::Leg;
 pub use movement::OpenMove;
-
-#[cfg(test)]
-mod tests;

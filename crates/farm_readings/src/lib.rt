@@ -12,6 +12,3 @@ mod temperatures;
 pub use datum::{BelowDatum, innage};
 pub use tapes::{MOST_SPREAD, TapeFault, tape};
 pub use temperatures::{MOST_TEMPERATURES, mean_temp};
-
-#[cfg(test)]
-mod tests;

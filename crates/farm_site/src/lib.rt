@@ -17,6 +17,3 @@ pub use site::Site;
 pub use site_items::{Format, Name, Party, Product, Tank};
 pub use site_keys::{SiteFault, SiteReadFault};
 pub use site_reading::SiteBytesFault;
-
-#[cfg(test)]
-mod tests;

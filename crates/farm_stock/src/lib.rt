@@ -13,6 +13,3 @@ pub use book::{Book, plus};
 pub use posting::{Kind, Posting};
 pub use stock::Stock;
 pub use stock_laws::laws;
-
-#[cfg(test)]
-mod tests;

@@ -13,6 +13,3 @@ mod ticket;
 pub use amounts::{WrongWay, moved};
 pub use side::{Moved, Side, Way};
 pub use ticket::Ticket;
-
-#[cfg(test)]
-mod tests;

@@ -16,6 +16,3 @@ pub use grid::Vcf;
 pub use growing::Growing;
 pub use records::row_of_fields;
 pub use rows::{Listed, grid_of_rows};
-
-#[cfg(test)]
-mod tests;

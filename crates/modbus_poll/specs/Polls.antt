@@ -55,7 +55,7 @@ with_submitted old place raw =
 abbrev pub number_after : ℕ → ℕ
 number_after number = if number == 65535 then 0 else number + 1
 
--- the place after this one among so many: the first after the last
+-- the place after this one among a number of places: the first after the last
 abbrev pub place_after : ℕ → ℕ → ℕ
 place_after place count = if place + 1 == count then 0 else place + 1
 

@@ -22,6 +22,3 @@ pub use map::{Field, GaugeMap, Gauges, Host, LineMap, Valid};
 pub use polled::Polled;
 pub use poller::Poller;
 pub use raw::Raw;
-
-#[cfg(test)]
-mod tests;

@@ -141,7 +141,7 @@ fn number_after(number: u16) -> u16
     number.wrapping_add(1)
 }
 
-// The place after this one among so many.
+// The place after this one among `count`, the first after the last.
 fn place_after(place: usize, count: usize) -> usize
     requires { place < count }
     ensures value { result ≡ place_after place count }

@@ -17,6 +17,3 @@ mod strapping;
 pub use fault::StrapFault;
 pub use parts::{Course, Deadwood};
 pub use strapping::Strapping;
-
-#[cfg(test)]
-mod tests;

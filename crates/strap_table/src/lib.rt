@@ -13,6 +13,3 @@ mod tank;
 pub use fault::{AboveTable, TableFault};
 pub use table::CapTable;
 pub use tank::{Roof, TankSpec};
-
-#[cfg(test)]
-mod tests;

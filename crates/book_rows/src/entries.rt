@@ -1,0 +1,239 @@
+//! The bytes of entries one by one, and the places of bad bytes.
+
+ghost use Rattle.farm_history.specs.Commands.{IsWellFormedCommand};
+ghost use Rattle.farm_history.specs.History.{IsMoment, IsWellFormed};
+
+use crate::sharing::shared;
+use crate::test_entries::{
+    CANCEL, CLOSING, CLOSING_OF_TWO, DIP, GAUGE, LAST, RECEIPT, REVERSE, SAMPLE, SETTLE, STOP,
+    TRANSFER,
+};
+use farm_history::{BadEntry, Command, Entry, Few, Gauged, LAST_MOMENT, Plan};
+use farm_ticket::Way;
+use std::alloc::Global;
+use std::process::Abort;
+use std::test::Fail;
+
+// An entry of caller 0 and account 1.
+fn entry(key: u64, at: i64, cmd: Command) -> Entry
+    requires moment { IsMoment at }
+    requires command { IsWellFormedCommand cmd }
+    ensures well_formed { IsWellFormed result }
+{
+    Entry {
+        caller: 0,
+        account: 1,
+        key,
+        at,
+        cmd,
+    }
+}
+
+// An entry has these bytes, and is read from them.
+fn has_bytes(rt: &impl Abort, alloc: Global, entry: Entry, bytes: &[u8]) -> Result<(), Fail>
+    requires well_formed { IsWellFormed entry }
+{
+    let mut out = Vec::new(alloc);
+    entry.write(&mut out)?;
+    assert_eq!(rt; out.as_slice(), bytes);
+    assert_eq!(rt; shared(Entry::read(bytes)), Ok(entry));
+    Ok(())
+}
+
+// A reading and a sample that are named.
+fn gauged(reading: u32, sample: u32) -> Gauged {
+    Gauged { reading, sample }
+}
+
+// The place of the first bad byte.
+fn bad_place(bytes: &[u8]) -> Option<usize> {
+    match Entry::read(bytes) {
+        Ok(_) => None,
+        Err(bad) => Some(bad.0),
+    }
+}
+
+#[test]
+fn entries_have_their_bytes(rt: HostRuntime) -> Result<(), Fail> {
+    let alloc = rt.alloc();
+    let moment = 1_700_000_000;
+    has_bytes(&rt, alloc, entry(1, moment, Command::Stop), &STOP)?;
+    has_bytes(&rt, alloc, entry(1, LAST_MOMENT, Command::Stop), &LAST)?;
+    let sample = Command::Sample {
+        tank: 101,
+        density: 8_500,
+        sw: 0,
+    };
+    has_bytes(&rt, alloc, entry(2, moment, sample), &SAMPLE)?;
+    let gauge = Command::Gauge {
+        tank: 101,
+        level: 8_000,
+        water: 0,
+        temperature: 1_500,
+        ambient: 1_500,
+    };
+    has_bytes(&rt, alloc, entry(1, moment, gauge), &GAUGE)?;
+    let dip = Command::Dip {
+        tank: 102,
+        outage: false,
+        tapes: Few {
+            count: 2,
+            values: [5_000, 5_000, 0, 0, 0, 0, 0, 0],
+        },
+        water: Few {
+            count: 0,
+            values: [0; 8],
+        },
+        temperatures: Few {
+            count: 1,
+            values: [1_500, 0, 0, 0, 0, 0, 0, 0],
+        },
+        ambient: -50,
+    };
+    has_bytes(&rt, alloc, entry(1, moment, dip), &DIP)
+}
+
+#[test]
+fn entries_of_movements_have_their_bytes(rt: HostRuntime) -> Result<(), Fail> {
+    let alloc = rt.alloc();
+    let receipt = Command::Opening(Plan::Outside {
+        way: Way::Inward,
+        tank: 101,
+        party: 7,
+        gauged: gauged(2, 1),
+    });
+    has_bytes(&rt, alloc, entry(1, 1_700_000_000, receipt), &RECEIPT)?;
+    let transfer = Command::Opening(Plan::Transfer {
+        from: 101,
+        to: 102,
+        from_gauged: gauged(4, 1),
+        to_gauged: gauged(7, 6),
+    });
+    has_bytes(&rt, alloc, entry(1, 1_700_000_000, transfer), &TRANSFER)?;
+    let closing = Command::Closing {
+        movement: 3,
+        first: gauged(4, 1),
+        second: None,
+    };
+    has_bytes(&rt, alloc, entry(1, 1_700_000_000, closing), &CLOSING)?;
+    let closing = Command::Closing {
+        movement: 8,
+        first: gauged(9, 1),
+        second: Some(gauged(10, 6)),
+    };
+    has_bytes(
+        &rt,
+        alloc,
+        entry(1, 1_700_000_000, closing),
+        &CLOSING_OF_TWO,
+    )
+}
+
+#[test]
+fn entries_that_end_movements_have_their_bytes(rt: HostRuntime) -> Result<(), Fail> {
+    let alloc = rt.alloc();
+    let cancel = Command::Cancel { movement: 3 };
+    has_bytes(&rt, alloc, entry(1, 1_700_000_000, cancel), &CANCEL)?;
+    let reverse = Command::Reverse { ticket: 14 };
+    has_bytes(&rt, alloc, entry(1, 1_700_000_000, reverse), &REVERSE)
+}
+
+#[test]
+fn a_settlement_has_its_bytes(rt: HostRuntime) -> Result<(), Fail> {
+    let settle = Command::Settle {
+        tank: 101,
+        gauged: gauged(15, 1),
+    };
+    has_bytes(&rt, rt.alloc(), entry(16, 1_700_000_000, settle), &SETTLE)
+}
+
+#[test]
+fn a_bad_byte_is_refused_at_its_place(rt: HostRuntime) {
+    for length in 0..STOP.len() {
+        assert_eq!(&rt;
+            bad_place(&STOP[..length]),
+            Some(length),
+            "a Stop's first {length} bytes"
+        );
+    }
+    for length in 0..DIP.len() {
+        assert_eq!(&rt;
+            bad_place(&DIP[..length]),
+            Some(length),
+            "a dip's first {length} bytes"
+        );
+    }
+    let cases: [(&[u8], usize, u8, usize); 20] = [
+        (&STOP, 24, 0, 24),
+        (&STOP, 24, 7, 25),
+        (&SETTLE, 24, 0, 24),
+        (&SETTLE, 24, 10, 24),
+        // The ways of a plan, and the byte of a Closing that says whether a second tank is named.
+        (&RECEIPT, 25, 0, 25),
+        (&RECEIPT, 25, 4, 25),
+        (&RECEIPT, 25, 3, 38),
+        (&CLOSING, 37, 2, 37),
+        (&CLOSING, 37, 1, 38),
+        (&CLOSING_OF_TWO, 37, 0, 38),
+        (&CANCEL, 24, 1, 29),
+        (&STOP, 24, 10, 24),
+        // A tag whose fields are missing.
+        (&STOP, 24, 1, 25),
+        // A moment one second late, one below zero, and one too great from its fourth byte on.
+        (&LAST, 23, 1, 23),
+        (&LAST, 16, 0x80, 16),
+        (&LAST, 19, 0x3b, 19),
+        // A dip's kind, and the counts of its lists.
+        (&DIP, 27, 2, 27),
+        (&DIP, 28, 9, 28),
+        (&DIP, 45, 9, 45),
+        (&DIP, 46, 9, 46),
+    ];
+    for (whole, offset, byte, want) in cases {
+        assert_eq!(&rt; bad_place(whole), None);
+        let mut bytes = [0; 64];
+        for (index, byte) in whole.iter().enumerate() {
+            if let Some(place) = bytes.get_mut(index) {
+                *place = *byte;
+            }
+        }
+        if let Some(place) = bytes.get_mut(offset) {
+            *place = byte;
+        }
+        assert_eq!(&rt;
+            bad_place(&bytes[..whole.len().min(64)]),
+            Some(want),
+            "{byte} at {offset}"
+        );
+    }
+    for entry in [
+        RECEIPT.as_slice(),
+        TRANSFER.as_slice(),
+        CLOSING.as_slice(),
+        CLOSING_OF_TWO.as_slice(),
+        CANCEL.as_slice(),
+        REVERSE.as_slice(),
+        SETTLE.as_slice(),
+    ] {
+        for length in 0..entry.len() {
+            assert_eq!(&rt; bad_place(&entry[..length]), Some(length));
+        }
+        let mut longer = [0; 64];
+        if let Some(front) = longer.get_mut(..entry.len()) {
+            front.copy_from_slice(entry);
+        }
+        assert_eq!(&rt; bad_place(&longer[..entry.len() + 1]), Some(entry.len()));
+    }
+    // One byte more than a dip has.
+    let mut longer = [0; 64];
+    longer[..63].copy_from_slice(&DIP);
+    assert_eq!(&rt; bad_place(&longer), Some(63));
+}
+
+#[test]
+fn a_bad_entry_has_a_text(rt: HostRuntime) -> Result<(), Fail> {
+    let mut text = String::new(rt.alloc());
+    write!(text, "{}", shared(BadEntry(24)))?;
+    assert_eq!(&rt; text.as_str(), "no entry: byte 24 can't stand there");
+    Ok(())
+}

@@ -1,0 +1,20 @@
+//! Tests of tickets, movements, stocks, entries, the book and requests: what no clause of `farm_ticket`, `farm_movement`,
+//! `farm_stock`, `farm_history`, `farm_book` and `farm_http` says.
+#![tactic(auto)]
+
+#[cfg(test)]
+mod book;
+#[cfg(test)]
+mod entries;
+#[cfg(test)]
+mod movements;
+#[cfg(test)]
+mod requests;
+#[cfg(test)]
+mod sharing;
+#[cfg(test)]
+mod stocks;
+#[cfg(test)]
+mod test_entries;
+#[cfg(test)]
+mod tickets;

@@ -1,0 +1,52 @@
+//! A gauge, and a line that has it alone.
+
+ghost use Rattle.std.specs.Prelude.{IfOk, IsTrue};
+ghost use Rattle.modbus_poll.specs.Maps.{is_gauge_map, is_line_map};
+
+use farm_base::NoMemory;
+use modbus_poll::{Field, GaugeMap, Gauges, Host, LineMap, Valid};
+use std::alloc::Global;
+
+/// A field of one word in the unit of what it measures.
+pub const PLAIN: Field = Field {
+    offset: 0,
+    words: 1,
+    swapped: false,
+    signed: false,
+    mul: 1,
+    div: 1,
+};
+
+/// Three input registers of unit 17: the level, the temperature in 0.1 C, and a word whose lowest bit says that they are valid.
+pub const GAUGE: GaugeMap = GaugeMap {
+    tank: 101,
+    unit: 17,
+    function: 4,
+    start: 8,
+    quantity: 3,
+    level: PLAIN,
+    temperature: Field {
+        offset: 1,
+        signed: true,
+        mul: 10,
+        ..PLAIN
+    },
+    water: None,
+    ambient: None,
+    ambient_fixed: 1_500,
+    valid: Some(Valid { offset: 2, bit: 0 }),
+    deadband_mm: 1,
+    deadband_centi: 5,
+};
+
+/// A line with one gauge.
+pub fn line(alloc: Global, gauge: GaugeMap) -> Result<LineMap, NoMemory>
+    requires { IsTrue (is_gauge_map gauge) }
+    ensures { IfOk result (λ line. IsTrue (is_line_map line)) }
+{
+    Ok(LineMap {
+        host: Host::new(b"10.0.0.7".to_vec(alloc)?),
+        port: 502,
+        gauges: Gauges::new(vec![in alloc; gauge]?),
+    })
+}

@@ -1,0 +1,92 @@
+//! The volume at a level between the rows of a capacity table, and rows that make no table.
+
+use crate::sharing::shared;
+use farm_fixed::{Centi, Kg, Mm, Shell};
+use farm_rounding::Mode;
+use std::test::Fail;
+use strap_table::{AboveTable, CapTable, Roof, TableFault, TankSpec};
+
+// The volume at a number of mm, to the litre.
+fn litres_at(
+    table: &CapTable,
+    millimetres: i64,
+    mode: Mode,
+) -> Result<Result<i64, AboveTable>, Fail> {
+    let level = Mm::new(millimetres)?;
+    Ok(table.at(level, 1, mode).map(|volume| volume.get()))
+}
+
+#[test]
+fn a_volume_is_interpolated_between_two_rows(rt: HostRuntime) -> Result<(), Fail> {
+    let table = shared(CapTable::from_rows(vec![in rt.alloc(); 0, 1_000, 3_000]?)?);
+    let cases = [
+        (0, Ok(0)),
+        (5, Ok(500)),
+        (10, Ok(1_000)),
+        (13, Ok(1_600)),
+        (20, Ok(3_000)),
+        (21, Err(shared(AboveTable))),
+    ];
+    for (millimetres, want) in cases {
+        assert_eq!(rt;
+            litres_at(&table, millimetres, Mode::HalfAway)?,
+            want,
+            "{millimetres} mm"
+        );
+    }
+    assert_eq!(rt; table.rows(), [0, 1_000, 3_000].as_slice());
+    Ok(())
+}
+
+#[test]
+fn a_half_litre_goes_by_the_mode(rt: HostRuntime) -> Result<(), Fail> {
+    let table = CapTable::from_rows(vec![in rt.alloc(); 0, 1_001]?)?;
+    assert_eq!(rt; litres_at(&table, 5, Mode::HalfAway)?, Ok(501));
+    assert_eq!(rt; litres_at(&table, 5, Mode::TowardZero)?, Ok(500));
+    Ok(())
+}
+
+fn fault_of(rows: Vec<i64>) -> Option<TableFault> {
+    CapTable::from_rows(rows).err()
+}
+
+#[test]
+fn rows_are_refused_at_their_first_fault(rt: HostRuntime) -> Result<(), Fail> {
+    let alloc = rt.alloc();
+    let cases = [
+        (vec![in alloc; 7]?, Some(TableFault::Short)),
+        (vec![in alloc; 0; 5_002]?, Some(TableFault::TooMany)),
+        (vec![in alloc; 0, -1]?, Some(TableFault::OutOfRange(1))),
+        (vec![in alloc; 5, 4, -1]?, Some(TableFault::OutOfRange(2))),
+        (vec![in alloc; 5, 4]?, Some(TableFault::Falling(1))),
+        (vec![in alloc; 0, 0]?, None),
+        (vec![in alloc; 0, 1_000_000_000]?, None),
+        (vec![in alloc; 0; 5_001]?, None),
+    ];
+    for (rows, want) in cases {
+        assert_eq!(rt; fault_of(rows), want);
+    }
+    Ok(())
+}
+
+#[test]
+fn a_tank_may_have_a_floating_roof(rt: HostRuntime) -> Result<(), Fail> {
+    let shell = Shell {
+        insulated: false,
+        coefficient: 112,
+        reference: Centi::new(1_500)?,
+    };
+    let roof = shared(Roof {
+        mass: Kg::new(85_000)?,
+        low: Mm::new(1_500)?,
+        high: Mm::new(1_800)?,
+    });
+    let tank = shared(TankSpec {
+        shell,
+        height: Mm::new(15_000)?,
+        roof: Some(roof),
+    });
+    assert_eq!(rt; tank.roof, Some(roof));
+    assert_eq!(rt; tank.height.get(), 15_000);
+    Ok(())
+}

@@ -1,0 +1,20 @@
+//! Tests of quantities, manual gauging, factors, the custody calculation, capacity tables and strapped tanks: what no clause of
+//! `farm_fixed`, `farm_readings`, `farm_vcf`, `farm_chain`, `strap_table` and `strap_courses` says.
+#![tactic(auto)]
+
+#[cfg(test)]
+mod capacity;
+#[cfg(test)]
+mod chain;
+#[cfg(test)]
+mod factors;
+#[cfg(test)]
+mod quantities;
+#[cfg(test)]
+mod readings;
+#[cfg(test)]
+mod roofs;
+#[cfg(test)]
+mod sharing;
+#[cfg(test)]
+mod strapping;

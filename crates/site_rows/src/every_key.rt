@@ -1,0 +1,214 @@
+//! A site with every key, and what is read of it.
+
+use crate::files::{FILES, STRAPPED};
+use crate::folders::folder_of;
+use crate::sharing::shared;
+use farm_rounding::{Mode, RoundTable};
+use farm_site::{Party, Product, Site, Tank};
+use modbus_poll::{Field, GaugeMap, LineMap, Valid};
+use std::process::Abort;
+use std::test::Fail;
+
+// The rounding table has these rows.
+fn has_rounds(rt: &impl Abort, rounds: &RoundTable, wanted: &[(i64, Mode); 12]) {
+    for n in 1..=12 {
+        assert_eq!(rt; rounds.row(n), wanted[n as usize - 1], "row {n}");
+    }
+}
+
+// A capacity table has this number of rows, and some of these litres.
+fn has_litres(rt: &impl Abort, rows: &[i64], length: usize, wanted: &[(usize, i64)]) {
+    assert_eq!(rt; rows.len(), length);
+    for (row, want) in wanted {
+        assert_eq!(rt; rows.get(*row).copied(), Some(*want), "row {row}");
+    }
+}
+
+// What is fixed of a tank: whether it is insulated, its coefficient, reference temperature and reference height.
+fn fixed_of(tank: &Tank) -> (bool, i64, i64, i64) {
+    let shell = tank.spec.shell;
+    (
+        shell.insulated,
+        shell.coefficient,
+        shell.reference.get(),
+        tank.spec.height.get(),
+    )
+}
+
+// The mass of a tank's roof and the ends of its zone.
+fn roof_of(tank: &Tank) -> Option<(i64, i64, i64)> {
+    match tank.spec.roof {
+        Some(roof) => Some((roof.mass.get(), roof.low.get(), roof.high.get())),
+        None => None,
+    }
+}
+
+// The name and the rounding table are those of the site file.
+fn top_is_read(rt: &impl Abort, site: &Site) {
+    let mut rounds = [(1, Mode::HalfAway); 12];
+    rounds[1] = (10, Mode::TowardZero);
+    rounds[3] = (2, Mode::HalfAway);
+    rounds[5] = (5, Mode::HalfAway);
+    rounds[6] = (1, Mode::TowardZero);
+    rounds[7] = (20, Mode::HalfAway);
+    rounds[8] = (50, Mode::HalfAway);
+    rounds[9] = (100, Mode::TowardZero);
+    assert_eq!(rt; site.name.get(), b"Small site".as_slice());
+    has_rounds(rt, &site.rounds, &rounds);
+}
+
+// Products and parties stand in rising order of number.
+fn products_are_read(rt: &impl Abort, products: &[Product]) {
+    let wanted = [(11, "Kerosene", 1), (12, "Gas oil", 9)];
+    assert_eq!(rt; products.len(), wanted.len());
+    for (product, (number, name, factors)) in products.iter().zip(wanted) {
+        assert_eq!(rt;
+            (product.number, product.name.get()),
+            (number, name.as_bytes())
+        );
+        assert_eq!(rt; product.vcf.factors().len(), factors);
+    }
+}
+
+fn parties_are_read(rt: &impl Abort, parties: &[Party]) {
+    let wanted = [(7, "Carrier"), (8, "Owner")];
+    assert_eq!(rt; parties.len(), wanted.len());
+    for (party, (number, name)) in parties.iter().zip(wanted) {
+        assert_eq!(rt; (party.number, party.name.get()), (number, name.as_bytes()));
+    }
+}
+
+// The first tank has a table file and a roof, the second is strapped.
+fn tanks_are_read(rt: &impl Abort, tanks: &[Tank]) {
+    let wanted = [
+        (
+            (21, 11, 20, 17),
+            (true, 0, 1_500, 50_000),
+            Some((10_000_000, 5, 50_000)),
+        ),
+        (
+            (22, 12, -1_000_000_000, 1_000_000_000),
+            (false, 1_000, -550, 1_100),
+            None,
+        ),
+    ];
+    assert_eq!(rt; tanks.len(), wanted.len());
+    for (tank, (figures, fixed, roof)) in tanks.iter().zip(wanted) {
+        let opening = tank.opening;
+        assert_eq!(rt;
+            (tank.number, tank.product, opening.litres, opening.kg),
+            figures
+        );
+        assert_eq!(rt; fixed_of(tank), fixed);
+        assert_eq!(rt; roof_of(tank), roof);
+    }
+}
+
+// One word, the high one of two first, unsigned, and as it is read.
+fn plain_field(offset: u8) -> Field {
+    Field {
+        offset,
+        words: 1,
+        swapped: false,
+        signed: false,
+        mul: 1,
+        div: 1,
+    }
+}
+
+// The gauge that says all that it may.
+fn full_gauge() -> GaugeMap {
+    GaugeMap {
+        tank: 21,
+        unit: 255,
+        function: 3,
+        start: 65_411,
+        quantity: 125,
+        level: Field {
+            offset: 123,
+            words: 2,
+            swapped: true,
+            signed: true,
+            mul: 1_000_000,
+            div: 10,
+        },
+        temperature: plain_field(0),
+        water: Some(plain_field(1)),
+        ambient: Some(Field {
+            div: 1_000_000,
+            ..plain_field(2)
+        }),
+        ambient_fixed: -10_000,
+        valid: Some(Valid {
+            offset: 124,
+            bit: 15,
+        }),
+        deadband_mm: 1_000,
+        deadband_centi: 999,
+    }
+}
+
+// The gauge that says only what it has to.
+fn bare_gauge() -> GaugeMap {
+    GaugeMap {
+        tank: 22,
+        unit: 0,
+        function: 4,
+        start: 7,
+        quantity: 2,
+        level: plain_field(1),
+        temperature: Field {
+            signed: true,
+            ..plain_field(0)
+        },
+        water: None,
+        ambient: None,
+        ambient_fixed: 1_500,
+        valid: None,
+        deadband_mm: 1,
+        deadband_centi: 5,
+    }
+}
+
+// Lines stand in the order of the file.
+fn lines_are_read(rt: &impl Abort, lines: &[LineMap]) {
+    let wanted = [
+        ("10.0.0.5", 502, full_gauge()),
+        ("!~", 65_535, bare_gauge()),
+    ];
+    assert_eq!(rt; lines.len(), wanted.len());
+    for (line, (host, port, gauge)) in lines.iter().zip(wanted) {
+        assert_eq!(rt; (line.host.get(), line.port), (host.as_bytes(), port));
+        assert_eq!(rt; line.gauges.get(), [gauge].as_slice());
+    }
+}
+
+// The tank of a number has this number of rows, and some of these litres.
+fn tank_has_litres(
+    rt: &impl Abort,
+    site: &Site,
+    number: u16,
+    length: usize,
+    wanted: &[(usize, i64)],
+) {
+    match site.tank(number) {
+        Some(tank) => has_litres(rt, tank.table.rows(), length, wanted),
+        None => assert!(rt; false, "no tank {number}"),
+    }
+}
+
+#[test]
+fn every_key_is_read(rt: HostRuntime) -> Result<(), Fail> {
+    let mut folder = folder_of(rt.alloc(), &FILES, &[])?;
+    let site = shared(Site::read(rt.alloc(), &mut folder)?);
+    top_is_read(&rt, &site);
+    products_are_read(&rt, site.products.get());
+    parties_are_read(&rt, site.parties.get());
+    tanks_are_read(&rt, site.tanks.get());
+    lines_are_read(&rt, site.lines.get());
+    tank_has_litres(&rt, &site, 21, 3, &[(0, 0), (1, 1_000), (2, 3_000)]);
+    tank_has_litres(&rt, &site, 22, 101, &STRAPPED);
+    assert_eq!(rt; site.product(11).map(|product| product.number), Some(11));
+    assert!(rt; site.product(13).is_none());
+    Ok(())
+}

@@ -1,0 +1,17 @@
+//! Tests of the site of a folder and of its bytes: what neither a clause of `farm_site` nor a file of cases says.
+#![tactic(auto)]
+
+#[cfg(test)]
+mod bytes;
+#[cfg(test)]
+mod every_key;
+#[cfg(test)]
+mod faults;
+#[cfg(test)]
+mod files;
+#[cfg(test)]
+mod folders;
+#[cfg(test)]
+mod from_bytes;
+#[cfg(test)]
+mod sharing;
