@@ -1,0 +1,9 @@
+pub mod Layout
+pub mod Buffers
+pub mod Recovery
+pub mod Windows
+pub mod Reading
+pub mod Steps
+pub mod Standing
+pub mod Creating
+pub mod Laws

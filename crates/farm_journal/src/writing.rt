@@ -1,0 +1,20 @@
+//! A write that is synced at once.
+
+ghost use Rattle.std.specs.Prelude.{◌≡◌, ◌≤◌, OnOk};
+ghost use Rattle.farm_base.specs.Counts.{HasCause};
+ghost use Rattle.farm_journal.specs.Steps.{WritesSynced};
+
+use crate::DiskFault;
+use farm_disk::Disk;
+
+/// Writes bytes at an offset and syncs them.
+pub fn write_synced<D: Disk>(disk: &mut D, at: u64, bytes: &[u8]) -> Result<(), DiskFault>
+    ensures step { WritesSynced at bytes.now (D.trace disk.old) (D.trace disk.new) result }
+    ensures moment { D.moment disk.old ≤ D.moment disk.new }
+    ensures cause { HasCause (D.faults disk.old) (D.faults disk.new) result }
+    ensures quiet { OnOk result (D.faults disk.new ≡ D.faults disk.old) }
+{
+    disk.write_at(at, bytes)?;
+    disk.sync()?;
+    Ok(())
+}
