@@ -5,10 +5,11 @@ ghost use Rattle.std.specs.Prelude.{◌≡◌, ◌<◌, ◌≤◌, ◌+◌, None
 use crate::Listing;
 use crate::files::{EMPTY, ONE, TWO, bytes_of, disk_of, keep, new_journal, recovered};
 use farm_disk::{Disk, Fill, MemDisk};
-use farm_journal::{CreateFault, DiskFault, Journal, RecoverFault};
+use farm_journal::{CreateFault, DiskFault, Journal, RecoverFault, Taken};
 use std::test::Fail;
 
-fn shared<T: Send + Sync>(value: T) -> T {
+/// A value of a type that may be sent to another thread and shared with one.
+pub fn shared<T: Send + Sync>(value: T) -> T {
     value
 }
 
@@ -112,4 +113,10 @@ fn a_fault_of_recovery_gives_the_disk_back(rt: HostRuntime) -> Result<(), Fail> 
     }
     assert_eq!(rt; recovered(alloc, EMPTY)?.as_str(), " site");
     Ok(())
+}
+
+#[test]
+fn each_type_may_go_to_another_thread(rt: HostRuntime) {
+    assert_eq!(rt; shared(DiskFault), DiskFault);
+    assert_eq!(rt; shared(Taken::Go), Taken::Go);
 }

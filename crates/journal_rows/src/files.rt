@@ -3,6 +3,7 @@
 ghost use Rattle.std.specs.Prelude.{◌≡◌, ◌<◌, ◌≤◌, ◌+◌, IfOk, None, OnOk, length};
 
 use crate::Listing;
+use crate::faults::shared;
 use farm_base::NoMemory;
 use farm_disk::{Disk, Fill, MemDisk};
 use farm_journal::{CreateFault, Journal, RecoverFault};
@@ -81,7 +82,7 @@ fn a_journal_is_written_byte_by_byte(rt: HostRuntime) -> Result<(), Fail> {
     let mut journal = new_journal(alloc, &[])?;
     keep(&mut journal, b"one")?;
     keep(&mut journal, b"three")?;
-    let mut disk = journal.into_disk();
+    let mut disk = shared(journal).into_disk();
     assert_eq!(rt; bytes_of(alloc, &mut disk)?.as_slice(), TWO);
     let synced = disk.image(alloc, disk.stand().moment, Fill::Byte(b'?'))?;
     assert_eq!(rt; synced.as_slice(), TWO);
