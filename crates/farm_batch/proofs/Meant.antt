@@ -9,14 +9,14 @@ use Rattle.farm_history.specs.declared.reply.Reply.{Reply}
 use Rattle.farm_history.specs.Commands.{is_stop}
 use Rattle.farm_history.specs.Desk.{Answered, answered_on, desk_answer, looked_up, stamped}
 use Rattle.farm_history.specs.History.{History}
-use Rattle.farm_history.specs.Verdicts.{verdict}
+use Rattle.farm_history.specs.Verdicts.{is_accepted, verdict}
 use Rattle.farm_http.specs.Requests.{ask_of_line}
 use Rattle.farm_http.specs.declared.page.Page.{Page}
 use Rattle.farm_http.specs.declared.page.Page.TheVariants as pages
 use Rattle.batch_lines.specs.Reader.{kept}
 use Rattle.batch_lines.specs.declared.limits.TheConstants.{LONGEST_LINE}
 use Rattle.farm_batch.specs.declared.limits.TheConstants.{BATCH_CALLER}
-use Rattle.farm_batch.specs.Answers.{LineAnswer, MeetsLine, answer_to, is_accepted, line_answer, line_too_long, unasked}
+use Rattle.farm_batch.specs.Answers.{LineAnswer, MeetsLine, answer_to, line_answer, line_too_long, unasked}
 
 -- a page, the history that was left and whether the batch ends are those of an answer
 pub record IsMeant (meant : LineAnswer) (after : History) (page : Page) (stops : Bool) : Type 0 where

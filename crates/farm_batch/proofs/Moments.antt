@@ -14,14 +14,14 @@ use Rattle.farm_history.specs.Commands.{is_stop}
 use Rattle.farm_history.specs.Desk.{Answered, answered_on, desk_answer, looked_up, reply_at, stamped}
 use Rattle.farm_history.specs.History.{History, last_place, with_entry}
 use Rattle.farm_history.specs.Rules.{broken_rule, history_full, is_full, is_repeat, key_reused, same_key}
-use Rattle.farm_history.specs.Verdicts.{refused_or_accepted, repeated_or, verdict}
+use Rattle.farm_history.specs.Verdicts.{is_accepted, refused_or_accepted, repeated_or, verdict}
 use Rattle.farm_http.specs.Requests.{ask_of_line}
 use Rattle.farm_http.specs.declared.page.Page.TheVariants as pages
 use Rattle.batch_lines.specs.declared.limits.TheConstants.{LONGEST_LINE}
 use Rattle.farm_batch.specs.declared.limits.TheConstants.{BATCH_CALLER}
 use Rattle.farm_batch.proofs.Timeless.{place_of_image, without_moment, without_moments}
 use Rattle.farm_batch.proofs.TimelessRules.{same_by_command, same_look, same_reply}
-use Rattle.farm_batch.specs.Answers.{LineAnswer, answer_to, is_accepted, line_answer, line_too_long, unasked}
+use Rattle.farm_batch.specs.Answers.{LineAnswer, answer_to, line_answer, line_too_long, unasked}
 
 -- the answer to a line, with the history that it leaves at moment 0
 abbrev pub without_clock : LineAnswer → LineAnswer

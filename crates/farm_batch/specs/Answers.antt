@@ -2,12 +2,10 @@
 use Rattle.std.specs.Prelude.{◌≡◌, ◌⊎◌, ℕ, nat_lt, Bool, true, false, if◌then◌else◌, List, [], ◌∷◌, ◌++◌, flat_map, length, take, Option, None, Some, ℤ}
 use Rattle.farm_history.specs.declared.ask.Ask.{Ask}
 use Rattle.farm_history.specs.declared.ask.Ask.TheVariants.{Do, Look}
-use Rattle.farm_history.specs.declared.verdict.Verdict.{Verdict}
-use Rattle.farm_history.specs.declared.verdict.Verdict.TheVariants.{Accept}
 use Rattle.farm_history.specs.Commands.{is_stop}
 use Rattle.farm_history.specs.Desk.{Answered, desk_answer, stamped}
 use Rattle.farm_history.specs.History.{History}
-use Rattle.farm_history.specs.Verdicts.{verdict}
+use Rattle.farm_history.specs.Verdicts.{is_accepted, verdict}
 use Rattle.farm_http.specs.Answers.{body_text}
 use Rattle.farm_http.specs.Requests.{ask_of_line}
 use Rattle.farm_http.specs.declared.page.Page.{Page}
@@ -36,11 +34,6 @@ pub record LineAnswer : Type 0 where
 -- the answer with which the desk wasn't asked
 abbrev pub unasked : History → Page → LineAnswer
 unasked history page = record { page = page; history = history; stops = false }
-
--- a verdict is acceptance
-abbrev pub is_accepted : Verdict → Bool
-is_accepted Accept = true
-is_accepted verdict = false
 
 -- a request is a Stop, and its command would be accepted
 abbrev pub is_accepted_stop : ℕ → History → ℤ → Ask → Bool

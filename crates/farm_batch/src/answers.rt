@@ -3,13 +3,12 @@
 ghost use Rattle.std.specs.Prelude.{◌≡◌, ◌≢◌, ◌≤ℤ◌, ℕ, false, List, None, Some, option_map, IfOk, OnErr};
 ghost use Rattle.farm_history.specs.Commands.{IsWellFormedCommand};
 ghost use Rattle.farm_history.specs.declared.ask.Ask.TheVariants.{Do};
-ghost use Rattle.farm_history.specs.Desk.{answered_on, brought_into_range, later_of, stamped};
+ghost use Rattle.farm_history.specs.Desk.{IsWellFormedAsk, answered_on, brought_into_range, later_of, stamped};
 ghost use Rattle.farm_history.specs.History.{IsMoment, IsWellFormed, last_moment};
-ghost use Rattle.farm_history.specs.Verdicts.{verdict};
+ghost use Rattle.farm_history.specs.Verdicts.{is_accepted, verdict};
 ghost use Rattle.farm_http.specs.Answers.{IsAnswer, IsErrorStatus};
-ghost use Rattle.farm_http.specs.Requests.{IsWellFormedAsk};
 ghost use Rattle.farm_batch.specs.declared.limits.TheConstants.{BATCH_CALLER};
-ghost use Rattle.farm_batch.specs.Answers.{MeetsLine, answer_to, is_accepted, line_answer};
+ghost use Rattle.farm_batch.specs.Answers.{MeetsLine, answer_to, line_answer};
 ghost use Rattle.batch_lines.specs.Reader.{kept};
 
 use crate::limits::BATCH_CALLER;

@@ -58,8 +58,8 @@ ended_err : (b : Bool) (x : Entry) (k left : ℕ) → cond b (Ok x) (Err k) ≡ 
 ended_err true x k left e = absurd cc
 ended_err false x k left e = (refl, cc)
 
--- what is read is well formed, and the bytes are its
-pub entry_found : (bytes : List ℕ) (entry : Entry) → IsBytes bytes → whole_entry bytes ≡ Ok entry → IsWellFormed entry × (bytes ≡ entry_encoding entry)
+-- what is read can be written, and the bytes are its
+pub entry_found : (bytes : List ℕ) (entry : Entry) → IsBytes bytes → whole_entry bytes ≡ Ok entry → IsGood entry × (bytes ≡ entry_encoding entry)
 unfolding whole_entry
 entry_found bytes entry fits e =
     let b = bind_ok (entry_at bytes) (λ read. cond (length read.1 == 0) (Ok read.0) (Err (length read.1))) entry e in
@@ -68,7 +68,7 @@ entry_found bytes entry fits e =
     let t = entry_reader.takes bytes read.0 read.1 fits b.1 in
     let nothing : read.1 ≡ [] = nil_from_length read.1 (eqb-true _ _ g.0) in
     let whole : bytes ≡ entry_encoding read.0 = t.0.parts ∙ ap (λ rest. entry_encoding read.0 ++ rest) nothing ∙ append-nil (entry_encoding read.0) in
-    subst (λ x. IsWellFormed x × (bytes ≡ entry_encoding x)) g.1 (t.1.1, whole)
+    subst (λ x. IsGood x × (bytes ≡ entry_encoding x)) g.1 (t.1, whole)
 
 -- the bytes of an entry are read as it
 pub entry_only : (bytes : List ℕ) (entry : Entry) → IsTyped entry → IsWellFormed entry → bytes ≡ entry_encoding entry → whole_entry bytes ≡ Ok entry

@@ -54,7 +54,7 @@ pub empty_is_legal : (limit : ℕ) (site : Described) → IsLegal limit (empty_h
 empty_is_legal limit site front back entry split = absurd (not_empty front back entry split)
 
 -- an entry that may come next after a legal history leaves one
-with_next : (limit : ℕ) (history : History) (entry : Entry) → IsLegal limit history → IsNext limit history entry →
+pub with_next : (limit : ℕ) (history : History) (entry : Entry) → IsLegal limit history → IsNext limit history entry →
     IsLegal limit (with_entry history entry)
 with_next limit history entry legal next front back other split = elim (where_in history.entries front back other entry split) [
   | inl w ↦

@@ -42,6 +42,7 @@ pub mod Rules
 pub mod SameCommands
 pub mod Says
 pub mod SecondReader
+pub mod ShortLists
 pub mod SideTests
 pub mod Sides
 pub mod StaleReadings

@@ -14,11 +14,17 @@ use Rattle.farm_history.specs.declared.reply.Reply.TheVariants as replies
 use Rattle.farm_history.specs.declared.rule.Rule.TheVariants.{UnknownTank, UnknownTicket}
 use Rattle.farm_history.specs.declared.verdict.Verdict.{Verdict}
 use Rattle.farm_history.specs.declared.verdict.Verdict.TheVariants as verdicts
+use Rattle.farm_history.specs.Commands.{IsWellFormedCommand}
 use Rattle.farm_history.specs.History.{History, last_moment, last_place, with_entry}
 use Rattle.farm_history.specs.Stocks.{book_of, gain_at, last_reading, last_sample, total_of}
 use Rattle.farm_history.specs.Tickets.{ticket_at}
 use Rattle.farm_history.specs.Verdicts.{verdict}
 use Rattle.farm_ticket.specs.Tickets.{Ticket}
+
+-- what is asked for is well formed where its command is
+abbrev pub IsWellFormedAsk : Ask → Type 0
+IsWellFormedAsk (Do account key command) = IsWellFormedCommand command
+IsWellFormedAsk (Look query) = Unit {0}
 
 -- a number of seconds brought into the range of moments
 abbrev pub brought_into_range : ℤ → ℤ

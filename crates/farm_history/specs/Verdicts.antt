@@ -1,5 +1,5 @@
 -- What a history says of one entry more, and which histories are legal.
-use Rattle.std.specs.Prelude.{◌≡◌, ℕ, ◌<◌, IsFalse, List, ◌∷◌, ◌++◌, Option, Some, None, ◌≤ℤ◌}
+use Rattle.std.specs.Prelude.{◌≡◌, ℕ, ◌<◌, Bool, true, false, IsFalse, List, ◌∷◌, ◌++◌, Option, Some, None, ◌≤ℤ◌}
 use Rattle.std.specs.List.{list_any}
 use Rattle.farm_history.specs.declared.entry.Entry.{Entry}
 use Rattle.farm_history.specs.declared.rule.Rule.{Rule}
@@ -25,6 +25,11 @@ repeated_or (Some place) verdict = Repeat place
 unfoldable pub verdict : ℕ → History → Entry → Verdict
 verdict limit history entry =
     repeated_or (first_place (is_repeat entry) history.entries) (refused_or_accepted (broken_rule limit history entry))
+
+-- a verdict is acceptance
+abbrev pub is_accepted : Verdict → Bool
+is_accepted Accept = true
+is_accepted verdict = false
 
 -- no entry of the history has the account, the key and the command
 abbrev pub IsNew : History → Entry → Type 0

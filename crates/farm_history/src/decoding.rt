@@ -24,6 +24,7 @@ impl Entry {
     /// Reads the entry that these bytes are, all of them. Takes no memory.
     pub fn read(bytes: &[u8]) -> Result<Entry, BadEntry>
         ensures found { IfOk result (λ entry. IsWellFormed entry × (bytes.now ≡ entry_encoding entry)) }
+        ensures typed { IfOk result (λ entry. IsTyped entry) }
         ensures only { (entry : Entry) → IsTyped entry → IsWellFormed entry → bytes.now ≡ entry_encoding entry → result ≡ Ok entry }
         ensures place { IfErr result (λ bad. IsBadEntryAt bytes.now bad.0) }
     {

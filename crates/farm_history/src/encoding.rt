@@ -1,10 +1,10 @@
 //! How an entry is written as bytes.
 
-ghost use Rattle.std.specs.Prelude.{◌≡◌, ◌+◌, ◌<◌, ◌≤◌, [], ◌∷◌, ◌++◌, length, OnErr, vec_capacity, vec_len};
+ghost use Rattle.std.specs.Prelude.{◌≡◌, ◌+◌, ◌<◌, ◌≤◌, ◌^◌, [], ◌∷◌, ◌++◌, length, FitsSigned, OnErr, vec_capacity, vec_len};
 ghost use Rattle.std.specs.Int.{w16, w32, w64, to_be_bytes};
 ghost use Rattle.farm_base.specs.Appended.{Appends};
 ghost use Rattle.farm_history.specs.Commands.{IsShortList, IsWellFormedCommand};
-ghost use Rattle.farm_history.specs.Encoding.{command_bytes, entry_encoding, gauged_bytes, list_bytes, plan_bytes, second_bytes, signed_bytes, way_byte};
+ghost use Rattle.farm_history.specs.Encoding.{IsTyped, IsTypedCommand, IsTypedGauged, IsTypedList, IsTypedPlan, IsTypedSecond, command_bytes, entry_encoding, gauged_bytes, list_bytes, plan_bytes, second_bytes, signed_bytes, way_byte};
 ghost use Rattle.farm_history.specs.History.{IsWellFormed};
 ghost use Rattle.farm_history.specs.declared.limits.TheConstants.{MOST_ENTRY_BYTES};
 
@@ -23,6 +23,7 @@ impl Entry {
         ensures appended { Appends out.old.items out.new.items (entry_encoding self.now) result }
         ensures no_room { OnErr result (vec_capacity out.old < vec_len out.old + length (entry_encoding self.now)) }
         ensures few { length (entry_encoding self.now) ≤ MOST_ENTRY_BYTES }
+        ensures typed { IsTyped self.now }
     {
         let mut written = Written::new();
         self.put_stamp(&mut written);
@@ -35,6 +36,7 @@ impl Entry {
     fn put_stamp(&self, out: &mut Written)
         requires first { out.old ≡ [] }
         ensures stamp { out.new ≡ to_be_bytes w32 self.now.caller ++ to_be_bytes w32 self.now.account ++ to_be_bytes w64 self.now.key ++ signed_bytes self.now.at }
+        ensures typed { (self.now.caller < 2 ^ 32) × (self.now.account < 2 ^ 32) × (self.now.key < 2 ^ 64) × FitsSigned w64 self.now.at }
     {
         out.push(&self.caller.to_be_bytes());
         out.push(&self.account.to_be_bytes());
@@ -49,6 +51,7 @@ impl Command {
         requires well_formed { IsWellFormedCommand self.now }
         requires room { length out.old ≤ 24 }
         ensures command { out.new ≡ out.old ++ command_bytes self.now }
+        ensures typed { IsTypedCommand self.now }
     {
         match self {
             Command::Gauge {
@@ -102,6 +105,7 @@ fn put_dip(
     requires temperatures { IsShortList temperatures.now }
     requires room { length out.old ≤ 24 }
     ensures dip { out.new ≡ out.old ++ command_bytes (Command.Dip tank outage tapes.now water.now temperatures.now ambient) }
+    ensures typed { IsTypedCommand (Command.Dip tank outage tapes.now water.now temperatures.now ambient) }
 {
     put_tank(out, 2, tank);
     out.push(&[u8::from(outage)]);
@@ -115,6 +119,7 @@ fn put_dip(
 fn put_closing(out: &mut Written, movement: u32, first: &Gauged, second: &Option<Gauged>)
     requires room { length out.old ≤ 24 }
     ensures closing { out.new ≡ out.old ++ command_bytes (Command.Closing movement first.now second.now) }
+    ensures typed { IsTypedCommand (Command.Closing movement first.now second.now) }
 {
     put_place(out, 5, movement);
     put_gauged(out, first);
@@ -125,6 +130,7 @@ fn put_closing(out: &mut Written, movement: u32, first: &Gauged, second: &Option
 fn put_settle(out: &mut Written, tank: u16, gauged: &Gauged)
     requires room { length out.old ≤ 24 }
     ensures settle { out.new ≡ out.old ++ command_bytes (Command.Settle tank gauged.now) }
+    ensures typed { IsTypedCommand (Command.Settle tank gauged.now) }
 {
     put_tank(out, 7, tank);
     put_gauged(out, gauged);
@@ -134,6 +140,7 @@ fn put_settle(out: &mut Written, tank: u16, gauged: &Gauged)
 fn put_tank(out: &mut Written, tag: u8, tank: u16)
     requires room { length out.old + 3 ≤ MOST_ENTRY_BYTES }
     ensures tank { out.new ≡ out.old ++ (tag ∷ to_be_bytes w16 tank) }
+    ensures typed { tank < 2 ^ 16 }
 {
     out.push(&[tag]);
     out.push(&tank.to_be_bytes());
@@ -145,6 +152,7 @@ fn put_list(out: &mut Written, list: &Few)
     requires room { length out.old + 65 ≤ MOST_ENTRY_BYTES }
     ensures at_most { length out.new ≤ length out.old + 65 }
     ensures list { out.new ≡ out.old ++ list_bytes list.now }
+    ensures typed { IsTypedList list.now }
 {
     out.push(&[list.count]);
     out.push_numbers(&list.values[..usize::from(list.count)]);
@@ -154,6 +162,7 @@ fn put_list(out: &mut Written, list: &Few)
 fn put_place(out: &mut Written, tag: u8, place: u32)
     requires room { length out.old ≤ 24 }
     ensures place { out.new ≡ out.old ++ (tag ∷ to_be_bytes w32 place) }
+    ensures typed { place < 2 ^ 32 }
 {
     out.push(&[tag]);
     out.push(&place.to_be_bytes());
@@ -163,6 +172,7 @@ fn put_place(out: &mut Written, tag: u8, place: u32)
 fn put_plan(out: &mut Written, plan: &Plan)
     requires room { length out.old ≤ 24 }
     ensures plan { out.new ≡ out.old ++ (4 ∷ plan_bytes plan.now) }
+    ensures typed { IsTypedPlan plan.now }
 {
     match plan {
         Plan::Outside {
@@ -201,6 +211,7 @@ fn way_byte(way: Way) -> u8
 fn put_way(out: &mut Written, way: u8, first: u16, second: u16)
     requires room { length out.old ≤ 24 }
     ensures way { out.new ≡ out.old ++ (4 ∷ way ∷ to_be_bytes w16 first ++ to_be_bytes w16 second) }
+    ensures typed { (first < 2 ^ 16) × (second < 2 ^ 16) }
 {
     out.push(&[4, way]);
     out.push(&first.to_be_bytes());
@@ -211,6 +222,7 @@ fn put_way(out: &mut Written, way: u8, first: u16, second: u16)
 fn put_gauged(out: &mut Written, gauged: &Gauged)
     requires room { length out.old ≤ 100 }
     ensures gauged { out.new ≡ out.old ++ gauged_bytes gauged.now }
+    ensures typed { IsTypedGauged gauged.now }
 {
     out.push(&gauged.reading.to_be_bytes());
     out.push(&gauged.sample.to_be_bytes());
@@ -220,6 +232,7 @@ fn put_gauged(out: &mut Written, gauged: &Gauged)
 fn put_second(out: &mut Written, second: &Option<Gauged>)
     requires room { length out.old ≤ 90 }
     ensures second { out.new ≡ out.old ++ second_bytes second.now }
+    ensures typed { IsTypedSecond second.now }
 {
     match second {
         None => out.push(&[0]),

@@ -2,7 +2,6 @@
 use Rattle.std.specs.Prelude.{◌≡◌, ◌||◌, ℕ, Bool, true, false, if◌then◌else◌, List, codes, Option, Some, None, is_some, option_and_then, option_map}
 use Rattle.std.specs.Str.{bytes_eq}
 use Rattle.serde_json.specs.Data.{Data}
-use Rattle.farm_history.specs.Commands.{IsWellFormedCommand}
 use Rattle.farm_history.specs.declared.ask.Ask.{Ask}
 use Rattle.farm_history.specs.declared.ask.Ask.TheVariants.{Do, Look}
 use Rattle.farm_history.specs.declared.command.Command.{Command}
@@ -186,8 +185,3 @@ abbrev pub IsLineRead : List ℕ → LineAsked → Type 0
 IsLineRead bytes (lines.Ask ask) = ask_of_line bytes ≡ Some ask
 IsLineRead bytes lines.Bad = ask_of_line bytes ≡ None
 IsLineRead bytes lines.NoMemory = Unit {0}
-
--- what is asked for is well formed where its command is
-abbrev pub IsWellFormedAsk : Ask → Type 0
-IsWellFormedAsk (Do account key cmd) = IsWellFormedCommand cmd
-IsWellFormedAsk (Look query) = Unit {0}

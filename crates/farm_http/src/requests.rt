@@ -2,7 +2,8 @@
 
 ghost use Rattle.std.specs.Prelude.{◌≡◌, IfSome};
 ghost use Rattle.serde_json.specs.View.{view};
-ghost use Rattle.farm_http.specs.Requests.{IsLineRead, IsValueRead, IsWellFormedAsk, ask_of_value, do_of, stock_look_of, ticket_look_of};
+ghost use Rattle.farm_history.specs.Desk.{IsWellFormedAsk};
+ghost use Rattle.farm_http.specs.Requests.{IsLineRead, IsValueRead, ask_of_value, do_of, stock_look_of, ticket_look_of};
 
 use crate::commands::{command_of, place_at, tank_at};
 use crate::members::{natural_at, text_at};

@@ -1,8 +1,8 @@
 //! How a site is written as bytes. docs/formats.md has the format.
 
-ghost use Rattle.std.specs.Prelude.{◌≡◌, ◌<◌, IfOk, length};
+ghost use Rattle.std.specs.Prelude.{◌≡◌, ◌<◌, IfOk, OnOk, length};
 ghost use Rattle.site_bytes.specs.Buffers.{HasRoom, IsPut};
-ghost use Rattle.farm_site.specs.Encoding.{site_encoding};
+ghost use Rattle.farm_site.specs.Encoding.{IsSite, site_encoding};
 ghost use Rattle.farm_site.specs.Sites.{described};
 ghost use Rattle.farm_site.specs.declared.encoding.TheConstants.{MOST_SITE_BYTES};
 
@@ -22,6 +22,7 @@ impl Site {
     pub fn to_bytes(&self, alloc: Global) -> Result<Vec<u8>, NoMemory>
         ensures bytes { IfOk result (λ bytes. bytes.items ≡ site_encoding (described self.now)) }
         ensures short { length (site_encoding (described self.now)) < MOST_SITE_BYTES }
+        ensures sound { OnOk result (IsSite (described self.now)) }
     {
         let mut out = Vec::with_capacity(alloc, self.encoded_len())?;
         self.put(&mut out);
@@ -46,6 +47,7 @@ impl Site {
     fn put(&self, out: &mut Vec<u8>)
         requires room { HasRoom out.old (site_encoding (described self.now)) }
         ensures put { IsPut out.old out.new (site_encoding (described self.now)) }
+        ensures sound { IsSite (described self.now) }
     {
         put_head(out, self.name.get(), &self.rounds);
         put_products(out, self.products.get());

@@ -1,3 +1,4 @@
 pub mod Encoding
 pub mod Buffers
 pub mod Sizes
+pub mod Typed

@@ -27,7 +27,7 @@ use Rattle.site_reading.specs.Decoding.{field_at, fields_at, flags_at, gauge_at,
 use Rattle.site_bytes.specs.Encoding.{field_bytes, flag_byte, gauge_bytes, line_bytes, option_bytes, short_list_bytes, signed_bytes, text_bytes, valid_bytes}
 use Rattle.site_reading.specs.Parts.{AreLines}
 use Rattle.site_reading.specs.Readers.{IsReader}
-use Rattle.site_reading.specs.Typed.{IsTypedGauge, IsTypedLine}
+use Rattle.site_bytes.specs.Typed.{IsTypedGauge, IsTypedLine}
 use Rattle.site_reading.proofs.ListReaders.{AreListed, all_as, all_cons, all_head, all_tail, option_reader, short_list_reader}
 use Rattle.site_reading.proofs.NumberReaders.{byte_reader, byte_up_to_reader, number16_reader, number32_reader, signed16_reader, text_reader}
 use Rattle.site_reading.proofs.ProductReaders.{number_small, numbered_sound}

@@ -20,7 +20,7 @@ use Rattle.site_reading.specs.Decoding.{grid_at, is_grid, parties_at, party_at, 
 use Rattle.site_bytes.specs.Encoding.{grid_bytes, list_bytes, natural_bytes, party_bytes, product_bytes, short_list_bytes, signed_bytes, text_bytes}
 use Rattle.site_reading.specs.Parts.{AreParties, AreProducts}
 use Rattle.site_reading.specs.Readers.{IsReader}
-use Rattle.site_reading.specs.Typed.{IsTypedGrid, IsTypedProduct}
+use Rattle.site_bytes.specs.Typed.{IsTypedGrid, IsTypedProduct}
 use Rattle.site_reading.proofs.Grids.{is_grid-from, is_grid-true}
 use Rattle.site_reading.proofs.HeadReaders.{name_length}
 use Rattle.site_reading.proofs.ListReaders.{AreCounted, AreListed, all_as, counted_reader, list_reader, short_list_reader}

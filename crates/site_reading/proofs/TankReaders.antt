@@ -33,7 +33,7 @@ use Rattle.site_reading.specs.Decoding.{amount_at, have_none, roof_at, shell_at,
 use Rattle.site_bytes.specs.Encoding.{amount_bytes, flag_byte, list_bytes, natural_bytes, option_bytes, roof_bytes, shell_bytes, short_list_bytes, signed_bytes, tank_bytes}
 use Rattle.site_reading.specs.Parts.{AreTanks}
 use Rattle.site_reading.specs.Readers.{IsReader}
-use Rattle.site_reading.specs.Typed.{IsTypedRoof, IsTypedTank}
+use Rattle.site_bytes.specs.Typed.{IsTypedRoof, IsTypedTank}
 use Rattle.site_reading.proofs.ListReaders.{AreListed, all_as, list_reader, option_reader, short_list_reader}
 use Rattle.site_reading.proofs.NumberReaders.{IsNatural, flag_reader, height_reader, natural_reader, natural_within, number16_reader, signed64_reader, temperature_reader, wide16, wide32}
 use Rattle.site_reading.proofs.ProductReaders.{items_fit, number_small, numbered_sound}

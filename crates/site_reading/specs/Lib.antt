@@ -1,4 +1,3 @@
-pub mod Typed
 pub mod Decoding
 pub mod Readers
 pub mod Parts

@@ -16,7 +16,7 @@ use Rattle.site_bytes.specs.declared.TheConstants.{FORMAT}
 use Rattle.site_reading.specs.Decoding.{head_at, lines_at, parties_at, products_at, tanks_at}
 use Rattle.site_bytes.specs.Encoding.{line_bytes, list_bytes, party_bytes, product_bytes, row_bytes, short_list_bytes, tank_bytes, text_bytes}
 use Rattle.site_reading.specs.Readers.{IsReader}
-use Rattle.site_reading.specs.Typed.{IsTypedLine, IsTypedProduct, IsTypedTank}
+use Rattle.site_bytes.specs.Typed.{IsTypedLine, IsTypedProduct, IsTypedTank}
 
 -- a head has a name and a rounding table
 abbrev pub IsHead : List ℕ × List Row → Type 0

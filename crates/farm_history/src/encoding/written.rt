@@ -1,6 +1,7 @@
 //! Bytes that are written one after another, to be appended at once.
 
-ghost use Rattle.std.specs.Prelude.{◌≡◌, ◌+◌, ◌*◌, ◌≤◌, [], ◌++◌, length};
+ghost use Rattle.std.specs.Prelude.{◌≡◌, ◌+◌, ◌*◌, ◌≤◌, [], ◌++◌, length, All, FitsSigned};
+ghost use Rattle.std.specs.Int.{w64};
 ghost use Rattle.std.specs.List.{flat_map};
 ghost use Rattle.farm_history.specs.Encoding.{signed_bytes};
 ghost use Rattle.farm_history.specs.declared.limits.TheConstants.{MOST_ENTRY_BYTES};
@@ -59,6 +60,7 @@ impl Written {
     pub fn push_numbers(&mut self, numbers: &[i64])
         requires room { length self.old + 8 * length numbers.now ≤ MOST_ENTRY_BYTES }
         ensures pushed { self.new ≡ self.old ++ flat_map signed_bytes numbers.now }
+        ensures typed { All (FitsSigned w64) numbers.now }
     {
         for number in numbers {
             self.push(&number.to_be_bytes());

@@ -13,11 +13,15 @@ pub trait Encoded {
     // What keeps its counts and numbers within their bytes.
     ghost fits: { Self → Type 0 } = { λ _. Unit {0} };
 
+    // What its numbers have by their types.
+    ghost typed: { Self → Type 0 } = { λ _. Unit {0} };
+
     /// Puts its bytes.
     fn put(&self, out: &mut Vec<u8>)
         requires fits { fits self.now }
         requires room { HasRoom out.old (bytes self.now) }
-        ensures put { IsPut out.old out.new (bytes self.now) };
+        ensures put { IsPut out.old out.new (bytes self.now) }
+        ensures typed { typed self.now };
 }
 
 /// An item whose bytes are counted before they are put.
@@ -54,6 +58,7 @@ pub fn put_option<T: Encoded>(out: &mut Vec<u8>, option: &Option<T>)
     requires fits { IfSome option.now T.fits }
     requires room { HasRoom out.old (option_bytes T.bytes option.now) }
     ensures put { IsPut out.old out.new (option_bytes T.bytes option.now) }
+    ensures typed { IfSome option.now T.typed }
 {
     match option {
         None => put(out, &[0]),
@@ -82,6 +87,7 @@ pub fn put_each<T: Encoded>(out: &mut Vec<u8>, items: &[T])
     requires fits { All T.fits items.now }
     requires room { HasRoom out.old (flat_map T.bytes items.now) }
     ensures put { IsPut out.old out.new (flat_map T.bytes items.now) }
+    ensures typed { All T.typed items.now }
 {
     for item in items {
         item.put(out);
@@ -108,6 +114,7 @@ pub fn put_short_list<T: Encoded>(out: &mut Vec<u8>, items: &[T])
     requires few { length items.now < 256 }
     requires room { HasRoom out.old (short_list_bytes T.bytes items.now) }
     ensures put { IsPut out.old out.new (short_list_bytes T.bytes items.now) }
+    ensures typed { All T.typed items.now }
 {
     put(out, &[items.len() as u8]);
     put_each(out, items);
@@ -119,6 +126,7 @@ pub fn put_list<T: Encoded>(out: &mut Vec<u8>, items: &[T])
     requires few { length items.now < 65536 }
     requires room { HasRoom out.old (list_bytes w16 T.bytes items.now) }
     ensures put { IsPut out.old out.new (list_bytes w16 T.bytes items.now) }
+    ensures typed { All T.typed items.now }
 {
     put(out, &(items.len() as u16).to_be_bytes());
     put_each(out, items);
@@ -130,6 +138,7 @@ pub fn put_long_list<T: Encoded>(out: &mut Vec<u8>, items: &[T])
     requires few { length items.now < 4294967296 }
     requires room { HasRoom out.old (list_bytes w32 T.bytes items.now) }
     ensures put { IsPut out.old out.new (list_bytes w32 T.bytes items.now) }
+    ensures typed { All T.typed items.now }
 {
     put(out, &(items.len() as u32).to_be_bytes());
     put_each(out, items);

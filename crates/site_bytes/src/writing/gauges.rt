@@ -1,11 +1,12 @@
 //! The bytes of gauge lines, each with its gauges and their fields.
 
-ghost use Rattle.std.specs.Prelude.{◌+◌, ◌*◌, ◌≤◌, ◌≡◌, ◌++◌, IsTrue, List, ℕ, length};
+ghost use Rattle.std.specs.Prelude.{◌+◌, ◌*◌, ◌≤◌, ◌≡◌, ◌++◌, All, IsTrue, List, ℕ, length};
 ghost use Rattle.std.specs.Int.{to_be_bytes, w16};
 ghost use Rattle.site_lines.specs.Lines.{are_lines};
 ghost use Rattle.site_bytes.specs.Buffers.{HasRoom, IsPut};
 ghost use Rattle.site_bytes.specs.Encoding.{field_bytes, field_flags, gauge_bytes, line_bytes, option_bytes, request_bytes, short_list_bytes, valid_bytes};
 ghost use Rattle.site_bytes.specs.Sizes.{IsGaugeInRange, IsLineInRange, most_gauge_bytes, most_line_bytes};
+ghost use Rattle.site_bytes.specs.Typed.{IsTypedGauge, IsTypedLine};
 
 use crate::writing::encoded::{
     Encoded, Measured, len_of_each, len_of_option, put, put_option, put_short_list, put_text,
@@ -16,6 +17,8 @@ impl Encoded for LineMap {
     ghost bytes = { line_bytes };
 
     ghost fits = { IsLineInRange };
+
+    ghost typed = { IsTypedLine };
 
     #[tactic(auto, unfolding(crate::specs::Encoding::line_bytes))]
     fn put(&self, out: &mut Vec<u8>) {
@@ -38,6 +41,8 @@ impl Encoded for GaugeMap {
     ghost bytes = { gauge_bytes };
 
     ghost fits = { IsGaugeInRange };
+
+    ghost typed = { IsTypedGauge };
 
     #[tactic(auto, unfolding(crate::specs::Encoding::gauge_bytes))]
     fn put(&self, out: &mut Vec<u8>) {
@@ -101,6 +106,7 @@ pub fn put_lines(out: &mut Vec<u8>, lines: &[LineMap])
     requires lines { (tanks : List ℕ) × IsTrue (are_lines tanks lines.now) }
     requires room { HasRoom out.old (short_list_bytes line_bytes lines.now) }
     ensures put { IsPut out.old out.new (short_list_bytes line_bytes lines.now) }
+    ensures typed { All IsTypedLine lines.now }
 {
     put_short_list(out, lines);
 }
@@ -120,6 +126,7 @@ fn put_fields(out: &mut Vec<u8>, gauge: &GaugeMap)
         ++ field_bytes gauge.now.temperature ++ option_bytes field_bytes gauge.now.water ++ option_bytes field_bytes gauge.now.ambient) }
     ensures put { IsPut out.old out.new (to_be_bytes w16 gauge.now.tank ++ request_bytes gauge.now ++ field_bytes gauge.now.level
         ++ field_bytes gauge.now.temperature ++ option_bytes field_bytes gauge.now.water ++ option_bytes field_bytes gauge.now.ambient) }
+    ensures typed { IsTypedGauge gauge.now }
 {
     put(out, &gauge.tank.to_be_bytes());
     put_request(out, gauge);
@@ -133,6 +140,7 @@ fn put_fields(out: &mut Vec<u8>, gauge: &GaugeMap)
 fn put_request(out: &mut Vec<u8>, gauge: &GaugeMap)
     requires room { HasRoom out.old (request_bytes gauge.now) }
     ensures put { IsPut out.old out.new (request_bytes gauge.now) }
+    ensures typed { IsTypedGauge gauge.now }
 {
     put(out, &[gauge.unit, gauge.function]);
     put(out, &gauge.start.to_be_bytes());

@@ -1,11 +1,12 @@
 //! The bytes of products, each with its factors, and of parties.
 
-ghost use Rattle.std.specs.Prelude.{◌+◌, ◌*◌, ◌≤◌, ◌≡◌, IsTrue, length};
+ghost use Rattle.std.specs.Prelude.{◌+◌, ◌*◌, ◌≤◌, ◌≡◌, All, IsTrue, length};
 ghost use Rattle.std.specs.Int.{w16};
 ghost use Rattle.site_items.specs.Facts.{are_parties, are_products};
 ghost use Rattle.site_bytes.specs.Buffers.{HasRoom, IsPut};
 ghost use Rattle.site_bytes.specs.Encoding.{grid_bytes, list_bytes, party_bytes, product_bytes, short_list_bytes};
 ghost use Rattle.site_bytes.specs.Sizes.{IsNamedParty, IsNamedProduct, most_grid_bytes, most_party_bytes, most_product_bytes};
+ghost use Rattle.site_bytes.specs.Typed.{IsTypedGrid, IsTypedProduct};
 
 use crate::writing::encoded::{
     Encoded, Measured, len_of_each, put, put_each, put_list, put_long_list, put_short_list,
@@ -18,6 +19,8 @@ impl Encoded for Product {
     ghost bytes = { product_bytes };
 
     ghost fits = { IsNamedProduct };
+
+    ghost typed = { IsTypedProduct };
 
     #[tactic(auto, unfolding(crate::specs::Encoding::product_bytes))]
     fn put(&self, out: &mut Vec<u8>) {
@@ -62,6 +65,7 @@ pub fn put_products(out: &mut Vec<u8>, products: &[Product])
     requires products { IsTrue (are_products products.now) }
     requires room { HasRoom out.old (short_list_bytes product_bytes products.now) }
     ensures put { IsPut out.old out.new (short_list_bytes product_bytes products.now) }
+    ensures typed { All IsTypedProduct products.now }
 {
     put_short_list(out, products);
 }
@@ -98,6 +102,7 @@ pub fn len_of_parties(parties: &[Party]) -> usize
 fn put_grid(out: &mut Vec<u8>, vcf: &Vcf)
     requires room { HasRoom out.old (grid_bytes vcf.now) }
     ensures put { IsPut out.old out.new (grid_bytes vcf.now) }
+    ensures typed { IsTypedGrid vcf.now }
 {
     put_long_list(out, vcf.densities());
     put_long_list(out, vcf.temperatures());

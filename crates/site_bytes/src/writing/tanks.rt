@@ -1,6 +1,6 @@
 //! The bytes of tanks, each with its capacity table.
 
-ghost use Rattle.std.specs.Prelude.{◌+◌, ◌*◌, ◌≤◌, ◌≡◌, IsTrue, List, ℕ, length, pos};
+ghost use Rattle.std.specs.Prelude.{◌+◌, ◌*◌, ◌≤◌, ◌≡◌, All, IsTrue, List, ℕ, length, negsuc, pos};
 ghost use Rattle.std.specs.Int.{w64};
 ghost use Rattle.farm_fixed.specs.Range.{IsWithin};
 ghost use Rattle.farm_fixed.specs.declared.limits.TheConstants.{MOST_COEFFICIENT};
@@ -8,6 +8,7 @@ ghost use Rattle.site_items.specs.Facts.{are_tanks};
 ghost use Rattle.site_bytes.specs.Buffers.{HasRoom, IsPut};
 ghost use Rattle.site_bytes.specs.Encoding.{amount_bytes, flag_byte, roof_bytes, shell_bytes, short_list_bytes, signed_bytes, tank_bytes};
 ghost use Rattle.site_bytes.specs.Sizes.{IsRoofWithMass, IsTankInRange, most_tank_bytes};
+ghost use Rattle.site_bytes.specs.Typed.{IsTypedRoof, IsTypedTank};
 
 use crate::writing::encoded::{
     Encoded, Measured, len_of_each, len_of_option, put, put_list, put_option, put_short_list,
@@ -20,6 +21,8 @@ impl Encoded for Tank {
     ghost bytes = { tank_bytes };
 
     ghost fits = { IsTankInRange };
+
+    ghost typed = { IsTypedTank };
 
     #[tactic(auto, unfolding(crate::specs::Encoding::tank_bytes))]
     fn put(&self, out: &mut Vec<u8>) {
@@ -47,6 +50,8 @@ impl Encoded for Roof {
 
     ghost fits = { IsRoofWithMass };
 
+    ghost typed = { IsTypedRoof };
+
     #[tactic(auto, unfolding(crate::specs::Encoding::roof_bytes))]
     fn put(&self, out: &mut Vec<u8>) {
         put(out, &(self.mass.get() as u32).to_be_bytes());
@@ -69,6 +74,7 @@ pub fn put_tanks(out: &mut Vec<u8>, tanks: &[Tank])
     requires tanks { (products : List ℕ) × IsTrue (are_tanks products tanks.now) }
     requires room { HasRoom out.old (short_list_bytes tank_bytes tanks.now) }
     ensures put { IsPut out.old out.new (short_list_bytes tank_bytes tanks.now) }
+    ensures typed { All IsTypedTank tanks.now }
 {
     put_short_list(out, tanks);
 }
@@ -88,6 +94,7 @@ fn put_shell(out: &mut Vec<u8>, shell: &Shell)
     requires coefficient { IsWithin (pos 0) MOST_COEFFICIENT shell.now.coefficient }
     requires room { HasRoom out.old (shell_bytes shell.now) }
     ensures put { IsPut out.old out.new (shell_bytes shell.now) }
+    ensures typed { IsWithin (negsuc 9999) (pos 30000) shell.now.reference }
 {
     put(out, &[flag_byte(shell.insulated)]);
     put(out, &(shell.coefficient as u16).to_be_bytes());

@@ -7,7 +7,12 @@ pub overflow_sub-result : goal.overflow_sub-result
 overflow_sub-result c = (entry_place c.args.bytes.now c.in-Err.left (λ i. omega (arith, c.type_inv.bytes i)) c.in-Err.ensures.whole).0
 
 pub returns-in-Ok-clause-found : goal.returns-in-Ok-clause-found
-returns-in-Ok-clause-found c = entry_found c.args.bytes.now c.in-Ok.entry (λ i. omega (arith, c.type_inv.bytes i)) c.in-Ok.ensures.whole
+returns-in-Ok-clause-found c =
+    let found = entry_found c.args.bytes.now c.in-Ok.entry (λ i. omega (arith, c.type_inv.bytes i)) c.in-Ok.ensures.whole in
+    (found.0.1, found.1)
+
+pub returns-in-Ok-clause-typed : goal.returns-in-Ok-clause-typed
+returns-in-Ok-clause-typed c = (entry_found c.args.bytes.now c.in-Ok.entry (λ i. omega (arith, c.type_inv.bytes i)) c.in-Ok.ensures.whole).0.0
 
 pub returns-in-Ok-clause-only : goal.returns-in-Ok-clause-only
 returns-in-Ok-clause-only c = λ entry typed well_formed encoded.
