@@ -1,3 +1,4 @@
 pub mod Kept
 pub mod Refusals
 pub mod Replies
+pub mod Entering

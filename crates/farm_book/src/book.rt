@@ -79,6 +79,8 @@ impl<const LIMIT: usize> Book<LIMIT> {
         ensures history { self.new.history ≡ self.old.history }
         ensures refused { OnErr result (self.new.spare ≡ self.old.spare) }
         ensures no_room { OnErr result (self.old.spare ≡ 0) }
+        ensures limit { LIMIT ≤ GREATEST_LIMIT }
+        ensures few { last_place self.new.history ≤ LIMIT + STOPS_BEYOND_LIMIT }
     {
         self.entries.reserve(1)?;
         Ok(())

@@ -5,6 +5,7 @@
 #![tactic(auto)]
 
 mod book;
+mod entering;
 mod figure_rules;
 mod judging;
 mod movement_rules;
@@ -12,3 +13,4 @@ mod named_rules;
 mod tables;
 
 pub use book::Book;
+pub use entering::EnterFault;

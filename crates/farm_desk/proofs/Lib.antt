@@ -1,0 +1,17 @@
+pub mod Traces
+pub mod Growing
+pub mod Settling
+pub mod Keeping
+pub mod SitesRead
+pub mod Decoded
+pub mod Acceptance
+pub mod OneHistory
+pub mod NotRefused
+pub mod Refusing
+pub mod Judging
+pub mod Made
+pub mod Durable
+pub mod Finishing
+pub mod Answered
+pub mod Answering
+pub mod Asked

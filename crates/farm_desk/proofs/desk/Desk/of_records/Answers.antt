@@ -1,0 +1,24 @@
+use Rattle.std.proofs.Common.{◌≡◌, length, ap, arith}
+use Rattle.farm_desk.proofs.Made.{images_from, images_now}
+use Rattle.farm_desk.proofs.desk.Desk.of_records.Goals as goal
+
+pub invariant_of-result : goal.invariant_of-result
+invariant_of-result g c =
+    let counted : length c.entries.result.now ≡ length c.args.book.history.entries = ap length c.entries.ensures.entries in
+    record {
+      records = c.requires.kept;
+      since = images_from g.D.Disk.trace g.row.LIMIT c.args.book.history c.args.journal c.stand-stand.result.moment (length c.entries.result.now)
+          c.requires.kept c.stand-stand.ensures.states (omega arith);
+      counted = omega (arith, c.stand-stand.ensures.faults);
+      least = omega arith;
+    }
+
+pub returns-clause-durable : goal.returns-clause-durable
+returns-clause-durable g c =
+    let counted : length c.entries.result.now ≡ length c.args.book.history.entries = ap length c.entries.ensures.entries in
+    record {
+      since = images_from g.D.Disk.trace g.row.LIMIT c.args.book.history c.args.journal c.stand-stand.result.moment (length c.entries.result.now)
+          c.requires.kept c.stand-stand.ensures.states (omega arith);
+      now = images_now g.D.Disk.trace g.row.LIMIT c.args.book.history c.args.journal c.requires.kept;
+      counted = omega (arith, c.stand-stand.ensures.faults);
+    }

@@ -1,0 +1,15 @@
+use Rattle.farm_desk.proofs.SitesRead.{PartsAreRead}
+use Rattle.farm_desk.specs.Histories.{IsRecordable}
+use Rattle.farm_desk.proofs.Judging.{of_history}
+use Rattle.farm_desk.proofs.Refusing.{refused_as}
+use Rattle.farm_desk.proofs.recovering.Recovering.refusals.Goals as goal
+
+pub returns : goal.returns
+returns g c =
+    let all = c.reading_laws.ensures in
+    let laws : PartsAreRead = record { heads = all.heads; products = all.products; parties = all.parties; tanks = all.tanks; lines = all.lines } in
+    let limit = g.row.LIMIT in
+    record {
+      refused = λ bytes fault refusal.
+          refused_as laws limit c.args.self.now bytes fault (of_history (IsRecordable limit) c.self.inside.book c.args.self.now c.self.view_is c.self.invariant.1) refusal;
+    }

@@ -1,0 +1,53 @@
+-- A desk, as callers see it, and what holds of every desk.
+use Rattle.std.specs.Prelude.{◌≡◌, ℕ, ◌+◌, ◌-◌, ◌^◌, ◌≤◌, min, Bool, false, List, Option, Result, Ok, Err}
+use Rattle.farm_base.specs.Counts.{RoseBy}
+use Rattle.farm_disk.specs.Images.{State}
+use Rattle.farm_disk.specs.Runs.{EachNow}
+use Rattle.farm_history.specs.History.{History}
+use Rattle.farm_journal.specs.Standing.{JournalState}
+use Rattle.farm_desk.specs.Histories.{RecoversFront, RecoversNow, certain}
+use Rattle.farm_desk.specs.Moments.{EachFrom}
+use Rattle.farm_desk.specs.Records.{AreRecords}
+use Rattle.farm_desk.specs.declared.opened.Opened.{Opened}
+
+-- A desk: its disk and its history; whether the last entry is in doubt; how many of its answers were faults of the disk; and how it
+-- stood when it was made.
+pub record DeskState (D : Type 0) : Type 0 where
+  pub disk : D
+  pub history : History
+  pub doubt : Bool
+  pub failed : ℕ
+  pub opened : Opened
+
+-- What holds of every desk. Each image that a crash may leave at a moment since it was made stands for a front of its history, with at
+-- least the entries that it was made with. Each that a crash may leave now stands for its history; or, where the last entry is in doubt,
+-- for that or for the history without it. Its answers that were faults of the disk are no more than its disk counted since.
+pub record IsDurable {D : Type 0} (trace : D → Option (List State)) (faults : D → ℕ) (limit : ℕ) (desk : DeskState D) : Type 0 where
+  pub since : EachFrom (trace desk.disk) desk.opened.moment (RecoversFront limit desk.history desk.opened.entries)
+  pub now : EachNow (trace desk.disk) (RecoversNow limit desk.doubt desk.history)
+  pub counted : RoseBy desk.failed desk.opened.faults (faults desk.disk)
+
+-- one more than a count, which stands still at the last `u64`
+abbrev pub one_more : ℕ → ℕ
+one_more count = min (count + 1) (2 ^ 64 - 1)
+
+-- A desk as it is made: nothing is in doubt, no answer was a fault, and it stands as it did when it was made.
+pub record IsNew {D : Type 0} (moment faults : D → ℕ) (desk : DeskState D) (entries : ℕ) : Type 0 where
+  pub certain : desk.doubt ≡ false
+  pub unfailed : desk.failed ≡ 0
+  pub entries_is : desk.opened.entries ≡ entries
+  pub moment_is : desk.opened.moment ≡ moment desk.disk
+  pub faults_is : desk.opened.faults ≡ faults desk.disk
+
+-- A desk stands on a journal: the journal keeps its history, what a crash left at each moment since it was made is as it holds of every
+-- desk, and at least the entries that it was made with aren't in doubt.
+pub record IsDesk {D : Type 0} (trace : D → Option (List State)) (faults : D → ℕ) (limit : ℕ) (desk : DeskState D) (journal : JournalState D) : Type 0 where
+  pub records : AreRecords trace limit desk.doubt desk.history journal
+  pub since : EachFrom (trace desk.disk) desk.opened.moment (RecoversFront limit desk.history desk.opened.entries)
+  pub counted : RoseBy desk.failed desk.opened.faults (faults desk.disk)
+  pub least : desk.opened.entries ≤ certain desk.doubt desk.history
+
+-- the disk of a desk that was made, or the one that is given back with a refusal
+abbrev pub disk_left : {D F : Type 0} → Result (DeskState D) (D × F) → D
+disk_left (Ok desk) = desk.disk
+disk_left (Err refusal) = refusal.0

@@ -1,0 +1,70 @@
+//! What a desk answers.
+
+ghost use Rattle.std.specs.Prelude.{◌≡◌};
+ghost use Rattle.farm_desk.specs.Asking.{answer_of, faults_of};
+
+use farm_base::NoMemory;
+use farm_history::Reply;
+use farm_journal::DiskFault;
+
+/// The answer to a request.
+#[derive(Clone, Copy, Debug, PartialEq, Eq)]
+pub enum Answer {
+    /// It was answered so, and whatever a crash leaves has all that this answer rests on.
+    Done(Reply),
+    /// The disk failed in this call. The request changed nothing, or its command is entered and in doubt: a crash leaves it or not, until
+    /// a later call has opened its gate.
+    DiskFault,
+    /// There was no memory, and the request changed nothing.
+    NoMemory,
+}
+
+impl Answer {
+    // How many faults it is, 1 or 0.
+    pub(crate) fn faults(&self) -> u64
+        ensures faults { result ≡ faults_of self.now }
+    {
+        match self {
+            Answer::DiskFault => 1,
+            Answer::Done(_) | Answer::NoMemory => 0,
+        }
+    }
+}
+
+// Why a request wasn't answered.
+#[derive(Clone, Copy)]
+pub(crate) enum Unanswered {
+    DiskFault,
+    NoMemory,
+}
+
+impl From<DiskFault> for Unanswered {
+    ghost use Rattle.farm_desk.specs.declared.answer.Unanswered.TheVariants.{DiskFault};
+
+    ghost from_gives = { λ _ why. why ≡ DiskFault };
+
+    fn from(_: DiskFault) -> Self {
+        Unanswered::DiskFault
+    }
+}
+
+impl From<NoMemory> for Unanswered {
+    ghost use Rattle.farm_desk.specs.declared.answer.Unanswered.TheVariants.{NoMemory};
+
+    ghost from_gives = { λ _ why. why ≡ NoMemory };
+
+    fn from(_: NoMemory) -> Self {
+        Unanswered::NoMemory
+    }
+}
+
+// The answer of a reply, or of why there is none.
+pub(crate) fn answer_of(replied: Result<Reply, Unanswered>) -> Answer
+    ensures answer { result ≡ answer_of replied }
+{
+    match replied {
+        Ok(reply) => Answer::Done(reply),
+        Err(Unanswered::DiskFault) => Answer::DiskFault,
+        Err(Unanswered::NoMemory) => Answer::NoMemory,
+    }
+}

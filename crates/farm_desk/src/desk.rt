@@ -1,0 +1,153 @@
+//! The desk.
+
+ghost use Rattle.std.specs.Prelude.{◌≡◌, ◌≢◌, ◌+◌, ◌≤◌, false, true};
+ghost use Rattle.farm_base.specs.Counts.{Rose, RoseBy};
+ghost use Rattle.farm_disk.specs.Runs.{EachNow, Extends};
+ghost use Rattle.farm_history.specs.Desk.{IsWellFormedAsk, desk_answer};
+ghost use Rattle.farm_history.specs.History.{last_place};
+ghost use Rattle.farm_history.specs.declared.limits.TheConstants.{GREATEST_LIMIT};
+ghost use Rattle.farm_desk.specs.Asking.{IsAnswered, KeepsAcknowledged, KeepsFront};
+ghost use Rattle.farm_desk.specs.Histories.{RecoversFront, RecoversNow, certain};
+ghost use Rattle.farm_desk.specs.Moments.{EachFrom};
+ghost use Rattle.farm_desk.specs.Records.{AreRecords};
+ghost use Rattle.farm_desk.specs.States.{IsDurable, IsNew, one_more};
+
+use crate::answer::answer_of;
+use crate::records::Records;
+use crate::{Answer, Opened};
+use farm_book::Book;
+use farm_disk::Disk;
+use farm_history::Ask;
+use farm_journal::Journal;
+use std::marker::Model;
+
+/// A custody desk on a disk: a book of at most `LIMIT` entries, and Stops beyond them, and the journal that keeps it.
+///
+/// Whatever a crash leaves on the disk, a desk that is recovered from it has a front of this desk's entries, with each that was answered
+/// `Done`.
+#[derive(Drop)]
+pub struct Desk<D: Disk, const LIMIT: usize> {
+    records: Records<D, LIMIT>,
+    opened: Opened,
+    failed: u64,
+}
+
+impl<D: Disk, const LIMIT: usize> Model for Desk<D, LIMIT> {
+    ghost use Rattle.farm_desk.specs.States.{DeskState, IsDesk};
+
+    ghost Value = { DeskState D };
+
+    ghost view = { λ desk. record { disk = desk.records.journal.disk; history = desk.records.book.history; doubt = desk.records.doubt; failed = desk.failed; opened = desk.opened } };
+
+    ghost invariant = { λ desk. IsDesk D.trace D.faults LIMIT
+        (record { disk = desk.records.journal.disk; history = desk.records.book.history; doubt = desk.records.doubt; failed = desk.failed; opened = desk.opened })
+        desk.records.journal };
+}
+
+impl<D: Disk, const LIMIT: usize> Desk<D, LIMIT> {
+    // The desk of a book and its journal, in which nothing is in doubt.
+    pub(crate) fn of_records(journal: Journal<D>, book: Book<LIMIT>, bytes: Vec<u8>) -> Self
+        requires limit { LIMIT ≤ GREATEST_LIMIT }
+        requires kept { AreRecords D.trace LIMIT false book.history journal }
+        ensures history { result.history ≡ book.entry.history }
+        ensures disk { result.disk ≡ journal.disk }
+        ensures new { IsNew D.moment D.faults result (last_place book.entry.history) }
+        ensures durable { IsDurable D.trace D.faults LIMIT result }
+    {
+        let stand = journal.stand();
+        let opened = Opened {
+            entries: book.entries().len() as u32,
+            moment: stand.moment,
+            faults: stand.faults,
+        };
+        Desk {
+            records: Records {
+                journal,
+                book,
+                doubt: false,
+                bytes,
+            },
+            opened,
+            failed: 0,
+        }
+    }
+
+    /// Answers one request of a caller at a number of the clock, in seconds since 1970-01-01 00:00:00 UTC.
+    ///
+    /// It first opens the gate of an entry in doubt. A command that is accepted is then put into the journal, entered in the book, and its
+    /// gate is opened. A look-up, a refused command and a repeat make no call on the disk where nothing is in doubt.
+    pub fn ask(&mut self, caller: u32, now: i64, ask: &Ask) -> Answer
+        requires well_formed { IsWellFormedAsk ask.now }
+        ensures answered { IsAnswered self.old.history self.new.history self.new.doubt (desk_answer LIMIT self.old.history caller now ask.now) result }
+        ensures durable { IsDurable D.trace D.faults LIMIT self.new }
+        ensures since_call { KeepsFront D.trace LIMIT self.old self.new.disk self.new.history }
+        ensures acknowledged { KeepsAcknowledged D.trace LIMIT self.old self.new.disk }
+        ensures certain { certain self.old.doubt self.old.history ≤ certain self.new.doubt self.new.history }
+        ensures untouched { self.old.doubt ≡ false →
+            (desk_answer LIMIT self.old.history caller now ask.now).history ≡ self.old.history → self.new.disk ≡ self.old.disk }
+        ensures extends { Extends (D.trace self.old.disk) (D.trace self.new.disk) }
+        ensures moment { D.moment self.old.disk ≤ D.moment self.new.disk }
+        ensures never_falls { D.faults self.old.disk ≤ D.faults self.new.disk }
+        ensures cause { result ≡ Answer.DiskFault → Rose (D.faults self.old.disk) (D.faults self.new.disk) }
+        ensures quiet { result ≢ Answer.DiskFault → D.faults self.new.disk ≡ D.faults self.old.disk }
+        ensures failed { result ≡ Answer.DiskFault → self.new.failed ≡ one_more self.old.failed }
+        ensures not_failed { result ≢ Answer.DiskFault → self.new.failed ≡ self.old.failed }
+        ensures opened { self.new.opened ≡ self.old.opened }
+    {
+        let answer = answer_of(self.records.answer(caller, now, ask));
+        self.failed = self.failed.saturating_add(answer.faults());
+        answer
+    }
+
+    /// The book: the site and the entries, the last one maybe in doubt.
+    pub fn book(&self) -> &Book<LIMIT>
+        ensures history { result.now.history ≡ self.now.history }
+        ensures durable { IsDurable D.trace D.faults LIMIT self.now }
+    {
+        &self.records.book
+    }
+
+    /// How many of its answers were `DiskFault`. The count stands still at the last `u64`.
+    pub fn failed(&self) -> u64
+        ensures count { result ≡ self.now.failed }
+        ensures durable { IsDurable D.trace D.faults LIMIT self.now }
+    {
+        self.failed
+    }
+
+    /// Whether its last entry is in doubt: a crash leaves it or not.
+    pub fn doubt(&self) -> bool
+        ensures doubt { result ≡ self.now.doubt }
+        ensures durable { IsDurable D.trace D.faults LIMIT self.now }
+    {
+        self.records.doubt
+    }
+
+    /// How it stood when it was made.
+    pub fn opened(&self) -> Opened
+        ensures opened { result ≡ self.now.opened }
+    {
+        self.opened
+    }
+
+    /// Its disk, after it has opened the gate of an entry in doubt once more, and whether that entry is still in doubt.
+    ///
+    /// Where nothing is in doubt it makes no call. Takes no memory.
+    pub fn finish(self) -> (D, bool)
+        ensures untouched { self.doubt ≡ false → (result.0 ≡ self.disk) × (result.1 ≡ false) }
+        ensures since { EachFrom (D.trace result.0) self.opened.moment (RecoversFront LIMIT self.history self.opened.entries) }
+        ensures now { EachNow (D.trace result.0) (RecoversNow LIMIT result.1 self.history) }
+        ensures acknowledged { KeepsAcknowledged D.trace LIMIT self result.0 }
+        ensures extends { Extends (D.trace self.disk) (D.trace result.0) }
+        ensures moment { D.moment self.disk ≤ D.moment result.0 }
+        ensures never_falls { D.faults self.disk ≤ D.faults result.0 }
+        ensures cause { result.1 ≡ true → Rose (D.faults self.disk) (D.faults result.0) }
+        ensures quiet { result.1 ≡ false → D.faults result.0 ≡ D.faults self.disk }
+        ensures counted { RoseBy self.failed self.opened.faults (D.faults result.0) }
+        ensures counted_once_more { result.1 ≡ true → RoseBy (self.failed + 1) self.opened.faults (D.faults result.0) }
+    {
+        let mut records = self.records;
+        let doubt = records.settle().is_err();
+        (records.journal.into_disk(), doubt)
+    }
+}

@@ -1,0 +1,20 @@
+//! The custody desk: a book, and the journal on a disk that keeps it whatever a crash does.
+//!
+//! A desk answers one request after another, as `farm_history` defines the answers. A command that is accepted is in the journal before
+//! its answer is given. docs/architecture.md says what a crash leaves at each moment.
+#![tactic(auto)]
+
+mod answer;
+mod asking;
+mod desk;
+mod desk_laws;
+mod making;
+mod opened;
+mod records;
+mod recovering;
+
+pub use answer::Answer;
+pub use desk::Desk;
+pub use desk_laws::laws;
+pub use farm_journal::{CreateFault, RecoverFault};
+pub use opened::Opened;
