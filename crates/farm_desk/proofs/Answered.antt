@@ -1,6 +1,5 @@
 -- What each image stands for over the steps in which a request is answered.
-use Rattle.std.proofs.Common.{◌≡◌, ◌∙◌, ℕ, Bool, false, List, Option, Some, None, sym, ap, subst}
-use Rattle.std.proofs.Math.Seq.{take-length}
+use Rattle.std.proofs.Common.{◌≡◌, ◌∙◌, ℕ, Bool, false, List, Option, sym, ap, subst}
 use Rattle.farm_book.specs.Kept.{Kept}
 use Rattle.farm_disk.specs.Images.{State}
 use Rattle.farm_disk.specs.Runs.{EachSince, Extends}
@@ -10,12 +9,8 @@ use Rattle.farm_journal.specs.Standing.{JournalState}
 use Rattle.farm_journal.proofs.MakingSteps.{extends_more}
 use Rattle.farm_desk.specs.Histories.{HasGrown, Recovers, RecoversFront, certain}
 use Rattle.farm_desk.specs.Records.{AreRecords}
+use Rattle.farm_desk.proofs.Traces.{extends_same}
 use Rattle.farm_desk.proofs.Keeping.{answered_since, certain_within, entered_since, put_since, unchanged_since}
-
--- states extend themselves
-pub extends_same : (trace : Option (List State)) → Extends trace trace
-extends_same None = tt
-extends_same (Some states) = take-length states
 
 module _ {D : Type 0} (trace : D → Option (List State)) (limit : ℕ) (old_history taken_history : History) (old taken : D)
     (same_history : taken_history ≡ old_history) (same : taken ≡ old) where

@@ -10,7 +10,7 @@ use Rattle.farm_history.specs.Verdicts.{IsLegal}
 use Rattle.farm_history.proofs.EntryReader.{entry_only}
 use Rattle.farm_site.specs.Decoding.{whole_site}
 use Rattle.farm_site.specs.Encoding.{site_encoding}
-use Rattle.farm_desk.proofs.SitesRead.{PartsAreRead, site_only}
+use Rattle.farm_site.proofs.BytesRead.{PartsAreRead, site_only}
 use Rattle.farm_desk.specs.Accepting.{after, entries_of, history_with}
 use Rattle.farm_desk.specs.Histories.{IsRecordable, entry_encodings}
 

@@ -13,7 +13,7 @@ use Rattle.farm_history.specs.Verdicts.{IsNext, IsVerdict}
 use Rattle.farm_history.proofs.Verdicts.{verdicts_mean}
 use Rattle.farm_site.specs.Described.{Described}
 use Rattle.farm_site.specs.Encoding.{IsSite, site_encoding}
-use Rattle.farm_desk.proofs.SitesRead.{PartsAreRead}
+use Rattle.farm_site.proofs.BytesRead.{PartsAreRead}
 use Rattle.farm_desk.specs.Accepting.{accepted_next, taken_of}
 use Rattle.farm_desk.specs.Histories.{IsRecordable}
 use Rattle.farm_desk.specs.Recovery.{IsSiteEncoding}

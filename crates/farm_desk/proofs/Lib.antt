@@ -2,7 +2,6 @@ pub mod Traces
 pub mod Growing
 pub mod Settling
 pub mod Keeping
-pub mod SitesRead
 pub mod Decoded
 pub mod Acceptance
 pub mod OneHistory

@@ -1,10 +1,9 @@
 -- A desk that was made: a journal that keeps its history, and what a crash leaves of it.
 use Rattle.std.proofs.Common.{◌≡◌, inl, inr, ⊎_elim, ℕ, ◌+◌, ◌<◌, ◌≤◌, false, List, [], length, Option, Some, None, IsSome, refl, sym, subst, arith}
-use Rattle.std.proofs.lemmas.List.{take_all}
 use Rattle.std.proofs.lemmas.List.Elements.{All-nil}
 use Rattle.farm_base.specs.Known.{WhereKnown}
 use Rattle.farm_disk.specs.Images.{State, present}
-use Rattle.farm_disk.specs.Runs.{EachNow, Extends}
+use Rattle.farm_disk.specs.Runs.{EachNow}
 use Rattle.farm_history.specs.Encoding.{IsTyped}
 use Rattle.farm_history.specs.History.{History, empty_history, last_place}
 use Rattle.farm_history.proofs.Legal.{empty_is_legal}
@@ -91,8 +90,3 @@ crash_safe limit site header old new header_is sound safe = λ short.
 pub untouched_safe : (limit : ℕ) (site : Described) (trace : Option (List State)) → IsCrashSafe limit site trace trace
 untouched_safe limit site trace = λ short.
     since_now (IsNoneOrEmpty limit site) trace (now_weaker (λ image. length image < 13) (IsNoneOrEmpty limit site) trace (λ image few. inl (inl few)) short)
-
--- states extend themselves
-pub extends_same : (trace : Option (List State)) → Extends trace trace
-extends_same None = tt
-extends_same (Some states) = take_all (length states) states (omega arith)

@@ -11,7 +11,7 @@ use Rattle.farm_history.specs.Verdicts.{IsNext}
 use Rattle.farm_journal.specs.Recovery.{Accepts, AreAccepted, IsRecordDamaged, after_signature, counted_in}
 use Rattle.farm_journal.proofs.OneReading.{whole_is_not_refused}
 use Rattle.farm_site.specs.Encoding.{site_encoding}
-use Rattle.farm_desk.proofs.SitesRead.{PartsAreRead}
+use Rattle.farm_site.proofs.BytesRead.{PartsAreRead}
 use Rattle.farm_desk.specs.Accepting.{taken_of}
 use Rattle.farm_desk.specs.Histories.{IsRecordable, Recovers, entry_encodings}
 use Rattle.farm_desk.specs.Laws.{RecoveredIsNotRefused}

@@ -6,7 +6,7 @@ use Rattle.farm_history.specs.History.{History}
 use Rattle.farm_journal.proofs.OneReading.{one_reading}
 use Rattle.farm_site.specs.Decoding.{whole_site}
 use Rattle.farm_site.specs.Encoding.{site_encoding}
-use Rattle.farm_desk.proofs.SitesRead.{PartsAreRead}
+use Rattle.farm_site.proofs.BytesRead.{PartsAreRead}
 use Rattle.farm_desk.specs.Accepting.{entries_of, history_with}
 use Rattle.farm_desk.specs.Histories.{IsRecordable, entry_encodings}
 use Rattle.farm_desk.specs.Laws.{OneHistory}

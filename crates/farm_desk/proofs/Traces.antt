@@ -1,11 +1,16 @@
 -- What a crash may leave over calls in a row.
 use Rattle.std.proofs.Common.{◌≡◌, ⊎_elim, ℕ, ◌+◌, ◌-◌, List, [], length, Option, Some, None, sym, ap, ◌∙◌, subst, arith}
 use Rattle.std.proofs.lemmas.Bool.{cases_lt}
-use Rattle.std.proofs.lemmas.List.{get_or-take}
+use Rattle.std.proofs.lemmas.List.{get_or-take, take_all}
 use Rattle.farm_base.specs.Known.{WhereKnown}
 use Rattle.farm_disk.specs.Images.{IsCrashImage, State, at_rest, state_at}
 use Rattle.farm_disk.specs.Runs.{EachNow, EachSince, Extends}
 use Rattle.farm_desk.specs.Moments.{EachFrom}
+
+-- states extend themselves
+pub extends_same : (trace : Option (List State)) → Extends trace trace
+extends_same None = tt
+extends_same (Some states) = take_all (length states) states (omega arith)
 
 -- what holds now holds over no call
 pub since_now : (P : List ℕ → Type 0) (trace : Option (List State)) → EachNow trace P → EachSince trace trace P

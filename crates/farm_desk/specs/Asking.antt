@@ -1,14 +1,12 @@
 -- What a desk answers, and which history it leaves.
 use Rattle.std.specs.Prelude.{◌≡◌, ◌⊎◌, ℕ, ◌<◌, ◌≤◌, Bool, true, false, List, length, Option, Result, Ok, Err}
 use Rattle.farm_disk.specs.Images.{State}
-use Rattle.farm_disk.specs.Runs.{EachSince}
+use Rattle.farm_disk.specs.Runs.{EachNow, EachSince}
 use Rattle.farm_history.specs.Desk.{Answered}
-use Rattle.farm_history.specs.History.{History}
+use Rattle.farm_history.specs.History.{History, empty_history}
 use Rattle.farm_history.specs.declared.reply.Reply.{Reply}
 use Rattle.farm_journal.specs.Recovery.{IsNotJournal}
 use Rattle.farm_site.specs.Described.{Described}
-use Rattle.farm_history.specs.History.{empty_history}
-use Rattle.farm_disk.specs.Runs.{EachNow}
 use Rattle.farm_desk.specs.Histories.{Recovers, RecoversAtLeast, RecoversFront, certain}
 use Rattle.farm_desk.specs.Moments.{EachFrom}
 use Rattle.farm_desk.specs.States.{DeskState}

@@ -1,4 +1,4 @@
 mod RoundingRows
 pub mod TankFacts
 pub mod Meaning
-mod BytesRead
+pub mod BytesRead

@@ -1,6 +1,7 @@
 use Rattle.std.proofs.Common.{◌∙◌, ap, refl}
 use Rattle.farm_book.specs.Kept.{Kept}
-use Rattle.farm_desk.proofs.Answered.{entered_extends, entered_images, extends_same, put_images, taken_extends, taken_images}
+use Rattle.farm_desk.proofs.Answered.{entered_extends, entered_images, put_images, taken_extends, taken_images}
+use Rattle.farm_desk.proofs.Traces.{extends_same}
 use Rattle.farm_desk.proofs.records.Records.judge.Goals as goal
 
 -- src/asking.rt:94:17

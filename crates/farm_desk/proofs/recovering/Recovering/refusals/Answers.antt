@@ -1,4 +1,4 @@
-use Rattle.farm_desk.proofs.SitesRead.{PartsAreRead}
+use Rattle.farm_site.proofs.BytesRead.{PartsAreRead}
 use Rattle.farm_desk.specs.Histories.{IsRecordable}
 use Rattle.farm_desk.proofs.Judging.{of_history}
 use Rattle.farm_desk.proofs.Refusing.{refused_as}

@@ -1,7 +1,7 @@
 use Rattle.std.proofs.Common.{arith}
 use Rattle.site_reading.specs.Readers.{IsBytes}
 use Rattle.farm_site.specs.Sites.{described}
-use Rattle.farm_desk.proofs.SitesRead.{PartsAreRead}
+use Rattle.farm_site.proofs.BytesRead.{PartsAreRead}
 use Rattle.farm_desk.specs.Accepting.{taken_of}
 use Rattle.farm_desk.proofs.Judging.{header_accepted, header_refused}
 use Rattle.farm_desk.proofs.recovering.RecoveringTaker.header.Goals as goal
