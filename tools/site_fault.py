@@ -271,7 +271,7 @@ def tenths(block, key):
 
 
 def bad_course(course):
-    """Why a course is none."""
+    """Why a course isn't one."""
     if course["height"] == 0:
         return "its height is 0"
     left = 0
@@ -285,7 +285,7 @@ def bad_course(course):
 
 
 def bad_deadwood(deadwood, points):
-    """Why a deadwood is none."""
+    """Why a deadwood isn't one."""
     if deadwood["low"] >= deadwood["high"]:
         return "low isn't below high"
     if points and deadwood["low"] < points[-1][0]:
@@ -294,7 +294,7 @@ def bad_deadwood(deadwood, points):
 
 
 def bad_point(earlier, point):
-    """Why a point of a bottom is none."""
+    """Why a point of a bottom isn't one."""
     if not earlier and point[0] != 0:
         return "the first point isn't at 0 mm"
     if earlier and point[0] <= earlier[-1][0]:

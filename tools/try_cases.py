@@ -1,5 +1,6 @@
 #!/usr/bin/env python3
-"""Tries site_fault.py on each case of crates/farm_cases/data that ends in a refused site, or in a port fault without a failing call.
+"""Tries site_fault.py on each case of `table` and `init` in crates/farm_cases/data that ends in a refused site, or in a port fault
+without a failing call.
 
 Use: tools/try_cases.py
 It prints how many cases there are, and each one whose fault isn't found. It ends with 1 where one isn't.
@@ -52,7 +53,7 @@ def main():
         for case in cases:
             fails = any(key.endswith("_fails") for key in case)
             refused = str(case.get("output", "")).startswith(("site refused", "port fault"))
-            if refused and not fails and case["words"][:1] == ["table"]:
+            if refused and not fails and case["words"][:1] in (["table"], ["init"]):
                 tried += 1
                 if not is_found(case):
                     missed.append(f"{os.path.basename(path)}: {case['name']}")

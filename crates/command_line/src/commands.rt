@@ -1,7 +1,7 @@
 //! The arguments as a command, and what they name.
 
-ghost use Rattle.std.specs.Prelude.{◌≡◌, ◌≤◌, [], IfSome, length, map, string_bytes};
-ghost use Rattle.command_line.specs.Commands.{command_named, command_of, option_names, site_folder, site_value};
+ghost use Rattle.std.specs.Prelude.{◌≡◌, ◌≤◌, [], IfSome, IsSome, length, map, string_bytes};
+ghost use Rattle.command_line.specs.Commands.{command_named, command_of, journal_file, option_names, site_folder, value_of};
 
 use crate::options::{are_options, option_in};
 use std::alloc::Global;
@@ -11,9 +11,11 @@ use std::alloc::Global;
 pub enum Subcommand {
     /// The figures of observed volumes or of levels; no option.
     Calc,
+    /// The journal of a site, without an entry; options `site` and `journal`.
+    Init,
     /// The issued capacity tables of a site; option `site`.
     Table,
-    /// Requests to the desk of a site, a line each; option `site`.
+    /// Requests to the desk of a journal, a line each; option `journal`.
     Batch,
 }
 
@@ -36,6 +38,7 @@ impl Subcommand {
     {
         match word {
             "calc" => Some(Subcommand::Calc),
+            "init" => Some(Subcommand::Init),
             "table" => Some(Subcommand::Table),
             "batch" => Some(Subcommand::Batch),
             _ => None,
@@ -49,21 +52,36 @@ impl Subcommand {
     {
         match self {
             Subcommand::Calc => &[],
-            Subcommand::Table | Subcommand::Batch => &["site"],
+            Subcommand::Init => &["site", "journal"],
+            Subcommand::Table => &["site"],
+            Subcommand::Batch => &["journal"],
         }
     }
 }
 
 /// The site's folder and the journal's file that the arguments name, with which `main` opens them.
 ///
-/// An empty text stands for an option that the command doesn't have, and both are empty for arguments out of form. No command
-/// has a journal yet. `None` is out of memory alone.
+/// An empty text stands for an option that the command doesn't have, and both are empty for arguments out of form. `None` is
+/// out of memory alone.
 pub fn places(alloc: Global, words: &[String]) -> Option<(String, String)>
     ensures site { IfSome result (λ places. string_bytes places.0 ≡ site_folder (map string_bytes words.now)) }
-    ensures journal { IfSome result (λ places. string_bytes places.1 ≡ []) }
+    ensures journal { IfSome result (λ places. string_bytes places.1 ≡ journal_file (map string_bytes words.now)) }
+    ensures unnamed { site_folder (map string_bytes words.now) ≡ [] → journal_file (map string_bytes words.now) ≡ [] → IsSome result }
 {
-    let site = String::from_str(alloc, site_folder(words)).ok()?;
-    Some((site, String::new(alloc)))
+    let site = owned(alloc, site_folder(words))?;
+    let journal = owned(alloc, journal_file(words))?;
+    Some((site, journal))
+}
+
+// A text as one of its own. An empty one takes no memory.
+fn owned(alloc: Global, text: &str) -> Option<String>
+    ensures text { IfSome result (λ owned. string_bytes owned ≡ text.now) }
+    ensures empty { text.now ≡ [] → IsSome result }
+{
+    if text.is_empty() {
+        return Some(String::new(alloc));
+    }
+    String::from_str(alloc, text).ok()
 }
 
 // The site's folder that the arguments name, an empty text where they name none.
@@ -71,17 +89,27 @@ fn site_folder(words: &[String]) -> &str
     ensures { result.now ≡ site_folder (map string_bytes words.now) }
 {
     match Subcommand::of_words(words) {
-        Some(Subcommand::Table | Subcommand::Batch) => site_value(words),
-        Some(Subcommand::Calc) | None => "",
+        Some(Subcommand::Init | Subcommand::Table) => value_of("site", words),
+        Some(Subcommand::Calc | Subcommand::Batch) | None => "",
     }
 }
 
-// The value of the option `site` after the first word.
-fn site_value(words: &[String]) -> &str
-    ensures { result.now ≡ site_value (map string_bytes words.now) }
+// The journal's file that the arguments name, an empty text where they name none.
+fn journal_file(words: &[String]) -> &str
+    ensures { result.now ≡ journal_file (map string_bytes words.now) }
+{
+    match Subcommand::of_words(words) {
+        Some(Subcommand::Init | Subcommand::Batch) => value_of("journal", words),
+        Some(Subcommand::Calc | Subcommand::Table) | None => "",
+    }
+}
+
+// The value of an option after the first word, an empty text where there is no option.
+fn value_of<'a>(name: &str, words: &'a [String]) -> &'a str
+    ensures { result.now ≡ value_of name.now (map string_bytes words.now) }
 {
     match words {
-        [_, options @ ..] => match option_in("site", options) {
+        [_, options @ ..] => match option_in(name, options) {
             Some(option) => option.value,
             None => "",
         },

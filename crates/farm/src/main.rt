@@ -1,14 +1,15 @@
 //! `farm`, the custody desk of a tank terminal.
 //!
-//! `main` hands the real ports to `farm_run::run`, which does all that the program does. docs/definitions.md states what each
-//! command reads and prints.
+//! `main` hands the real ports and the real disk to `farm_run::run`, which does all that the program does. docs/definitions.md states what
+//! each command reads and prints.
 #![tactic(auto)]
 
 ghost use Rattle.std.specs.Prelude.{◌≡◌, ◌⊎◌, IfSome, None, Some, map, string_bytes};
-ghost use Rattle.command_line.specs.Commands.{command_of, site_folder};
-ghost use Rattle.command_line.specs.declared.commands.Subcommand.TheVariants.{Batch, Calc, Table};
+ghost use Rattle.command_line.specs.Commands.{command_of, journal_file, site_folder};
+ghost use Rattle.command_line.specs.declared.commands.Subcommand.TheVariants.{Batch, Calc, Init, Table};
 
 use command_line::places;
+use farm_disk::FileDisk;
 use farm_ports::{DirFolder, StdSink, StdSource, SystemClock};
 use farm_run::{report_no_memory, run};
 use std::process::ExitCode;
@@ -20,17 +21,20 @@ fn arguments(rt: &(impl Env + AllocGlobal)) -> io::Result<Vec<String>> {
     Ok(env::args(rt)?.skip(1).collect(rt.alloc())?)
 }
 
-// Runs the arguments over the real ports. What they don't name is opened by no command. Its status is one of their command's.
+// Runs the arguments over the real ports and the real disk. What they don't name is opened by no command. Its status is one of their
+// command's.
 fn run_arguments(rt: &HostRuntime, words: &[String]) -> u8
     ensures calc { command_of (map string_bytes words.now) ≡ Some Calc → (result ≡ 0) ⊎ (result ≡ 4) ⊎ (result ≡ 6) ⊎ (result ≡ 7) }
     ensures table { command_of (map string_bytes words.now) ≡ Some Table → (result ≡ 0) ⊎ (result ≡ 2) ⊎ (result ≡ 6) ⊎ (result ≡ 7) }
+    ensures init { command_of (map string_bytes words.now) ≡ Some Init →
+        (result ≡ 0) ⊎ (result ≡ 2) ⊎ (result ≡ 3) ⊎ (result ≡ 5) ⊎ (result ≡ 6) ⊎ (result ≡ 7) }
     ensures batch { command_of (map string_bytes words.now) ≡ Some Batch →
-        (result ≡ 0) ⊎ (result ≡ 2) ⊎ (result ≡ 4) ⊎ (result ≡ 6) ⊎ (result ≡ 7) }
+        (result ≡ 0) ⊎ (result ≡ 3) ⊎ (result ≡ 4) ⊎ (result ≡ 5) ⊎ (result ≡ 6) ⊎ (result ≡ 7) }
     ensures usage { command_of (map string_bytes words.now) ≡ None → (result ≡ 1) ⊎ (result ≡ 6) ⊎ (result ≡ 7) }
 {
     let mut input = StdSource::new(rt.stdin());
     let mut output = StdSink::new(rt.stdout());
-    let Some(mut folder) = folder_named(rt, words) else {
+    let Some((mut folder, disk)) = named_by(rt, words) else {
         return report_no_memory(&mut output);
     };
     let clock = SystemClock::new(rt);
@@ -40,16 +44,24 @@ fn run_arguments(rt: &HostRuntime, words: &[String]) -> u8
         &mut input,
         &mut output,
         &mut folder,
+        disk,
         &clock,
     )
+    .status
 }
 
-// The folder that the arguments name, of an empty path where they name none. `None` is out of memory alone.
-fn folder_named<'a>(rt: &'a HostRuntime, words: &[String]) -> Option<DirFolder<&'a HostRuntime>>
-    ensures folder { IfSome result (λ folder. folder.over ≡ site_folder (map string_bytes words.now)) }
+// The folder and the disk that the arguments name, each of an empty path where they name none. `None` is out of memory alone.
+fn named_by<'a>(
+    rt: &'a HostRuntime,
+    words: &[String],
+) -> Option<(DirFolder<&'a HostRuntime>, FileDisk<&'a HostRuntime>)>
+    ensures folder { IfSome result (λ named. named.0.over ≡ site_folder (map string_bytes words.now)) }
+    ensures disk { IfSome result (λ named. named.1.path ≡ journal_file (map string_bytes words.now)) }
 {
-    let (site, _) = places(rt.alloc(), words)?;
-    Some(DirFolder::new(rt, site))
+    let (site, journal) = places(rt.alloc(), words)?;
+    let folder = DirFolder::new(rt, site);
+    let disk = FileDisk::new(rt, journal);
+    Some((folder, disk))
 }
 
 fn main(rt: HostRuntime) -> ExitCode {

@@ -11,5 +11,7 @@ pub mod OutOfMemory
 pub mod OutcomeSteps
 pub mod Puts
 pub mod SoFar
+pub mod Ends
+pub mod Kept
 pub mod Taken
 pub mod WithinLimits

@@ -1,14 +1,17 @@
 -- What an answer has to be so that it meets the one that is meant.
-use Rattle.std.proofs.Common.{◌≡◌, inl, ℕ, nat_lt, Bool, true, false, cond, ◌&&◌, List, length, Option, None, Some, ℤ, refl, sym, ap, subst, ◌∙◌}
+use Rattle.std.proofs.Common.{◌≡◌, ◌⊎◌, inl, inr, ℕ, ◌<◌, nat_lt, Bool, true, false, cond, ◌&&◌, List, [], ◌∷◌, length, length-append, Option, None, Some, ℤ, refl, sym, ap, subst, ◌∙◌, arith}
+use Rattle.std.proofs.lemmas.Bool.{le-ltb, lt-ltb}
+use Rattle.farm_desk.specs.Asking.{IsAnswered}
+use Rattle.farm_desk.specs.declared.answer.Answer.TheVariants as answers
 use Rattle.farm_history.specs.declared.ask.Ask.{Ask}
 use Rattle.farm_history.specs.declared.ask.Ask.TheVariants.{Do, Look}
-use Rattle.farm_history.specs.declared.command.Command.{Command}
 use Rattle.farm_history.specs.declared.entry.Entry.{Entry}
-use Rattle.farm_history.specs.declared.query.Query.{Query}
 use Rattle.farm_history.specs.declared.reply.Reply.{Reply}
+use Rattle.farm_history.specs.declared.verdict.Verdict.{Verdict}
+use Rattle.farm_history.specs.declared.verdict.Verdict.TheVariants as verdicts
 use Rattle.farm_history.specs.Commands.{is_stop}
-use Rattle.farm_history.specs.Desk.{Answered, answered_on, desk_answer, looked_up, stamped}
-use Rattle.farm_history.specs.History.{History}
+use Rattle.farm_history.specs.Desk.{answered_on, desk_answer, stamped}
+use Rattle.farm_history.specs.History.{History, last_place, with_entry}
 use Rattle.farm_history.specs.Verdicts.{is_accepted, verdict}
 use Rattle.farm_http.specs.Requests.{ask_of_line}
 use Rattle.farm_http.specs.declared.page.Page.{Page}
@@ -16,7 +19,7 @@ use Rattle.farm_http.specs.declared.page.Page.TheVariants as pages
 use Rattle.batch_lines.specs.Reader.{kept}
 use Rattle.batch_lines.specs.declared.limits.TheConstants.{LONGEST_LINE}
 use Rattle.farm_batch.specs.declared.limits.TheConstants.{BATCH_CALLER}
-use Rattle.farm_batch.specs.Answers.{LineAnswer, MeetsLine, answer_to, line_answer, line_too_long, unasked}
+use Rattle.farm_batch.specs.Answers.{LineAnswer, MeetsLine, answer_to, disk_fault, is_accepted_stop, is_stop_ask, line_answer, line_too_long, out_of_memory, unasked}
 
 -- a page, the history that was left and whether the batch ends are those of an answer
 pub record IsMeant (meant : LineAnswer) (after : History) (page : Page) (stops : Bool) : Type 0 where
@@ -29,47 +32,49 @@ pub meets : (before after : History) (meant : LineAnswer) (page : Page) (stops :
     MeetsLine before after meant page stops
 meets before after meant page stops is line = inl (record { page = is.page_is; history = is.history_is; stops = is.stops_is })
 
+-- what stands in place of an answer where there was no memory meets it
+pub meets_memory : (before after : History) (meant : LineAnswer) → (after ≡ before) ⊎ (after ≡ meant.history) → MeetsLine before after meant out_of_memory false
+meets_memory before after meant left line = inr (inl (record { page_is = refl; history = left; stops = refl }))
+
+-- so does what stands where the disk failed
+pub meets_fault : (before after : History) (meant : LineAnswer) → (after ≡ before) ⊎ (after ≡ meant.history) → MeetsLine before after meant disk_fault false
+meets_fault before after meant left line = inr (inr (record { page_is = refl; history = left; stops = refl }))
+
+-- the history that an answer left has more entries exactly where its command was accepted
+grown_where_accepted : (history after : History) (entry : Entry) (judged : Verdict) → after ≡ (answered_on history entry judged).history →
+    nat_lt (last_place history) (last_place after) ≡ is_accepted judged
+grown_where_accepted history after entry verdicts.Accept is =
+    let more : last_place history < last_place (with_entry history entry) = omega (arith, length-append history.entries (entry ∷ [])) in
+    ap (λ (left : History). nat_lt (last_place history) (last_place left)) is ∙ lt-ltb (last_place history) (last_place (with_entry history entry)) more
+grown_where_accepted history after entry (verdicts.Repeat place) is =
+    ap (λ (left : History). nat_lt (last_place history) (last_place left)) is ∙ le-ltb (last_place history) (last_place history) (omega arith)
+grown_where_accepted history after entry (verdicts.Refused rule) is =
+    ap (λ (left : History). nat_lt (last_place history) (last_place left)) is ∙ le-ltb (last_place history) (last_place history) (omega arith)
+
 -- of a Stop that was accepted or not, the answer ends the batch or not
-stops_so : (stop accepted judged stops : Bool) → accepted ≡ judged → stops ≡ (stop && accepted) → stops ≡ cond stop judged false
-stops_so true accepted judged stops is same = same ∙ is
-stops_so false accepted judged stops is same = same
+stops_so : (stop grown judged : Bool) → grown ≡ judged → (stop && grown) ≡ cond stop judged false
+stops_so true grown judged is = is
+stops_so false grown judged is = refl
 
--- what the desk answers to a command is what is meant
-command_is_meant : (limit : ℕ) (before after : History) (now : ℤ) (account key : ℕ) (command : Command) (reply : Reply) (accepted stops : Bool) →
-    desk_answer limit before BATCH_CALLER now (Do account key command) ≡ record { reply = reply; history = after } →
-    accepted ≡ is_accepted (verdict limit before (stamped before BATCH_CALLER now account key command)) →
-    stops ≡ (is_stop command && accepted) →
-    IsMeant (answer_to limit before now (Some (Do account key command))) after (pages.Reply reply) stops
-command_is_meant limit before after now account key command reply accepted stops answered accepted_is stops_is =
-    record {
-      page_is = ap (λ (answer : Answered). pages.Reply answer.reply) (sym answered);
-      history_is = ap (λ (answer : Answered). answer.history) (sym answered);
-      stops_is = stops_so (is_stop command) accepted _ stops accepted_is stops_is;
-    }
+-- a request is a Stop that is accepted exactly where it is a Stop and the history has grown
+entered_stop : (limit : ℕ) (before after : History) (now : ℤ) (ask : Ask) → after ≡ (desk_answer limit before BATCH_CALLER now ask).history →
+    (is_stop_ask ask && nat_lt (last_place before) (last_place after)) ≡ is_accepted_stop limit before now ask
+unfolding desk_answer
+entered_stop limit before after now (Do account key command) is =
+    let entry = stamped before BATCH_CALLER now account key command in
+    stops_so (is_stop command) _ _ (grown_where_accepted before after entry (verdict limit before entry) is)
+entered_stop limit before after now (Look query) is = refl
 
--- what the desk answers to the entry that a request would be is what is meant
-pub desk_is_meant : (limit : ℕ) (before after : History) (now : ℤ) (ask : Ask) (account key : ℕ) (command : Command) (entry : Entry)
-    (reply : Reply) (stop accepted stops : Bool) → ask ≡ Do account key command → entry ≡ stamped before BATCH_CALLER now account key command →
-    answered_on before entry (verdict limit before entry) ≡ record { reply = reply; history = after } →
-    accepted ≡ is_accepted (verdict limit before entry) → stop ≡ is_stop command → stops ≡ (stop && accepted) →
+-- what the desk answers is what is meant
+pub done_is_meant : (limit : ℕ) (before after : History) (doubt : Bool) (now : ℤ) (ask : Ask) (reply : Reply) (stops : Bool) →
+    IsAnswered before after doubt (desk_answer limit before BATCH_CALLER now ask) (answers.Done reply) →
+    stops ≡ (is_stop_ask ask && nat_lt (last_place before) (last_place after)) →
     IsMeant (answer_to limit before now (Some ask)) after (pages.Reply reply) stops
-unfolding desk_answer
-desk_is_meant limit before after now ask account key command entry reply stop accepted stops ask_is entry_is answered accepted_is stop_is stops_is =
-    let answer : Answered = record { reply = reply; history = after } in
-    let Gives : Entry → Type 0 = λ entry. answered_on before entry (verdict limit before entry) ≡ answer in
-    let Judges : Entry → Type 0 = λ entry. accepted ≡ is_accepted (verdict limit before entry) in
-    let Meant : Ask → Type 0 = λ ask. IsMeant (answer_to limit before now (Some ask)) after (pages.Reply reply) stops in
-    subst Meant (sym ask_is)
-    (command_is_meant limit before after now account key command reply accepted stops
-    (subst Gives entry_is answered) (subst Judges entry_is accepted_is) (stops_is ∙ ap (λ stop. stop && accepted) stop_is))
-
--- what the desk answers to a look-up is what is meant
-pub look_is_meant : (limit : ℕ) (before : History) (now : ℤ) (ask : Ask) (query : Query) (reply : Reply) → ask ≡ Look query →
-    reply ≡ looked_up before query → IsMeant (answer_to limit before now (Some ask)) before (pages.Reply reply) false
-unfolding desk_answer
-look_is_meant limit before now ask query reply ask_is reply_is =
-    let Meant : Ask → Type 0 = λ ask. IsMeant (answer_to limit before now (Some ask)) before (pages.Reply reply) false in
-    subst Meant (sym ask_is) (record { page_is = ap (λ reply. pages.Reply reply) reply_is; history_is = refl; stops_is = refl })
+done_is_meant limit before after doubt now ask reply stops answered is = record {
+  page_is = ap (λ (reply : Reply). pages.Reply reply) answered.0;
+  history_is = answered.1;
+  stops_is = is ∙ entered_stop limit before after now ask answered.1;
+}
 
 -- a line that is kept whole isn't too long
 kept_whole : (long : Bool) (line text : List ℕ) → cond long None (Some line) ≡ Some text → (long ≡ false) × (text ≡ line)

@@ -1,12 +1,13 @@
 -- Steps, and one step more after them.
-use Rattle.std.proofs.Common.{◌≡◌, inl, inr, ℕ, suc, ◌+◌, false, List, [], ◌∷◌, ◌++◌, length, ℤ, refl, ap, ◌∙◌, append-nil, arith, length-append}
+use Rattle.std.proofs.Common.{◌≡◌, inl, inr, ℕ, suc, ◌+◌, ◌≤◌, All, false, List, [], ◌∷◌, ◌++◌, length, Some, ℤ, refl, ap, ◌∙◌, append-nil, arith, length-append}
 use Rattle.std.proofs.lemmas.List.{map-append}
 use Rattle.std.proofs.lemmas.Grind.{flat_map-append}
-use Rattle.std.proofs.lemmas.List.Elements.{All-append, All-cons, All-nil}
+use Rattle.std.proofs.lemmas.List.Elements.{All-append, All-cons, All-nil, All-pop, All-push, All-weaker}
 use Rattle.batch_lines.specs.declared.limits.TheConstants.{LINE_FEED}
 use Rattle.batch_lines.specs.Lines.{ended}
-use Rattle.farm_history.specs.History.{History}
-use Rattle.farm_batch.specs.Answers.{AnswersEach, AnswersLine, Step, answer_text, answers_text, history_after}
+use Rattle.farm_base.specs.Counts.{RoseBy}
+use Rattle.farm_history.specs.History.{History, last_place}
+use Rattle.farm_batch.specs.Answers.{AnswersEach, AnswersLine, AreAcknowledged, AsksNothing, IsReply, Step, answer_text, answers_text, faults_in, faults_of, history_after}
 use Rattle.farm_batch.specs.Batches.{GoesOn, lines_of}
 
 -- the lines of steps and of one more
@@ -44,3 +45,26 @@ pub answers_more : (may_give : ℤ → Type 0) (limit : ℕ) (before : History) 
 answers_more may_give limit before [] step each on line = (line, inr refl, tt)
 answers_more may_give limit before (first ∷ steps) step each on line =
     (each.0, inl (on 0 first (omega arith)), answers_more may_give limit first.history steps step each.2 (λ k d within. on (suc k) d (omega arith)) line)
+
+-- the faults in steps and in one more
+faults_in-more : (steps : List Step) (step : Step) → faults_in (steps ++ step ∷ []) ≡ faults_in steps + faults_of step.page
+faults_in-more [] step = omega arith
+faults_in-more (first ∷ steps) step = omega (arith, faults_in-more steps step)
+
+-- a count that rose by the faults in steps, and then by those of one more step, rose by those in all of them
+pub counted_more : (steps : List Step) (step : Step) (before middle after : ℕ) → RoseBy (faults_in steps) before middle →
+    RoseBy (faults_of step.page) middle after → RoseBy (faults_in (steps ++ step ∷ [])) before after
+counted_more steps step before middle after first second = omega (arith, first, second, faults_in-more steps step)
+
+-- steps whose replies rest on as many entries, and one more, where there may be more entries
+pub acknowledged_more : (most more : ℕ) (steps : List Step) (step : Step) → most ≤ more → AreAcknowledged most steps →
+    (IsReply step.page → last_place step.history ≤ more) → AreAcknowledged more (steps ++ step ∷ [])
+acknowledged_more most more steps step fewer each last =
+    All-push (λ (step : Step). IsReply step.page → last_place step.history ≤ more) steps step
+    (All-weaker (λ (step : Step). IsReply step.page → last_place step.history ≤ most) (λ (step : Step). IsReply step.page → last_place step.history ≤ more)
+    (λ step holds reply. omega (arith, holds reply, fewer)) steps each) last
+
+-- where none of these lines asks anything, neither did those before nor the last one
+pub ask_nothing_more : (steps : List Step) (step : Step) → All AsksNothing (lines_of (steps ++ step ∷ [])) → All AsksNothing (lines_of steps) × AsksNothing step.line
+ask_nothing_more steps step nothing =
+    All-pop AsksNothing (lines_of (steps ++ step ∷ [])) (lines_of steps) (Some step.line) (lines_of-more steps step) nothing

@@ -1,11 +1,10 @@
--- A batch that had memory and whose ports didn't fail has the outcome of its site and its input.
+-- A batch that had memory, and in which nothing failed, has the outcome of the history and its input.
 use Rattle.std.proofs.Common.{◌≡◌, ◌≢◌, inl, inr, ℕ, ◌+◌, ◌≤◌, true, List, [], ◌∷◌, ◌++◌, length, Some, ℤ, refl, ap, ap₂, sym, ◌∙◌, append_assoc, append-nil, length-append, subst, arith}
 use Rattle.std.proofs.lemmas.List.{length-map}
 use Rattle.farm_base.specs.Bytes.{parts_at}
 use Rattle.farm_base.specs.Counts.{Count}
 use Rattle.farm_base.specs.Known.{Stream}
-use Rattle.farm_site.specs.Described.{Described}
-use Rattle.farm_history.specs.History.{History, empty_history}
+use Rattle.farm_history.specs.History.{History}
 use Rattle.batch_lines.specs.declared.limits.TheConstants.{LINE_FEED, MOST_BYTES}
 use Rattle.batch_lines.specs.Lines.{BeginsWith, EndsWithin, HasByteTooMany, ended}
 use Rattle.batch_lines.specs.Reader.{AtEnd}
@@ -14,7 +13,7 @@ use Rattle.farm_batch.specs.declared.batch.BatchEnd.TheVariants.{Done, Long, Fai
 use Rattle.farm_batch.specs.declared.limits.TheConstants.{MOST_LINES}
 use Rattle.farm_batch.specs.Answers.{Step, answers_text}
 use Rattle.farm_batch.specs.Batches.{Asks, EndsAs, IsTooMuch, lines_of}
-use Rattle.farm_batch.specs.Outcomes.{HadMemory, OutcomesAreOne, ends_here, is_too_much, outcome, outcome_from, size_of}
+use Rattle.farm_batch.specs.Outcomes.{OutcomesAreOne, WereAnswered, ends_here, is_too_much, outcome, outcome_from, size_of}
 use Rattle.farm_batch.proofs.LineParts.{BeginsLine, begins_line, has_part, part_alone, parts_of_lines}
 use Rattle.farm_batch.proofs.WithinLimits.{Fits, byte_too_many, done_after, done_at_end, ended_fit, ends_after, last_fits, line_too_many, long_at}
 use Rattle.farm_batch.proofs.OutcomeSteps.{EndsSo, outcome_of_steps}
@@ -99,12 +98,12 @@ last_so limit to steps source sink (Long number) ends not_failed = absurd (not_t
 last_so limit to steps source sink Failed ends not_failed = absurd (not_failed refl)
 
 -- a batch whose lines line feeds end has the outcome of its input
-one_outcome_ended : (may_give : ℤ → Type 0) (limit : ℕ) (site : Described) (taken in_hand : List ℕ) (steps : List Step) (to : Stream)
-    (source sink : Count) (end : BatchEnd) → Asks may_give limit (empty_history site) taken in_hand (Some to) steps →
-    BeginsWith taken (lines_of steps) in_hand → EndsAs in_hand (Some to) steps source sink end → end ≢ Failed → HadMemory steps →
-    outcome limit site (taken ++ to.left) ≡ record { text = answers_text steps; end = end }
+one_outcome_ended : (may_give : ℤ → Type 0) (limit : ℕ) (history : History) (taken in_hand : List ℕ) (steps : List Step) (to : Stream)
+    (source sink : Count) (end : BatchEnd) → Asks may_give limit history taken in_hand (Some to) steps →
+    BeginsWith taken (lines_of steps) in_hand → EndsAs in_hand (Some to) steps source sink end → end ≢ Failed → WereAnswered steps →
+    outcome limit history (taken ++ to.left) ≡ record { text = answers_text steps; end = end }
 unfolding outcome
-one_outcome_ended may_give limit site taken in_hand steps to source sink end asks begins ends not_failed had_memory =
+one_outcome_ended may_give limit history taken in_hand steps to source sink end asks begins ends not_failed was_answered =
     let lines = lines_of steps in
     let next = has_part (in_hand ++ to.left) in
     let split : parts_at LINE_FEED (taken ++ to.left) ≡ lines ++ next.first ∷ next.others =
@@ -113,18 +112,18 @@ one_outcome_ended may_give limit site taken in_hand steps to source sink end ask
     let few : 0 + length lines ≤ MOST_LINES = omega (arith, asks.few, length-map steps (λ (step : Step). step.line)) in
     let taken_is : length taken ≡ length (ended lines) + length in_hand = ap length begins.split ∙ length-append (ended lines) in_hand in
     let short : 0 + length (ended lines) ≤ MOST_BYTES = omega (arith, asks.short, taken_is) in
-    ap (outcome_from limit (empty_history site) 0 0) split
-    ∙ outcome_of_steps may_give limit end (empty_history site) (empty_history site) 0 0 steps (next.first ∷ next.others) refl asks.answered had_memory
+    ap (outcome_from limit history 0 0) split
+    ∙ outcome_of_steps may_give limit end history history 0 0 steps (next.first ∷ next.others) refl asks.answered was_answered
     (ended_fit 0 0 lines next.first next.others few short)
     (ended_so limit in_hand to steps source sink end next.first next.others next.split ends not_failed)
 
 -- a batch whose last line no line feed ends has the outcome of its input
-one_outcome_last : (may_give : ℤ → Type 0) (limit : ℕ) (site : Described) (taken : List ℕ) (steps : List Step) (to : Stream)
-    (source sink : Count) (end : BatchEnd) → Asks may_give limit (empty_history site) taken [] (Some to) steps → AtEnd (Some to) →
-    EndsWithin taken (lines_of steps) → EndsAs [] (Some to) steps source sink end → end ≢ Failed → HadMemory steps →
-    outcome limit site (taken ++ to.left) ≡ record { text = answers_text steps; end = end }
+one_outcome_last : (may_give : ℤ → Type 0) (limit : ℕ) (history : History) (taken : List ℕ) (steps : List Step) (to : Stream)
+    (source sink : Count) (end : BatchEnd) → Asks may_give limit history taken [] (Some to) steps → AtEnd (Some to) →
+    EndsWithin taken (lines_of steps) → EndsAs [] (Some to) steps source sink end → end ≢ Failed → WereAnswered steps →
+    outcome limit history (taken ++ to.left) ≡ record { text = answers_text steps; end = end }
 unfolding outcome
-one_outcome_last may_give limit site taken steps to source sink end asks at_end within ends not_failed had_memory =
+one_outcome_last may_give limit history taken steps to source sink end asks at_end within ends not_failed was_answered =
     let lines = lines_of steps in
     let text : taken ++ to.left ≡ ended within.front ++ within.last =
     ap₂ (λ first second. first ++ second) within.begins.split at_end ∙ append-nil (ended within.front ++ within.last) in
@@ -136,17 +135,17 @@ one_outcome_last may_give limit site taken steps to source sink end asks at_end 
     let taken_is : length taken ≡ length (ended within.front) + length within.last =
     ap length within.begins.split ∙ length-append (ended within.front) within.last in
     let short : 0 + length (ended within.front) + length within.last ≤ MOST_BYTES = omega (arith, asks.short, taken_is) in
-    ap (outcome_from limit (empty_history site) 0 0) split
-    ∙ outcome_of_steps may_give limit end (empty_history site) (empty_history site) 0 0 steps [] refl asks.answered had_memory
+    ap (outcome_from limit history 0 0) split
+    ∙ outcome_of_steps may_give limit end history history 0 0 steps [] refl asks.answered was_answered
     (subst (λ lines. Fits 0 0 lines []) (sym within.lines_are) (last_fits 0 0 within.front within.last within.some few short))
     (last_so limit to steps source sink end ends not_failed)
 
--- a batch that had memory and whose ports didn't fail has the outcome of its site and its input, whatever the clock gave
+-- a batch that had memory, and in which nothing failed, has the outcome of the history and its input, whatever the clock gave
 pub outcomes_are_one : (may_give : ℤ → Type 0) → OutcomesAreOne may_give
-outcomes_are_one may_give limit site taken in_hand steps to source sink end asks ends not_failed had_memory = elim asks.lines [
-  | inl begins ↦ one_outcome_ended may_give limit site taken in_hand steps to source sink end asks begins ends not_failed had_memory
+outcomes_are_one may_give limit history taken in_hand steps to source sink end asks ends not_failed was_answered = elim asks.lines [
+  | inl begins ↦ one_outcome_ended may_give limit history taken in_hand steps to source sink end asks begins ends not_failed was_answered
   | inr within ↦
-      one_outcome_last may_give limit site taken steps to source sink end
-      (subst (λ rest. Asks may_give limit (empty_history site) taken rest (Some to) steps) within.0 asks) within.1 within.2
-      (subst (λ rest. EndsAs rest (Some to) steps source sink end) within.0 ends) not_failed had_memory
+      one_outcome_last may_give limit history taken steps to source sink end
+      (subst (λ rest. Asks may_give limit history taken rest (Some to) steps) within.0 asks) within.1 within.2
+      (subst (λ rest. EndsAs rest (Some to) steps source sink end) within.0 ends) not_failed was_answered
 ]

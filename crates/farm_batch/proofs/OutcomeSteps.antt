@@ -4,9 +4,9 @@ use Rattle.std.proofs.lemmas.List.Elements.{All-head, All-tail}
 use Rattle.farm_history.specs.History.{History}
 use Rattle.farm_batch.specs.declared.batch.BatchEnd.{BatchEnd}
 use Rattle.farm_batch.specs.declared.batch.BatchEnd.TheVariants.{Done}
-use Rattle.farm_batch.specs.Answers.{AnswersEach, AnswersLine, EndsInStop, LineAnswer, Step, answer_text, answers_text, line_answer, out_of_memory}
+use Rattle.farm_batch.specs.Answers.{AnswersEach, AnswersLine, EndsInStop, LineAnswer, Step, answer_text, answers_text, disk_fault, line_answer, out_of_memory}
 use Rattle.farm_batch.specs.Batches.{GoesOn, lines_of}
-use Rattle.farm_batch.specs.Outcomes.{HadMemory, Outcome, is_no_line, is_too_much, outcome_from, printed_before, size_of}
+use Rattle.farm_batch.specs.Outcomes.{Outcome, WereAnswered, is_no_line, is_too_much, outcome_from, printed_before, size_of}
 use Rattle.farm_batch.proofs.Moments.{same_answer}
 use Rattle.farm_batch.proofs.Timeless.{without_moments}
 use Rattle.farm_batch.proofs.WithinLimits.{EndsAfter, Fits}
@@ -17,10 +17,11 @@ record IsStepOf (answer : LineAnswer) (step : Step) : Type 0 where
   history : without_moments step.history ≡ without_moments answer.history
   stops : answer.stops ≡ step.stops
 
--- where there was memory, a step has the answer at moment 0 after a history that differs in moments at most
+-- where it was answered, a step has the answer at moment 0 after a history that differs in moments at most
 step_of : (may_give : ℤ → Type 0) (limit : ℕ) (before history : History) (step : Step) → without_moments before ≡ without_moments history →
-    AnswersLine may_give limit before step → step.page ≢ out_of_memory → IsStepOf (line_answer limit history (pos 0) step.line) step
-step_of may_give limit before history step same answered had_memory = elim answered.meets [
+    AnswersLine may_give limit before step → (step.page ≢ out_of_memory) × (step.page ≢ disk_fault) →
+    IsStepOf (line_answer limit history (pos 0) step.line) step
+step_of may_give limit before history step same answered was_answered = elim answered.meets [
   | inl is ↦
       let at_zero = same_answer limit history before (pos 0) answered.now step.line (sym same) in
       record {
@@ -28,7 +29,10 @@ step_of may_give limit before history step same answered had_memory = elim answe
         history = ap without_moments is.history ∙ sym (ap (λ answer. answer.history) at_zero);
         stops = ap (λ answer. answer.stops) at_zero ∙ sym is.stops;
       }
-  | inr lacks ↦ absurd (had_memory lacks.page)
+  | inr replaced ↦ elim replaced [
+    | inl lacks ↦ absurd (was_answered.0 lacks.page_is)
+    | inr fault ↦ absurd (was_answered.1 fault.page_is)
+  ]
 ]
 
 -- the outcome of a line within the limits and of what follows it
@@ -99,21 +103,21 @@ no_stop steps none stop = ends_nowhere stop.front stop.last (sym none ∙ stop.s
 
 -- The outcome of the lines of steps, and of what follows them, is the text of the answers and the end.
 pub outcome_of_steps : (may_give : ℤ → Type 0) (limit : ℕ) (end : BatchEnd) (before history : History) (lines passed : ℕ) (steps : List Step)
-    (more : List (List ℕ)) → without_moments before ≡ without_moments history → AnswersEach may_give limit before steps → HadMemory steps →
+    (more : List (List ℕ)) → without_moments before ≡ without_moments history → AnswersEach may_give limit before steps → WereAnswered steps →
     Fits lines passed (lines_of steps) more → EndsSo limit end lines passed steps more →
     outcome_from limit history lines passed (lines_of steps ++ more) ≡ record { text = answers_text steps; end = end }
-outcome_of_steps may_give limit end before history lines passed [] more same answered had_memory fits (inl ends) = ends.1 history
-outcome_of_steps may_give limit end before history lines passed [] more same answered had_memory fits (inr ends) = absurd (no_stop [] refl ends.0)
-outcome_of_steps may_give limit end before history lines passed (step ∷ steps) more same answered had_memory fits ends =
+outcome_of_steps may_give limit end before history lines passed [] more same answered was_answered fits (inl ends) = ends.1 history
+outcome_of_steps may_give limit end before history lines passed [] more same answered was_answered fits (inr ends) = absurd (no_stop [] refl ends.0)
+outcome_of_steps may_give limit end before history lines passed (step ∷ steps) more same answered was_answered fits ends =
     let answer = line_answer limit history (pos 0) step.line in
-    let is = step_of may_give limit before history step same answered.0 (All-head (λ step. step.page ≢ out_of_memory) step steps had_memory) in
+    let is = step_of may_give limit before history step same answered.0 (All-head (λ step. (step.page ≢ out_of_memory) × (step.page ≢ disk_fault)) step steps was_answered) in
     let parts = lines_of steps ++ more in
     outcome_of_line limit history lines passed step.line parts fits.0 fits.1
     ∙ elim (after_step limit end lines passed step steps more answered.1 ends) [
       | inl goes_on ↦
           printed_on answer step (outcome_from limit answer.history (lines + 1) (passed + size_of step.line parts) parts) (answers_text steps) end is goes_on.0
           (outcome_of_steps may_give limit end step.history answer.history (lines + 1) (passed + size_of step.line parts) steps more is.history answered.2
-          (All-tail (λ step. step.page ≢ out_of_memory) step steps had_memory) fits.2 goes_on.1)
+          (All-tail (λ step. (step.page ≢ out_of_memory) × (step.page ≢ disk_fault)) step steps was_answered) fits.2 goes_on.1)
       | inr stop ↦
           printed_last answer step (outcome_from limit answer.history (lines + 1) (passed + size_of step.line parts) parts) is stop.0
           ∙ ap₂ {C = Outcome} (λ text end. record { text = answer_text step.page ++ text; end = end }) (ap answers_text (sym stop.1)) (sym stop.2)

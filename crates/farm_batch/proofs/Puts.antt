@@ -1,72 +1,86 @@
 -- What is put of the answer to a line.
-use Rattle.std.proofs.Common.{◌≡◌, ◌⊎◌, inl, inr, ℕ, Bool, true, false, List, take, Option, None, Some, Result, Ok, Err, ℤ, refl, subst, IsErr}
-use Rattle.farm_base.specs.Counts.{Count, HasRisen}
+use Rattle.std.proofs.Common.{◌≡◌, ◌⊎◌, inl, inr, ℕ, ◌≤◌, Bool, true, false, List, take, Option, None, Some, Result, Ok, Err, ℤ, refl, subst, arith, IsErr}
+use Rattle.farm_base.specs.Counts.{Count, HasRisen, RoseBy}
 use Rattle.farm_base.specs.Known.{Adds}
-use Rattle.farm_history.specs.History.{History}
+use Rattle.farm_desk.specs.Histories.{certain}
+use Rattle.farm_desk.specs.States.{DeskState}
+use Rattle.farm_history.specs.History.{History, last_place}
 use Rattle.farm_http.specs.declared.page.Page.{Page}
 use Rattle.farm_batch.specs.declared.batch.BatchEnd.{BatchEnd}
 use Rattle.farm_batch.specs.declared.batch.BatchEnd.TheVariants.{Done, Failed}
-use Rattle.farm_batch.specs.Answers.{LineAnswer, MeetsLine, Step, answer_text, line_answer, out_of_memory}
+use Rattle.farm_batch.specs.Answers.{AsksNothing, IsReply, LineAnswer, MeetsLine, Step, answer_text, faults_of, line_answer, out_of_memory}
 use Rattle.farm_batch.specs.Batches.{Answers, PutsPage, PutsStep}
 
 -- the step of a line
 abbrev step_of : List ℕ → Page → History → Bool → Step
 step_of line page history stops = record { line = line; page = page; history = history; stops = stops }
 
--- a line whose answer meets what is meant, and of which this was put
-answers : (may_give : ℤ → Type 0) (limit : ℕ) (before after : History) (line : List ℕ) (page : Page) (stops : Bool) (old new : Option (List ℕ))
-    (sink : Count) (end : Option BatchEnd) (now : ℤ) → may_give now → MeetsLine before after (line_answer limit before now line) page stops →
-    PutsStep (step_of line page after stops) old new sink end → Answers may_give limit before after line old new sink end
-answers may_give limit before after line page stops old new sink end now given meets puts =
-    record {
-      step = step_of line page after stops;
-      line_is = refl;
-      history_is = refl;
-      answered = record { now = now; given = given; meets = meets line };
-      puts = puts;
-    }
-
 -- out of memory may stand in the place of each answer
 lacking : (before after : History) (meant : LineAnswer) (page : Page) (stops : Bool) → MeetsLine before after meant page stops →
     MeetsLine before after meant out_of_memory false
 lacking before after meant page stops meets line = elim (meets line) [
-  | inl is ↦ inr (record { page = refl; history = inr is.history; stops = refl })
-  | inr lacks ↦ inr (record { page = refl; history = lacks.history; stops = refl })
+  | inl is ↦ inr (inl (record { page_is = refl; history = inr is.history; stops = refl }))
+  | inr replaced ↦ elim replaced [
+    | inl lacks ↦ inr (inl (record { page_is = refl; history = lacks.history; stops = refl }))
+    | inr fault ↦ inr (inl (record { page_is = refl; history = fault.history; stops = refl }))
+  ]
 ]
 
--- an answer that was put whole ends the batch
-pub ends : (may_give : ℤ → Type 0) (limit : ℕ) (before after : History) (line : List ℕ) (page : Page) (stops : Bool) (old new : Option (List ℕ))
-    (sink : Count) (now : ℤ) → may_give now → MeetsLine before after (line_answer limit before now line) page stops →
-    Adds old new (answer_text page) → stops ≡ true → Answers may_give limit before after line old new sink (Some Done)
-ends may_give limit before after line page stops old new sink now given meets added is =
-    answers may_give limit before after line page stops old new sink (Some Done) now given meets (is, added)
+-- a count that rose by some has risen by none
+counted_none : (some before now : ℕ) → RoseBy some before now → RoseBy 0 before now
+counted_none some before now rose = omega (arith, rose)
 
--- or the batch goes on after it
-pub goes_on : (may_give : ℤ → Type 0) (limit : ℕ) (before after : History) (line : List ℕ) (page : Page) (stops : Bool) (old new : Option (List ℕ))
-    (sink : Count) (now : ℤ) → may_give now → MeetsLine before after (line_answer limit before now line) page stops →
-    Adds old new (answer_text page) → stops ≡ false → Answers may_give limit before after line old new sink None
-goes_on may_give limit before after line page stops old new sink now given meets added is =
-    answers may_give limit before after line page stops old new sink None now given meets (is, added)
+module _ {D : Type 0} (may_give : ℤ → Type 0) (limit : ℕ) (before after : DeskState D) (line : List ℕ) (now : ℤ) (given : may_give now)
+    (surer : certain before.doubt before.history ≤ certain after.doubt after.history) (untouched : AsksNothing line → after ≡ before)
+    (old new : Option (List ℕ)) (sink : Count) where
+  -- a line whose answer meets what is meant, and of which this was put
+  answers : (page : Page) (stops : Bool) → MeetsLine before.history after.history (line_answer limit before.history now line) page stops →
+      RoseBy (faults_of page) before.failed after.failed → (IsReply page → last_place after.history ≤ certain after.doubt after.history) →
+      (end : Option BatchEnd) → PutsStep (step_of line page after.history stops) old new sink end →
+      Answers may_give limit before after line old new sink end
+  answers page stops meets counted acknowledged end puts = record {
+    step = step_of line page after.history stops;
+    line_is = refl;
+    history_is = refl;
+    answered = record { now = now; given = given; meets = meets line };
+    counted = counted;
+    acknowledged = acknowledged;
+    surer = surer;
+    untouched = untouched;
+    puts = puts;
+  }
 
--- the batch goes on after out of memory was put in place of an answer
-pub lacks_memory : (may_give : ℤ → Type 0) (limit : ℕ) (before after : History) (line : List ℕ) (page : Page) (stops : Bool)
-    (old new : Option (List ℕ)) (sink : Count) (now : ℤ) → may_give now → MeetsLine before after (line_answer limit before now line) page stops →
-    Adds old new (answer_text out_of_memory) → Answers may_give limit before after line old new sink None
-lacks_memory may_give limit before after line page stops old new sink now given meets added =
-    answers may_give limit before after line out_of_memory false old new sink None now given (lacking before after _ page stops meets) (refl, added)
+  module _ (page : Page) (stops : Bool) (meets : MeetsLine before.history after.history (line_answer limit before.history now line) page stops)
+      (counted : RoseBy (faults_of page) before.failed after.failed)
+      (acknowledged : IsReply page → last_place after.history ≤ certain after.doubt after.history) where
+    -- an answer that was put whole ends the batch
+    pub ends : Adds old new (answer_text page) → stops ≡ true → Answers may_give limit before after line old new sink (Some Done)
+    ends added is = answers page stops meets counted acknowledged (Some Done) (is, added)
 
--- a put of the answer, or of out of memory in its place, failed
-pub fails : (may_give : ℤ → Type 0) (limit : ℕ) (before after : History) (line : List ℕ) (page : Page) (stops : Bool)
-    (old new : Option (List ℕ)) (sink : Count) (now : ℤ) → may_give now → MeetsLine before after (line_answer limit before now line) page stops →
-    (shown : Page) → (shown ≡ page) ⊎ (shown ≡ out_of_memory) → (count : ℕ) → Adds old new (take count (answer_text shown)) → HasRisen sink →
-    Answers may_give limit before after line old new sink (Some Failed)
-fails may_give limit before after line page stops old new sink now given meets shown which count added risen =
-    let Puts : Page → Type 0 = λ page. Adds old new (take count (answer_text page)) in
-    elim which [
-      | inl same ↦ answers may_give limit before after line page stops old new sink (Some Failed) now given meets (risen, count, subst Puts same added)
-      | inr lacks ↦ answers may_give limit before after line out_of_memory false old new sink (Some Failed) now given
-          (lacking before after _ page stops meets) (risen, count, subst Puts lacks added)
-    ]
+    -- or the batch goes on after it
+    pub goes_on : Adds old new (answer_text page) → stops ≡ false → Answers may_give limit before after line old new sink None
+    goes_on added is = answers page stops meets counted acknowledged None (is, added)
+
+    -- what out of memory in place of the answer is, whatever was put
+    lacks : (end : Option BatchEnd) → PutsStep (step_of line out_of_memory after.history false) old new sink end →
+        Answers may_give limit before after line old new sink end
+    lacks end puts =
+        answers out_of_memory false (lacking before.history after.history _ page stops meets)
+        (counted_none (faults_of page) before.failed after.failed counted) (λ reply. absurd reply) end puts
+
+    -- the batch goes on after out of memory was put in place of an answer
+    pub lacks_memory : Adds old new (answer_text out_of_memory) → Answers may_give limit before after line old new sink None
+    lacks_memory added = lacks None (refl, added)
+
+    -- a put of the answer, or of out of memory in its place, failed
+    pub fails : (shown : Page) → (shown ≡ page) ⊎ (shown ≡ out_of_memory) → (count : ℕ) → Adds old new (take count (answer_text shown)) → HasRisen sink →
+        Answers may_give limit before after line old new sink (Some Failed)
+    fails shown which count added risen =
+        let Puts : Page → Type 0 = λ page. Adds old new (take count (answer_text page)) in
+        elim which [
+          | inl same ↦ answers page stops meets counted acknowledged (Some Failed) (risen, count, subst Puts same added)
+          | inr lacking ↦ lacks (Some Failed) (risen, count, subst Puts lacking added)
+        ]
 
 -- a put that failed, of an answer or of out of memory in its place, has put a front of it
 pub failed_put : {E : Type 0} (page shown : Page) (old new : Option (List ℕ)) (result : Result Bool E) → IsErr result →

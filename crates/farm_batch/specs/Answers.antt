@@ -1,10 +1,10 @@
 -- What a line of a batch is answered with, and what lines are answered with one after another.
-use Rattle.std.specs.Prelude.{◌≡◌, ◌⊎◌, ℕ, nat_lt, Bool, true, false, if◌then◌else◌, List, [], ◌∷◌, ◌++◌, flat_map, length, take, Option, None, Some, ℤ}
+use Rattle.std.specs.Prelude.{◌≡◌, ◌⊎◌, ℕ, ◌+◌, ◌≤◌, ◌==◌, nat_lt, All, Bool, true, false, if◌then◌else◌, List, [], ◌∷◌, ◌++◌, flat_map, length, take, Option, None, Some, ℤ}
 use Rattle.farm_history.specs.declared.ask.Ask.{Ask}
 use Rattle.farm_history.specs.declared.ask.Ask.TheVariants.{Do, Look}
 use Rattle.farm_history.specs.Commands.{is_stop}
 use Rattle.farm_history.specs.Desk.{Answered, desk_answer, stamped}
-use Rattle.farm_history.specs.History.{History}
+use Rattle.farm_history.specs.History.{History, last_place}
 use Rattle.farm_history.specs.Verdicts.{is_accepted, verdict}
 use Rattle.farm_http.specs.Answers.{body_text}
 use Rattle.farm_http.specs.Requests.{ask_of_line}
@@ -25,6 +25,10 @@ line_too_long = pages.Status 413 None
 abbrev pub out_of_memory : Page
 out_of_memory = pages.Status 507 None
 
+-- what stands in place of an answer where the disk failed
+abbrev pub disk_fault : Page
+disk_fault = pages.Status 503 None
+
 -- an answer, the history that it leaves, and whether the batch ends with it
 pub record LineAnswer : Type 0 where
   pub page : Page
@@ -34,6 +38,11 @@ pub record LineAnswer : Type 0 where
 -- the answer with which the desk wasn't asked
 abbrev pub unasked : History → Page → LineAnswer
 unasked history page = record { page = page; history = history; stops = false }
+
+-- a request is a Stop
+abbrev pub is_stop_ask : Ask → Bool
+is_stop_ask (Do account key command) = is_stop command
+is_stop_ask (Look query) = false
 
 -- a request is a Stop, and its command would be accepted
 abbrev pub is_accepted_stop : ℕ → History → ℤ → Ask → Bool
@@ -68,15 +77,15 @@ pub record IsAnswered (meant : LineAnswer) (step : Step) : Type 0 where
   pub history : step.history ≡ meant.history
   pub stops : step.stops ≡ meant.stops
 
--- Out of memory was answered in place of what is meant, and what was asked for was done or not. The batch goes on.
-pub record LacksMemory (before : History) (meant : LineAnswer) (step : Step) : Type 0 where
-  pub page : step.page ≡ out_of_memory
+-- A page was answered in place of what is meant, and what was asked for was done or not. The batch goes on.
+pub record IsReplaced (page : Page) (before : History) (meant : LineAnswer) (step : Step) : Type 0 where
+  pub page_is : step.page ≡ page
   pub history : (step.history ≡ before) ⊎ (step.history ≡ meant.history)
   pub stops : step.stops ≡ false
 
--- a line got the answer that is meant for it, or out of memory
+-- a line got the answer that is meant for it, or out of memory, or a fault of the disk
 abbrev pub Meets : History → LineAnswer → Step → Type 0
-Meets before meant step = IsAnswered meant step ⊎ LacksMemory before meant step
+Meets before meant step = IsAnswered meant step ⊎ IsReplaced out_of_memory before meant step ⊎ IsReplaced disk_fault before meant step
 
 -- a line was answered after a history, at a number that the clock may give
 pub record AnswersLine (may_give : ℤ → Type 0) (limit : ℕ) (before : History) (step : Step) : Type 0 where
@@ -93,6 +102,29 @@ abbrev pub AnswersEach : (ℤ → Type 0) → ℕ → History → List Step → 
 AnswersEach may_give limit before [] = Unit {0}
 AnswersEach may_give limit before (step ∷ steps) =
     AnswersLine may_give limit before step × ((step.stops ≡ false) ⊎ (steps ≡ [])) × AnswersEach may_give limit step.history steps
+
+-- how many faults of the disk a page is: one for that status, and none for any other page
+abbrev pub faults_of : Page → ℕ
+faults_of (pages.Reply reply) = 0
+faults_of (pages.Status status allow) = if status == 503 then 1 else 0
+
+-- how many lines were answered with a fault of the disk
+abbrev pub faults_in : List Step → ℕ
+faults_in [] = 0
+faults_in (step ∷ steps) = faults_of step.page + faults_in steps
+
+-- a page is a reply of the desk
+abbrev pub IsReply : Page → Type 0
+IsReply (pages.Reply reply) = Unit {0}
+IsReply (pages.Status status allow) = ⊥
+
+-- the history that each reply left has at most this many entries
+abbrev pub AreAcknowledged : ℕ → List Step → Type 0
+AreAcknowledged most steps = All (λ step. IsReply step.page → last_place step.history ≤ most) steps
+
+-- a line is too long or no request, so that the desk isn't asked
+abbrev pub AsksNothing : List ℕ → Type 0
+AsksNothing line = (nat_lt LONGEST_LINE (length line) ≡ true) ⊎ (ask_of_line line ≡ None)
 
 -- the history that lines left
 abbrev pub history_after : History → List Step → History

@@ -1,13 +1,15 @@
 -- What a batch does over its ports.
 use Rattle.std.specs.Prelude.{◌≡◌, ◌≢◌, ◌⊎◌, ℕ, ◌+◌, ◌≤◌, All, true, false, Bool, List, [], length, take, map, Option, None, Some, Result, Ok, Err, ℤ}
-use Rattle.farm_base.specs.Counts.{Count, HasRisen, IsQuiet}
+use Rattle.farm_base.specs.Counts.{Count, HasRisen, IsQuiet, RoseBy}
 use Rattle.farm_base.specs.Known.{Adds, Stream, Takes}
-use Rattle.farm_history.specs.History.{History}
+use Rattle.farm_desk.specs.Histories.{certain}
+use Rattle.farm_desk.specs.States.{DeskState}
+use Rattle.farm_history.specs.History.{History, last_place}
 use Rattle.farm_batch.specs.declared.batch.BatchEnd.{BatchEnd}
 use Rattle.farm_batch.specs.declared.batch.BatchEnd.TheVariants.{Done, Long, Failed}
 use Rattle.farm_batch.specs.declared.limits.TheConstants.{MOST_LINES}
 use Rattle.farm_http.specs.declared.page.Page.{Page}
-use Rattle.farm_batch.specs.Answers.{AnswersEach, AnswersLine, EndsInStop, IsCutAtLast, Step, answer_text, answers_text, history_after, out_of_memory}
+use Rattle.farm_batch.specs.Answers.{AnswersEach, AnswersLine, AreAcknowledged, AsksNothing, EndsInStop, IsCutAtLast, IsReply, Step, answer_text, answers_text, faults_in, faults_of, history_after, out_of_memory}
 use Rattle.batch_lines.specs.declared.limits.TheConstants.{MOST_BYTES}
 use Rattle.batch_lines.specs.Lines.{BeginsWith, EndsWithin, HasByteTooMany, ended}
 use Rattle.batch_lines.specs.Reader.{AtEnd}
@@ -47,15 +49,21 @@ EndsAs in_hand to steps source sink Done = AskedAll in_hand to steps
 EndsAs in_hand to steps source sink (Long number) = GoesOn steps × IsTooMuch (lines_of steps) in_hand × (number ≡ length steps + 1)
 EndsAs in_hand to steps source sink Failed = HasRisen source ⊎ HasRisen sink
 
--- A batch, from a history to another: the lines that it asked, what it took and put, and how it ended.
-pub record Batch (may_give : ℤ → Type 0) (limit : ℕ) (before after : History) (from to : Option Stream) (source : Count)
+-- A batch, from a desk to a desk: the lines that it asked, what it took and put, and how it ended.
+pub record Batch {D : Type 0} (may_give : ℤ → Type 0) (limit : ℕ) (before after : DeskState D) (from to : Option Stream) (source : Count)
     (old new : Option (List ℕ)) (sink : Count) (end : BatchEnd) : Type 0 where
   pub steps : List Step
   pub taken : List ℕ
   pub in_hand : List ℕ
   pub moved : Takes from to taken
-  pub asks : Asks may_give limit before taken in_hand to steps
-  pub left : after ≡ history_after before steps
+  pub asks : Asks may_give limit before.history taken in_hand to steps
+  pub left : after.history ≡ history_after before.history steps
+  -- the desk counted no fewer faults than were answered
+  pub counted : RoseBy (faults_in steps) before.failed after.failed
+  -- no reply rests on an entry that is in doubt at the end
+  pub acknowledged : AreAcknowledged (certain after.doubt after.history) steps
+  -- where no line asks anything, the desk stays as it was
+  pub untouched : All AsksNothing (lines_of steps) → after ≡ before
   -- the answers were put whole, but for the last one where a put failed
   pub put : Adds old new (answers_text steps) ⊎ ((end ≡ Failed) × HasRisen sink × (bytes : List ℕ) × IsCutAtLast steps bytes × Adds old new bytes)
   pub ends : EndsAs in_hand to steps source sink end
@@ -74,11 +82,15 @@ PutsStep step old new sink (Some Done) = (step.stops ≡ true) × Adds old new (
 PutsStep step old new sink (Some (Long number)) = ⊥
 PutsStep step old new sink (Some Failed) = HasRisen sink × (count : ℕ) × Adds old new (take count (answer_text step.page))
 
--- a line was asked, from a history to another, and answered
-pub record Answers (may_give : ℤ → Type 0) (limit : ℕ) (before after : History) (line : List ℕ) (old new : Option (List ℕ)) (sink : Count)
+-- a line was asked, from a desk to a desk, and answered
+pub record Answers {D : Type 0} (may_give : ℤ → Type 0) (limit : ℕ) (before after : DeskState D) (line : List ℕ) (old new : Option (List ℕ)) (sink : Count)
     (end : Option BatchEnd) : Type 0 where
   pub step : Step
   pub line_is : step.line ≡ line
-  pub history_is : step.history ≡ after
-  pub answered : AnswersLine may_give limit before step
+  pub history_is : step.history ≡ after.history
+  pub answered : AnswersLine may_give limit before.history step
+  pub counted : RoseBy (faults_of step.page) before.failed after.failed
+  pub acknowledged : IsReply step.page → last_place after.history ≤ certain after.doubt after.history
+  pub surer : certain before.doubt before.history ≤ certain after.doubt after.history
+  pub untouched : AsksNothing line → after ≡ before
   pub puts : PutsStep step old new sink end

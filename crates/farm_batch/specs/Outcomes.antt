@@ -1,16 +1,15 @@
--- What a batch prints and how it ends, as a function of its site and its input alone, where there is memory and no port fails. No answer
--- depends on the clock.
+-- What a batch prints and how it ends, as a function of the desk's history and its input alone, where there is memory and nothing fails. No
+-- answer depends on the clock.
 use Rattle.std.specs.Prelude.{◌≡◌, ◌≢◌, ◌+◌, ◌==◌, ◌||◌, ℕ, All, nat_lt, Bool, true, false, if◌then◌else◌, List, [], ◌∷◌, ◌++◌, length, Some, ℤ, pos}
 use Rattle.farm_base.specs.Bytes.{parts_at}
 use Rattle.farm_base.specs.Counts.{Count}
 use Rattle.farm_base.specs.Known.{Stream}
-use Rattle.farm_site.specs.Described.{Described}
-use Rattle.farm_history.specs.History.{History, empty_history}
+use Rattle.farm_history.specs.History.{History}
 use Rattle.batch_lines.specs.declared.limits.TheConstants.{LINE_FEED, MOST_BYTES}
 use Rattle.farm_batch.specs.declared.batch.BatchEnd.{BatchEnd}
 use Rattle.farm_batch.specs.declared.batch.BatchEnd.TheVariants.{Done, Long, Failed}
 use Rattle.farm_batch.specs.declared.limits.TheConstants.{MOST_LINES}
-use Rattle.farm_batch.specs.Answers.{LineAnswer, Step, answer_text, answers_text, line_answer, out_of_memory}
+use Rattle.farm_batch.specs.Answers.{LineAnswer, Step, answer_text, answers_text, disk_fault, line_answer, out_of_memory}
 use Rattle.farm_batch.specs.Batches.{Asks, EndsAs}
 
 -- what is printed, and how the batch ends
@@ -51,17 +50,17 @@ outcome_from limit history lines passed (part ∷ parts) =
     else (let answer = line_answer limit history (pos 0) part in
     printed_before answer (outcome_from limit answer.history (lines + 1) (passed + size_of part parts) parts)))
 
--- the outcome of an input on a site, from an empty history
-unfoldable pub outcome : ℕ → Described → List ℕ → Outcome
-outcome limit site text = outcome_from limit (empty_history site) 0 0 (parts_at LINE_FEED text)
+-- the outcome of an input after a history
+unfoldable pub outcome : ℕ → History → List ℕ → Outcome
+outcome limit history text = outcome_from limit history 0 0 (parts_at LINE_FEED text)
 
--- out of memory was answered nowhere
-abbrev pub HadMemory : List Step → Type 0
-HadMemory steps = All (λ step. step.page ≢ out_of_memory) steps
+-- neither out of memory nor a fault of the disk was answered
+abbrev pub WereAnswered : List Step → Type 0
+WereAnswered steps = All (λ step. (step.page ≢ out_of_memory) × (step.page ≢ disk_fault)) steps
 
--- A batch that had memory and whose ports didn't fail has the outcome of its site and its input, whatever the clock gave.
+-- A batch that had memory, and in which nothing failed, has the outcome of the history and its input, whatever the clock gave.
 abbrev pub OutcomesAreOne : (ℤ → Type 0) → Type 0
 OutcomesAreOne may_give =
-    (limit : ℕ) (site : Described) (taken in_hand : List ℕ) (steps : List Step) (to : Stream) (source sink : Count) (end : BatchEnd) →
-    Asks may_give limit (empty_history site) taken in_hand (Some to) steps → EndsAs in_hand (Some to) steps source sink end → end ≢ Failed →
-    HadMemory steps → outcome limit site (taken ++ to.left) ≡ record { text = answers_text steps; end = end }
+    (limit : ℕ) (history : History) (taken in_hand : List ℕ) (steps : List Step) (to : Stream) (source sink : Count) (end : BatchEnd) →
+    Asks may_give limit history taken in_hand (Some to) steps → EndsAs in_hand (Some to) steps source sink end → end ≢ Failed →
+    WereAnswered steps → outcome limit history (taken ++ to.left) ≡ record { text = answers_text steps; end = end }

@@ -4,6 +4,7 @@ ghost use Rattle.std.specs.Prelude.{◌≡◌, ◌≢◌, ◌≤◌, ℕ, List, 
 ghost use Rattle.farm_base.specs.Counts.{HasCause};
 ghost use Rattle.farm_http.specs.Answers.{IsAnswer};
 ghost use Rattle.farm_batch.specs.Answers.{answer_text};
+ghost use Rattle.farm_batch.specs.Desks.{KeepsDesk};
 ghost use Rattle.batch_lines.specs.Reader.{count_of, kept};
 ghost use Rattle.farm_batch.specs.Batches.{Answers, Batch, PutsPage};
 
@@ -11,7 +12,8 @@ use crate::answers::answer;
 use crate::limits::MOST_LINES;
 use batch_lines::{Cut, LINE_FEED, LineReader};
 use farm_base::NoMemory;
-use farm_book::Book;
+use farm_desk::Desk;
+use farm_disk::Disk;
 use farm_http::{Page, body};
 use farm_ports::{Clock, Failed, Sink, Source, put_all};
 use std::alloc::Global;
@@ -30,22 +32,24 @@ pub enum BatchEnd {
     Failed,
 }
 
-/// Asks a book the lines of a source, as caller 0, and puts the answer of each, a JSON object and a line feed, before it reads on.
+/// Asks a desk the lines of a source, as caller 0, and puts the answer of each, a JSON object and a line feed, before it reads on.
 ///
-/// A line of more than 65,536 bytes is answered by 413 and one that is no request by 400, neither of them asked; 507 stands for an
-/// answer for which there was no memory. The batch ends where the source does, after a Stop that was accepted and answered, at line
-/// 1,000,001 or the line of byte 1,073,741,825, and where a port fails. `NoMemory` comes before the first byte is taken.
-pub fn answer_lines<const LIMIT: usize, S: Source, K: Sink, C: Clock>(
+/// A line of more than 65,536 bytes is answered by 413 and one that is no request by 400, neither of them asked; 503 stands for an
+/// answer that a fault of the disk prevented, and 507 for one for which there was no memory. The batch ends where the source does, after
+/// a Stop that was entered and answered, at line 1,000,001 or the line of byte 1,073,741,825, and where a port fails; a fault of the disk
+/// doesn't end it. `NoMemory` comes before the first byte is taken.
+pub fn answer_lines<D: Disk, const LIMIT: usize, S: Source, K: Sink, C: Clock>(
     alloc: Global,
-    book: &mut Book<LIMIT>,
+    desk: &mut Desk<D, LIMIT>,
     input: &mut S,
     output: &mut K,
     clock: &C,
 ) -> Result<BatchEnd, NoMemory>
-    ensures batch { IfOk result (λ end. Batch (C.may_give clock.now) LIMIT book.old.history book.new.history
+    ensures batch { IfOk result (λ end. Batch (C.may_give clock.now) LIMIT desk.old desk.new
         (S.stream input.old) (S.stream input.new) (count_of S.faults input.old input.new)
         (K.held output.old) (K.held output.new) (count_of K.faults output.old output.new) end) }
-    ensures book_kept { OnErr result (book.new ≡ book.old) }
+    ensures keeps { KeepsDesk D.trace D.moment D.faults LIMIT desk.old desk.new }
+    ensures desk_kept { OnErr result (desk.new ≡ desk.old) }
     ensures input_kept { OnErr result (input.new ≡ input.old) }
     ensures output_kept { OnErr result (output.new ≡ output.old) }
     ensures input_never_falls { S.faults input.old ≤ S.faults input.new }
@@ -55,8 +59,8 @@ pub fn answer_lines<const LIMIT: usize, S: Source, K: Sink, C: Clock>(
     let mut text = Vec::new(alloc);
     for number in 1..=MOST_LINES {
         let end = match reader.read(input) {
-            Cut::Line => answer_line(alloc, book, reader.line(), output, clock, &mut text),
-            Cut::Last => answer_line(alloc, book, reader.line(), output, clock, &mut text).or(Some(
+            Cut::Line => answer_line(alloc, desk, reader.line(), output, clock, &mut text),
+            Cut::Last => answer_line(alloc, desk, reader.line(), output, clock, &mut text).or(Some(
                 BatchEnd::Done,
             )),
             Cut::End => Some(BatchEnd::Done),
@@ -75,21 +79,22 @@ pub fn answer_lines<const LIMIT: usize, S: Source, K: Sink, C: Clock>(
 }
 
 // Answers one line, `None` where it is too long, and says how the batch ends with it, or `None` where it goes on.
-fn answer_line<const LIMIT: usize, K: Sink, C: Clock>(
+fn answer_line<D: Disk, const LIMIT: usize, K: Sink, C: Clock>(
     alloc: Global,
-    book: &mut Book<LIMIT>,
+    desk: &mut Desk<D, LIMIT>,
     line: Option<&[u8]>,
     output: &mut K,
     clock: &C,
     text: &mut Vec<u8>,
 ) -> Option<BatchEnd>
     ensures answers { (bytes : List ℕ) → option_map (λ line. line.now) line.entry ≡ kept bytes →
-        Answers (C.may_give clock.now) LIMIT book.old.history book.new.history bytes (K.held output.old) (K.held output.new)
+        Answers (C.may_give clock.now) LIMIT desk.old desk.new bytes (K.held output.old) (K.held output.new)
         (count_of K.faults output.old output.new) result }
+    ensures keeps { KeepsDesk D.trace D.moment D.faults LIMIT desk.old desk.new }
     ensures never_falls { K.faults output.old ≤ K.faults output.new }
     ensures quiet { result ≢ Some BatchEnd.Failed → K.faults output.new ≡ K.faults output.old }
 {
-    let meant = answer(alloc, book, line, clock.now());
+    let meant = answer(alloc, desk, line, clock.now());
     match put_page(alloc, &meant.page, output, text) {
         Ok(whole) if whole && meant.stops => Some(BatchEnd::Done),
         Ok(_) => None,

@@ -62,8 +62,57 @@ pub struct Case {
     /// The numbers of the reads of the folder that fail, from 1.
     #[serde(default)]
     pub folder_fails: Vec<u64>,
+    /// The bytes of the disk; none where they aren't given.
+    pub disk: Option<Text>,
+    /// The site of which the disk has the journal, made by `init` before the other runs.
+    pub journal: Option<String>,
+    /// The runs on the disk before this one, one after another.
+    #[serde(default)]
+    pub before: Vec<Run>,
+    /// What a crash leaves of the disk; what reads give where it isn't given.
+    pub image: Option<Image>,
+    /// How many bytes the disk keeps of that, from its front; all where it isn't given.
+    pub cut: Option<u32>,
+    /// The numbers of the calls of the disk in the run that fail, from 1.
+    #[serde(default)]
+    pub disk_fails: Vec<u64>,
     /// The status that is wanted.
     pub status: u8,
     /// The output that is wanted; nothing where it isn't given.
     pub output: Option<Text>,
+    /// What reads of the disk have to give after the run; it isn't looked at where this isn't given.
+    pub disk_after: Option<Text>,
+}
+
+/// A run on the disk of a case before the case's own.
+#[derive(Drop, Deserialize)]
+#[serde(deny_unknown_fields)]
+pub struct Run {
+    /// The words after the program's name.
+    pub words: Vec<String>,
+    /// What standard input has; nothing where it isn't given.
+    pub input: Option<Text>,
+    /// The site whose files the folder has.
+    pub site: Option<String>,
+    /// The moment that the clock gives; 0 where it isn't given.
+    #[serde(default)]
+    pub clock: i64,
+    /// The numbers of the calls of the disk in the run that fail, from 1.
+    #[serde(default)]
+    pub disk_fails: Vec<u64>,
+    /// The status that is wanted; 0 where it isn't given.
+    #[serde(default)]
+    pub status: u8,
+    /// The output that is wanted; nothing where it isn't given.
+    pub output: Option<Text>,
+}
+
+/// What a crash leaves of a disk.
+#[derive(Drop, Deserialize)]
+#[serde(deny_unknown_fields)]
+pub struct Image {
+    /// The moment of the crash, from the start of the last run before the case.
+    pub moment: u64,
+    /// What stands where any byte may be left: `old`, `new`, or the number of a byte.
+    pub fill: String,
 }

@@ -1,6 +1,8 @@
 //! Why a case can't be run.
 
+use crate::trial::Trial;
 use farm_base::NoMemory;
+use farm_ports::Failed;
 use std::alloc::{AllocError, AllocFailed};
 use thiserror::Error;
 
@@ -22,6 +24,21 @@ pub enum CaseFault {
     /// A text to be replaced doesn't stand once in its file.
     #[error("the text to be replaced doesn't stand once in its file: {0:?}")]
     NotOnce(String),
+    /// The run of this number before the case differs: 0 is the `init` of its journal, 1 the first of the others.
+    #[error("the run {0} before it: {1}")]
+    Before(u64, Trial),
+    /// The moment of the crash is above the last one, which is this.
+    #[error("the last moment of the disk is {0}")]
+    NoMoment(u64),
+    /// The fill of the image isn't `old`, `new` or a byte.
+    #[error("there is no fill {0}")]
+    NoFill(String),
+    /// The disk has only this number of bytes, fewer than it is to keep.
+    #[error("the disk has {0} bytes, and not as many as it is to keep")]
+    TooShort(usize),
+    /// Of the calls that are to fail, one comes after those of the run, where its disk is read.
+    #[error("a call of the disk that fails comes after those of its run")]
+    FailsLater,
     /// There was no memory.
     #[error("no memory")]
     Memory,
@@ -30,6 +47,12 @@ pub enum CaseFault {
 impl From<NoMemory> for CaseFault {
     fn from(_: NoMemory) -> Self {
         CaseFault::Memory
+    }
+}
+
+impl From<Failed> for CaseFault {
+    fn from(_: Failed) -> Self {
+        CaseFault::FailsLater
     }
 }
 

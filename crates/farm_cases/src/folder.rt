@@ -28,6 +28,42 @@ pub fn folder_of<F: Folder>(
     Ok(Files::new(alloc, files, case.folder_fails.clone()?)?)
 }
 
+/// The folder of a site, as its files stand; an empty one where no site is given.
+pub fn site_folder<F: Folder>(
+    alloc: Global,
+    data: &mut F,
+    sites: &Sites,
+    site: &Option<String>,
+) -> Result<Files, CaseFault> {
+    let mut files = Vec::new(alloc);
+    if let Some(site) = site {
+        for name in site_files(alloc, sites, site)? {
+            add_site_file(&mut files, alloc, data, site, name)?;
+        }
+    }
+    Ok(Files::new(alloc, files, Vec::new(alloc))?)
+}
+
+// The names of the files of a site.
+fn site_files<'a>(alloc: Global, sites: &'a Sites, site: &str) -> Result<&'a [String], CaseFault> {
+    match sites.get(site) {
+        Some(names) => Ok(names),
+        None => Err(CaseFault::NoSite(String::from_str(alloc, site)?)),
+    }
+}
+
+// Adds a file of a site.
+fn add_site_file<F: Folder>(
+    files: &mut Vec<NamedFile>,
+    alloc: Global,
+    data: &mut F,
+    site: &str,
+    name: &str,
+) -> Result<(), CaseFault> {
+    let path = format!(in alloc; "{site}/{name}")?;
+    add_file(files, alloc, name, read_file(alloc, data, &path)?)
+}
+
 // Adds the files of the case's site.
 fn add_site<F: Folder>(
     files: &mut Vec<NamedFile>,
@@ -39,14 +75,11 @@ fn add_site<F: Folder>(
     let Some(site) = &case.site else {
         return no_drop(alloc, &[], &case.drop);
     };
-    let Some(names) = sites.get(site.as_str()) else {
-        return Err(CaseFault::NoSite(String::from_str(alloc, site)?));
-    };
+    let names = site_files(alloc, sites, site)?;
     no_drop(alloc, names, &case.drop)?;
     for name in names {
         if !case.drop.contains(name) && !case.files.contains_key(name.as_str()) {
-            let path = format!(in alloc; "{site}/{name}")?;
-            add_file(files, alloc, name, read_file(alloc, data, &path)?)?;
+            add_site_file(files, alloc, data, site, name)?;
         }
     }
     Ok(())

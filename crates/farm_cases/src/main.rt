@@ -8,16 +8,20 @@
 mod answer;
 mod case;
 mod data;
+mod difference;
+mod disk;
 mod fault;
 mod folder;
 mod input;
+mod ports;
 mod row;
 mod text;
+mod trial;
 
-use crate::answer::Trial;
 use crate::case::{Case, CaseFile, Listing, Sites};
 use crate::data::read_form;
 use crate::row::has_row_site;
+use crate::trial::Trial;
 use farm_ports::{DirFolder, Folder};
 use std::alloc::Global;
 use std::rt::Env;

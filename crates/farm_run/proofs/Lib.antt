@@ -1,4 +1,9 @@
 pub mod Printing
 pub mod Runs
 pub mod CalcRuns
-mod BatchRuns
+pub mod Saying
+pub mod BatchRuns
+pub mod BatchEnds
+pub mod DisksLeft
+pub mod NoDesks
+pub mod InitRuns

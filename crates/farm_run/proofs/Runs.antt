@@ -1,5 +1,5 @@
 -- A run of a command, from what its parts did.
-use Rattle.std.proofs.Common.{◌≡◌, ◌⊎◌, inl, inr, ℕ, ◌<◌, List, [], Option, Some, None, Result, Ok, Err, IfOk, MatchResult, refl, sym, subst, ◌∙◌, arith}
+use Rattle.std.proofs.Common.{◌≡◌, ◌≢◌, ◌⊎◌, inl, inr, ℕ, ◌<◌, List, [], Option, Some, None, Result, Ok, Err, IfOk, MatchResult, refl, sym, subst, ◌∙◌, arith}
 use Rattle.farm_base.specs.Counts.{Count, HasRisen, IsQuiet}
 use Rattle.farm_base.specs.Known.{WhereKnown}
 use Rattle.farm_run.specs.Texts.{no_memory, port_fault}
@@ -167,3 +167,14 @@ run_lacking refusal says has input port output status small port_quiet lacks = r
   memory_ends = λ seven. says_ends output _ _ no_memory (lacks.memory_said seven []);
   complete = where_known input _ (λ known text is still quiet. elim lacks.statuses [ inl fault ↦ absurd (quiet (lacks.faulted fault)) | inr memory ↦ inr memory ]);
 }
+
+-- where there was no memory the status isn't 0
+pub lacking_not_done : (output : Output) (status : ℕ) → LacksMemory output status → status ≢ 0
+lacking_not_done output status lacks = λ zero. elim lacks.statuses [ inl six ↦ omega arith | inr seven ↦ omega arith ]
+
+-- nor is it that of a refusal
+pub refused_not_done : {V E : Type 0} (refusal : ℕ) (output : Output) (status : ℕ) (items : V → List ℕ) (made : Result V E) → IsRefusalStatus refusal →
+    MatchResult made (λ text. Refuses output refusal (items text) status) (λ _. LacksMemory output status) → status ≢ 0
+refused_not_done refusal output status items (Ok text) small refuses = λ zero.
+    elim refuses.statuses [ inl same ↦ omega (arith, small.0) | inr lacks ↦ lacking_not_done output status lacks zero ]
+refused_not_done refusal output status items (Err e) small lacks = lacking_not_done output status lacks

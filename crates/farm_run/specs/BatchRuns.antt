@@ -1,21 +1,26 @@
 -- What a run of `batch` does.
-use Rattle.std.specs.Prelude.{◌≡◌, ◌≢◌, ◌⊎◌, ℕ, ◌+◌, List, [], ◌∷◌, ◌++◌, length, Option, Some, None, Result, Ok, Err, ℤ}
-use Rattle.farm_base.specs.Counts.{Count, HasRisen, IsQuiet}
+use Rattle.std.specs.Prelude.{◌≡◌, ◌≢◌, ◌⊎◌, ℕ, ◌+◌, ◌<◌, Bool, true, false, List, [], ◌∷◌, ◌++◌, length, Option, Result, Ok, Err, ℤ}
+use Rattle.farm_base.specs.Counts.{Count, HasRisen, IsQuiet, RoseBy}
 use Rattle.farm_base.specs.Known.{Adds, Fronts, Stream, Takes, WhereKnown}
-use Rattle.farm_ports.specs.Folders.{File}
-use Rattle.site_keys.specs.declared.fault.SiteFault.{SiteFault}
-use Rattle.site_keys.specs.Faults.{Refusal, Faulty, Missing}
-use Rattle.farm_site.specs.Described.{Described, site_of_files}
-use Rattle.farm_history.specs.History.{empty_history}
-use Rattle.batch_lines.specs.Reader.{AtEnd}
+use Rattle.batch_lines.specs.Reader.{count_of}
 use Rattle.farm_batch.specs.declared.batch.BatchEnd.{BatchEnd}
 use Rattle.farm_batch.specs.declared.batch.BatchEnd.TheVariants.{Done, Long, Failed}
-use Rattle.farm_batch.specs.Answers.{IsCutAtLast, Step, answers_text}
+use Rattle.farm_batch.specs.Answers.{AreAcknowledged, IsCutAtLast, Step, answers_text, faults_in, history_after}
 use Rattle.farm_batch.specs.Batches.{AskedAll, Asks, GoesOn, IsTooMuch, lines_of}
-use Rattle.farm_batch.specs.Outcomes.{HadMemory, Outcome, outcome}
-use Rattle.farm_run.specs.declared.batch_run.TheConstants.{BOOK_LIMIT}
-use Rattle.farm_run.specs.Runs.{OneAnswerRun, Output, given}
-use Rattle.farm_run.specs.Texts.{no_memory, port_fault, site_refused_text, too_long_text}
+use Rattle.farm_batch.specs.Outcomes.{Outcome, WereAnswered, outcome}
+use Rattle.farm_desk.specs.Histories.{Recovers, RecoversFront, RecoversNow, certain}
+use Rattle.farm_desk.specs.Moments.{EachFrom}
+use Rattle.farm_desk.specs.Recovery.{IsDamagedAt}
+use Rattle.farm_disk.specs.Images.{State, present}
+use Rattle.farm_disk.specs.Runs.{EachNow, WritesNothing}
+use Rattle.farm_history.specs.History.{History, last_place}
+use Rattle.farm_journal.specs.declared.faults.RecoverFault.{RecoverFault}
+use Rattle.farm_journal.specs.declared.faults.RecoverFault.TheVariants.{NotJournal, Damaged, DiskFault, NoMemory}
+use Rattle.farm_journal.specs.Recovery.{IsNotJournal}
+use Rattle.farm_run.specs.declared.limits.TheConstants.{BOOK_LIMIT}
+use Rattle.farm_run.specs.Disks.{IsLater}
+use Rattle.farm_run.specs.Runs.{LacksMemory, Output, Puts, Refuses, Says, given}
+use Rattle.farm_run.specs.Texts.{disk_failed_line, journal_damaged_text, no_memory, not_journal_line, port_fault, too_long_text}
 
 -- The answers of lines were put, whole but for the last one where a put failed, and then a front of each of these texts; where no put
 -- failed, the answers and then the last text, both whole.
@@ -37,53 +42,100 @@ last_text Failed = port_fault
 abbrev pub printed : Outcome → List ℕ
 printed batch = batch.text ++ last_text batch.end
 
--- A batch on a site: the lines that it asked, one after another, and what it did by its status.
-pub record SiteBatch (may_give : ℤ → Type 0) (site : Described) (from to : Option Stream) (source : Count) (output : Output) (status : ℕ) : Type 0 where
+-- What a batch on a recovered history left on the disk, with its last entry in doubt or not.
+pub record LeavesOnDisk (found : History) (steps : List Step) (doubt : Bool) (moment : ℕ) (trace : Option (List State)) (disk : Count) : Type 0 where
+  -- each image at a moment since the recovery stands for a front of the history, with all that was recovered
+  pub since : EachFrom trace moment (RecoversFront BOOK_LIMIT (history_after found steps) (last_place found))
+  -- each image now stands for the history, or where its last entry is in doubt for that or for the history without it
+  pub now : EachNow trace (RecoversNow BOOK_LIMIT doubt (history_after found steps))
+  -- no reply rests on an entry in doubt
+  pub acknowledged : AreAcknowledged (certain doubt (history_after found steps)) steps
+  -- the disk counted no fewer faults than were answered, and one more where an entry is in doubt
+  pub counted : RoseBy (faults_in steps) disk.before disk.now
+  pub counted_once_more : doubt ≡ true → RoseBy (faults_in steps + 1) disk.before disk.now
+
+-- A batch on a desk that was recovered: the lines that it asked, one after another, whether an entry is in doubt at the end, what is left on
+-- the disk, and what was printed, by its status.
+pub record DeskBatch (may_give : ℤ → Type 0) (found : History) (moment : ℕ) (trace : Option (List State)) (disk : Count)
+    (from to : Option Stream) (source : Count) (output : Output) (status : ℕ) : Type 0 where
   pub steps : List Step
   pub taken : List ℕ
   pub in_hand : List ℕ
   pub moved : Takes from to taken
-  pub asks : Asks may_give BOOK_LIMIT (empty_history site) taken in_hand to steps
-  pub statuses : (status ≡ 0) ⊎ (status ≡ 4) ⊎ (status ≡ 6) ⊎ (status ≡ 7)
-  -- every line was asked, or the last one ended the batch; each answer was put whole
-  pub done : status ≡ 0 → AskedAll in_hand to steps × Adds output.old output.new (answers_text steps)
+  pub asks : Asks may_give BOOK_LIMIT found taken in_hand to steps
+  pub doubt : Bool
+  pub left : LeavesOnDisk found steps doubt moment trace disk
+  pub statuses : (status ≡ 0) ⊎ (status ≡ 4) ⊎ (status ≡ 5) ⊎ (status ≡ 6) ⊎ (status ≡ 7)
+  -- every line was asked, or the last one ended the batch; each answer was put whole, and nothing is in doubt
+  pub done : status ≡ 0 → AskedAll in_hand to steps × Adds output.old output.new (answers_text steps) × (doubt ≡ false)
   -- the next line is one too many, or holds a byte too many
   pub refused : status ≡ 4 → GoesOn steps × IsTooMuch (lines_of steps) in_hand × SaysAfter output steps [] (too_long_text (length steps + 1))
+  -- an entry is in doubt; where no port failed, every line was asked all the same
+  pub disk_failed : status ≡ 5 → (doubt ≡ true) × SaysAfter output steps [] disk_failed_line
+  pub asked_all : status ≡ 5 → ¬ (HasRisen source) → ¬ (HasRisen output.count) → AskedAll in_hand to steps
   pub faulted : status ≡ 6 → HasRisen source ⊎ HasRisen output.count
   pub fault_said : status ≡ 6 → SaysAfter output steps (no_memory ∷ []) port_fault
   -- a port that failed is never answered as out of memory
   pub memory_only : status ≡ 7 → IsQuiet source × IsQuiet output.count
   pub memory_said : status ≡ 7 → SaysAfter output steps [] no_memory
-  -- where no port failed and there was memory, what was put depends on the site and the input alone
-  pub function : status ≢ 6 → status ≢ 7 → ¬ (HasRisen output.count) → HadMemory steps → WhereKnown (given from to) (λ text.
-      Adds output.old output.new (printed (outcome BOOK_LIMIT site text)))
+  -- a greater status comes with an entry in doubt only where there was no memory for the line of a line too many
+  pub least : 5 < status → (doubt ≡ false) ⊎ IsTooMuch (lines_of steps) in_hand
+  -- where nothing failed and there was memory, what was put depends on the history and the input alone
+  pub function : status < 5 → ¬ (HasRisen output.count) → WereAnswered steps → WhereKnown (given from to) (λ text.
+      Adds output.old output.new (printed (outcome BOOK_LIMIT found text)))
 
--- what reading a site alone answers: nothing, or its first fault; neither where a file isn't there
-abbrev pub site_answer : Result Described Refusal → Option (Result (List ℕ) SiteFault)
-site_answer (Ok site) = Some (Ok [])
-site_answer (Err (Faulty fault)) = Some (Err fault)
-site_answer (Err (Missing name)) = None
+-- What is reported of how a batch ended, with an entry in doubt or none: a line too many first, then an entry in doubt, then a port that failed.
+abbrev pub EndReported : {E : Type 0} → Result BatchEnd E → Bool → Output → ℕ → Type 0
+EndReported (Ok (Long number)) doubt output status = Refuses output 4 (too_long_text number) status
+EndReported (Ok Done) true output status = (status ≡ 5) × Puts output disk_failed_line
+EndReported (Ok Done) false output status = (status ≡ 0) × (output.new ≡ output.old) × IsQuiet output.count
+EndReported (Ok Failed) true output status = (status ≡ 5) × Puts output disk_failed_line
+EndReported (Ok Failed) false output status = (status ≡ 6) × Puts output port_fault
+EndReported (Err e) doubt output status = LacksMemory output status
 
--- the same of the files of a folder
-abbrev pub site_answer_of : List File → Option (Result (List ℕ) SiteFault)
-site_answer_of files = site_answer (site_of_files files)
+-- what is reported of a journal that wasn't recovered
+abbrev pub NotRecovered : RecoverFault → Output → ℕ → Type 0
+NotRecovered NotJournal output status = (status ≡ 3) × Says output [] [] not_journal_line
+NotRecovered (Damaged place) output status = Refuses output 3 (journal_damaged_text place) status
+NotRecovered DiskFault output status = (status ≡ 5) × Says output [] [] disk_failed_line
+NotRecovered NoMemory output status = LacksMemory output status
 
--- no site was read, and nothing was taken of the input
-pub record NoSite (files : Option (List File)) (folder : Count) (from to : Option Stream) (source : Count) (output : Output) (status : ℕ) : Type 0 where
-  pub site : OneAnswerRun 2 site_refused_text site_answer_of files folder output status
-  pub not_done : status ≢ 0
+-- the bytes of the disk don't begin as a journal's, or the journal is damaged at a place; and the line of that was put
+abbrev pub RefusesJournal : Option (List State) → Output → RecoverFault → Type 0
+RefusesJournal trace output NotJournal = WhereKnown trace (λ states. IsNotJournal (present states).seen) × Says output [] [] not_journal_line
+RefusesJournal trace output (Damaged place) =
+    WhereKnown trace (λ states. IsDamagedAt BOOK_LIMIT place (present states).seen) × Says output [] [] (journal_damaged_text place)
+RefusesJournal trace output DiskFault = ⊥
+RefusesJournal trace output NoMemory = ⊥
+
+-- No desk was recovered: nothing was taken of the input, and nothing was written.
+pub record NoDesk (old new : Option (List State)) (disk : Count) (from to : Option Stream) (source : Count) (output : Output) (status : ℕ) : Type 0 where
+  pub statuses : (status ≡ 3) ⊎ (status ≡ 5) ⊎ (status ≡ 6) ⊎ (status ≡ 7)
+  pub refused : status ≡ 3 → (why : RecoverFault) × RefusesJournal new output why
+  -- bytes that stand for a history aren't refused
+  pub refused_only : (history : History) → WhereKnown new (λ states. Recovers BOOK_LIMIT history (present states).seen → status ≢ 3)
+  pub disk_failed : status ≡ 5 → HasRisen disk × Says output [] [] disk_failed_line
+  pub faulted : status ≡ 6 → HasRisen output.count × Says output [] (no_memory ∷ []) port_fault
+  pub memory_only : status ≡ 7 → IsQuiet output.count × Says output [] [] no_memory
+  pub disk_quiet : status ≢ 5 → IsQuiet disk
+  pub wrote_nothing : WritesNothing old new
   pub input_kept : to ≡ from
   pub quiet : IsQuiet source
 
--- a site was read, and the batch ran on it
-pub record OnSite (may_give : ℤ → Type 0) (files : Option (List File)) (folder : Count) (from to : Option Stream) (source : Count) (output : Output)
-    (status : ℕ) : Type 0 where
-  pub site : Described
-  pub described : WhereKnown files (λ known. site_of_files known ≡ Ok site)
-  pub quiet : IsQuiet folder
-  pub batch : SiteBatch may_give site from to source output status
+-- A desk was recovered from a disk, on which nothing was written before, and the batch ran on it.
+pub record OnDesk {D : Type 0} (trace : D → Option (List State)) (moment faults : D → ℕ) (may_give : ℤ → Type 0) (old new : D)
+    (from to : Option Stream) (source : Count) (output : Output) (status : ℕ) : Type 0 where
+  pub recovered : D
+  pub found : History
+  pub recovers : WhereKnown (trace recovered) (λ states. Recovers BOOK_LIMIT found (present states).seen)
+  pub wrote_nothing : WritesNothing (trace old) (trace recovered)
+  pub disk_quiet : faults recovered ≡ faults old
+  pub goes_on : IsLater (trace recovered) (trace new) (moment recovered) (moment new) (count_of faults recovered new)
+  pub batch : DeskBatch may_give found (moment recovered) (trace new) (count_of faults recovered new) from to source output status
 
--- `batch` over a clock, the files of the folder and the input
-abbrev pub BatchRun : (ℤ → Type 0) → Option (List File) → Count → Option Stream → Option Stream → Count → Output → ℕ → Type 0
-BatchRun may_give files folder from to source output status =
-    NoSite files folder from to source output status ⊎ OnSite may_give files folder from to source output status
+-- `batch` over a clock, the disk and the input
+abbrev pub BatchRun : {D : Type 0} → (D → Option (List State)) → (D → ℕ) → (D → ℕ) → (ℤ → Type 0) → D → D → Option Stream → Option Stream → Count →
+    Output → ℕ → Type 0
+BatchRun trace moment faults may_give old new from to source output status =
+    NoDesk (trace old) (trace new) (count_of faults old new) from to source output status
+    ⊎ OnDesk trace moment faults may_give old new from to source output status

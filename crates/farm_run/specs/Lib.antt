@@ -1,4 +1,6 @@
 pub mod Texts
 pub mod Answers
+pub mod Disks
 pub mod Runs
 pub mod BatchRuns
+pub mod InitRuns

@@ -4,7 +4,7 @@ use Rattle.farm_base.specs.Counts.{Count, HasRisen, IsQuiet}
 use Rattle.farm_base.specs.Known.{WhereKnown, Stream, Adds, AddsAll, AddsWhole}
 use Rattle.farm_ports.specs.Folders.{File}
 use Rattle.command_line.specs.declared.commands.Subcommand.{Subcommand}
-use Rattle.command_line.specs.declared.commands.Subcommand.TheVariants.{Batch, Calc, Table}
+use Rattle.command_line.specs.declared.commands.Subcommand.TheVariants.{Batch, Calc, Init, Table}
 use Rattle.calc_input.specs.declared.refusal.Refused.{Refused}
 use Rattle.calc_input.specs.RefusedLine.{IsRefusal}
 use Rattle.site_keys.specs.Faults.{IsMissing}
@@ -17,6 +17,7 @@ use Rattle.batch_lines.specs.Reader.{count_of}
 abbrev pub uses_input : Option Subcommand → Bool
 uses_input None = false
 uses_input (Some Calc) = true
+uses_input (Some Init) = false
 uses_input (Some Table) = false
 uses_input (Some Batch) = true
 
@@ -24,8 +25,17 @@ uses_input (Some Batch) = true
 abbrev pub uses_folder : Option Subcommand → Bool
 uses_folder None = false
 uses_folder (Some Calc) = false
+uses_folder (Some Init) = true
 uses_folder (Some Table) = true
-uses_folder (Some Batch) = true
+uses_folder (Some Batch) = false
+
+-- whether a command makes calls on the disk
+abbrev pub uses_disk : Option Subcommand → Bool
+uses_disk None = false
+uses_disk (Some Calc) = false
+uses_disk (Some Init) = true
+uses_disk (Some Table) = false
+uses_disk (Some Batch) = true
 
 -- what was left of an input as the run began, where it is still known at the end
 abbrev pub given : Option Stream → Option Stream → Option (List ℕ)

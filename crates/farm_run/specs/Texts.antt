@@ -18,6 +18,22 @@ no_memory = codes "no memory\n"
 abbrev pub port_fault : List ℕ
 port_fault = codes "port fault\n"
 
+-- 5: the disk failed
+abbrev pub disk_failed_line : List ℕ
+disk_failed_line = codes "disk fault\n"
+
+-- 3: the disk has bytes where a journal is to be made
+abbrev pub not_empty_line : List ℕ
+not_empty_line = codes "journal not empty\n"
+
+-- 3: the bytes of the disk don't begin as a journal's
+abbrev pub not_journal_line : List ℕ
+not_journal_line = codes "not a journal\n"
+
+-- 3: a journal is damaged at a place, 0 for its site and 1 for the first entry
+unfoldable pub journal_damaged_text : ℕ → List ℕ
+journal_damaged_text place = codes "journal damaged at " ++ (decimal place ++ codes "\n")
+
 -- the word for what is wrong with an input
 unfoldable pub cause_word : Cause → List ℕ
 cause_word Form = codes "form"

@@ -1,70 +1,121 @@
-//! `batch`: the lines of an input, asked of the desk of a site.
+//! `batch`: the lines of an input, asked of the desk of a journal.
 
-ghost use Rattle.std.specs.Prelude.{◌≡◌, ◌≤◌};
-ghost use Rattle.farm_base.specs.Known.{Stays};
-ghost use Rattle.farm_run.specs.BatchRuns.{BatchRun, SiteBatch};
+ghost use Rattle.std.specs.Prelude.{◌≤◌, IfSome, IsSome};
 ghost use Rattle.batch_lines.specs.Reader.{count_of};
+ghost use Rattle.farm_desk.specs.States.{IsNew};
+ghost use Rattle.farm_history.specs.History.{last_place};
+ghost use Rattle.farm_run.specs.BatchRuns.{BatchRun, DeskBatch, EndReported, NotRecovered};
+ghost use Rattle.farm_run.specs.Disks.{IsLater};
 ghost use Rattle.farm_run.specs.Runs.{output_of};
-ghost use Rattle.farm_site.specs.Sites.{described};
 
-use crate::program::{DONE, REFUSED, SITE_REFUSED, refuse, report_fault, report_no_memory};
-use crate::texts::{site_refused_text, too_long_text};
-use farm_batch::{BatchEnd, answer_lines, laws};
-use farm_book::Book;
-use farm_ports::{Clock, Folder, Sink, Source};
-use farm_site::{Site, SiteReadFault};
+use crate::boxed_disk::BoxedDisk;
+use crate::done::Done;
+use crate::limits::BOOK_LIMIT;
+use crate::reports::{
+    DONE, JOURNAL_REFUSED, REFUSED, refuse, report_disk_fault, report_fault, report_no_memory, say,
+};
+use crate::texts::{NOT_A_JOURNAL, journal_damaged_text, too_long_text};
+use farm_base::NoMemory;
+use farm_batch::{BatchEnd, answer_lines};
+use farm_desk::{Desk, RecoverFault};
+use farm_disk::Disk;
+use farm_ports::{Clock, Sink, Source};
 use std::alloc::Global;
 
-/// The limit of the program's book, in entries.
-pub const BOOK_LIMIT: usize = 200_000;
-
-/// `batch`: the site is read whole before the first line is taken.
-pub(crate) fn batch<S: Source, K: Sink, F: Folder, C: Clock>(
+/// `batch`: the journal is read whole before the first line is taken.
+pub(crate) fn batch<S: Source, K: Sink, D: Disk, C: Clock>(
     alloc: Global,
     input: &mut S,
     output: &mut K,
-    folder: &mut F,
+    disk: D,
     clock: &C,
-) -> u8
-    ensures batch_run { BatchRun (C.may_give clock.now) (F.files folder.new) (count_of F.faults folder.old folder.new)
+) -> Done<D>
+    ensures batch_run { IfSome result.disk (λ left. BatchRun D.trace D.moment D.faults (C.may_give clock.now) disk left
         (S.stream input.old) (S.stream input.new) (count_of S.faults input.old input.new)
-        (output_of K.held K.faults output.old output.new) result }
-    ensures files { Stays (F.files folder.old) (F.files folder.new) }
-    ensures folder_never_falls { F.faults folder.old ≤ F.faults folder.new }
+        (output_of K.held K.faults output.old output.new) result.status) }
+    ensures handed_back { IsSome result.disk }
+    ensures later { IfSome result.disk (λ left. IsLater (D.trace disk) (D.trace left) (D.moment disk) (D.moment left) (count_of D.faults disk left)) }
     ensures input_never_falls { S.faults input.old ≤ S.faults input.new }
     ensures output_never_falls { K.faults output.old ≤ K.faults output.new }
 {
-    match Site::read(alloc, folder) {
-        Ok(site) => ask_lines(alloc, site, input, output, clock),
-        Err(SiteReadFault::Bad(fault)) => {
-            refuse(site_refused_text(alloc, fault), SITE_REFUSED, output)
+    farm_desk::laws();
+    let disk = match BoxedDisk::new(alloc, disk) {
+        Ok(disk) => disk,
+        Err(disk) => {
+            return Done {
+                status: report_no_memory(output),
+                disk: Some(disk),
+            };
         }
-        Err(SiteReadFault::Folder) => report_fault(output),
-        Err(SiteReadFault::NoMemory) => report_no_memory(output),
+    };
+    match Desk::<BoxedDisk<D>, BOOK_LIMIT>::recover(alloc, disk) {
+        Ok(desk) => ask_lines(alloc, desk, input, output, clock),
+        Err((disk, fault)) => Done {
+            status: report_recover(alloc, fault, output),
+            disk: Some(disk.into_inner()),
+        },
     }
 }
 
-// Asks the lines of the input of a site's desk.
-fn ask_lines<S: Source, K: Sink, C: Clock>(
+// Reports why a journal wasn't recovered.
+fn report_recover<K: Sink>(alloc: Global, fault: RecoverFault, output: &mut K) -> u8
+    ensures reports { NotRecovered fault (output_of K.held K.faults output.old output.new) result }
+    ensures never_falls { K.faults output.old ≤ K.faults output.new }
+{
+    match fault {
+        RecoverFault::NotJournal => say(NOT_A_JOURNAL, JOURNAL_REFUSED, output),
+        RecoverFault::Damaged(place) => {
+            refuse(journal_damaged_text(alloc, place), JOURNAL_REFUSED, output)
+        }
+        RecoverFault::DiskFault => report_disk_fault(output),
+        RecoverFault::NoMemory => report_no_memory(output),
+    }
+}
+
+// Asks the lines of the input of a desk that was recovered, and opens the gate of an entry in doubt once more.
+fn ask_lines<S: Source, K: Sink, D: Disk, C: Clock>(
     alloc: Global,
-    site: Site,
+    desk: Desk<BoxedDisk<D>, BOOK_LIMIT>,
     input: &mut S,
     output: &mut K,
     clock: &C,
-) -> u8
-    ensures site_batch { SiteBatch (C.may_give clock.now) (described site) (S.stream input.old) (S.stream input.new)
-        (count_of S.faults input.old input.new) (output_of K.held K.faults output.old output.new) result }
+) -> Done<D>
+    requires new { IsNew (λ boxed. D.moment boxed.disk.value) (λ boxed. D.faults boxed.disk.value) desk (last_place desk.history) }
+    ensures desk_batch { IfSome result.disk (λ left. DeskBatch (C.may_give clock.now) desk.history (D.moment desk.disk.disk.value) (D.trace left)
+        (count_of D.faults desk.disk.disk.value left) (S.stream input.old) (S.stream input.new) (count_of S.faults input.old input.new)
+        (output_of K.held K.faults output.old output.new) result.status) }
+    ensures handed_back { IsSome result.disk }
+    ensures later { IfSome result.disk (λ left. IsLater (D.trace desk.disk.disk.value) (D.trace left) (D.moment desk.disk.disk.value) (D.moment left)
+        (count_of D.faults desk.disk.disk.value left)) }
     ensures input_never_falls { S.faults input.old ≤ S.faults input.new }
     ensures output_never_falls { K.faults output.old ≤ K.faults output.new }
 {
-    laws(clock);
-    let Ok(mut book) = Book::<BOOK_LIMIT>::new(alloc, site) else {
-        return report_no_memory(output);
-    };
-    match answer_lines(alloc, &mut book, input, output, clock) {
-        Ok(BatchEnd::Done) => DONE,
+    farm_batch::laws(clock);
+    let mut desk = desk;
+    let end = answer_lines(alloc, &mut desk, input, output, clock);
+    let (disk, doubt) = desk.finish();
+    Done {
+        status: report_end(alloc, end, doubt, output),
+        disk: Some(disk.into_inner()),
+    }
+}
+
+// Reports how a batch ended, with an entry in doubt or none. The least status that holds is answered.
+fn report_end<K: Sink>(
+    alloc: Global,
+    end: Result<BatchEnd, NoMemory>,
+    doubt: bool,
+    output: &mut K,
+) -> u8
+    ensures reports { EndReported end doubt (output_of K.held K.faults output.old output.new) result }
+    ensures never_falls { K.faults output.old ≤ K.faults output.new }
+{
+    match end {
         Ok(BatchEnd::Long(number)) => refuse(too_long_text(alloc, number), REFUSED, output),
+        Ok(BatchEnd::Done) if doubt => report_disk_fault(output),
+        Ok(BatchEnd::Failed) if doubt => report_disk_fault(output),
+        Ok(BatchEnd::Done) => DONE,
         Ok(BatchEnd::Failed) => report_fault(output),
-        Err(_) => report_no_memory(output),
+        Err(NoMemory) => report_no_memory(output),
     }
 }

@@ -1,12 +1,20 @@
-//! The runs of the program's commands over the ports that they are handed.
+//! The runs of the program's commands over the ports and the disk that they are handed.
 //!
-//! `run` does all that the program does; `main` hands it the real ports. Its contract is one record a command
-//! (`specs/Runs.antt`), over what the ports are known to hold and the counts of their faults. docs/definitions.md says what each
+//! `run` does all that the program does; `main` hands it the real ports and the real disk. Its contract is one record a command
+//! (`specs/`), over what the ports and the disk are known to hold and the counts of their faults. docs/definitions.md says what each
 //! command reads and prints, README.md has the statuses.
 #![tactic(auto)]
 
 mod batch_run;
+mod boxed_disk;
+mod done;
+mod init_run;
+mod limits;
 mod program;
+mod reports;
 mod texts;
 
-pub use program::{report_no_memory, run};
+pub use done::Done;
+pub use limits::BOOK_LIMIT;
+pub use program::run;
+pub use reports::report_no_memory;

@@ -1,6 +1,6 @@
-//! `batch` on the row site.
+//! `batch` on the journal of the row site.
 
-use crate::running::{BATCH, answer_from, batch_answer, push_rows, source_of};
+use crate::running::{batch_answer, push_rows, source_of};
 use farm_batch::BatchEnd;
 use farm_history::{Gauged, Named, Query};
 use std::test::Fail;
@@ -97,7 +97,8 @@ fn rows_of_batches(rt: HostRuntime) -> Result<(), Fail> {
         let mut lines = String::new(rt.alloc());
         let mut answers = String::new(rt.alloc());
         push_rows(rows, &mut lines, &mut answers)?;
-        let (status, bytes) = batch_answer(rt.alloc(), lines.as_str())?;
+        let mut source = source_of(rt.alloc(), &[lines.as_str()])?;
+        let (status, bytes) = batch_answer(rt.alloc(), &mut source)?;
         assert_eq!(rt; status, 0);
         assert_eq!(rt; bytes.as_slice(), answers.as_bytes());
     }
@@ -108,8 +109,7 @@ fn rows_of_batches(rt: HostRuntime) -> Result<(), Fail> {
 fn nothing_is_taken_after_a_stop(rt: HostRuntime) -> Result<(), Fail> {
     let stop = "{\"do\":\"stop\",\"account\":1,\"key\":3}\n";
     let mut source = source_of(rt.alloc(), &["\n", stop, "\n"])?;
-    let mut folder = row_site::row_folder(rt.alloc())?;
-    let (status, bytes) = answer_from(rt.alloc(), BATCH, &mut source, &mut folder)?;
+    let (status, bytes) = batch_answer(rt.alloc(), &mut source)?;
     assert_eq!(rt; status, 0);
     assert_eq!(rt;
         bytes.as_slice(),

@@ -1,6 +1,6 @@
 //! A day of `batch` on the row site: a receipt, a transfer, a delivery and a settlement, and then the stock book.
 
-use crate::running::{batch_answer, push_rows};
+use crate::running::{batch_answer, push_rows, source_of};
 use std::test::Fail;
 
 // The ticket of the receipt at place 5.
@@ -159,7 +159,8 @@ fn the_day_and_its_stock_book(rt: HostRuntime) -> Result<(), Fail> {
         let mut answers = String::new(rt.alloc());
         push_rows(DAY, &mut lines, &mut answers)?;
         push_rows(rows, &mut lines, &mut answers)?;
-        let (status, bytes) = batch_answer(rt.alloc(), lines.as_str())?;
+        let mut source = source_of(rt.alloc(), &[lines.as_str()])?;
+        let (status, bytes) = batch_answer(rt.alloc(), &mut source)?;
         assert_eq!(rt; status, 0);
         assert_eq!(rt; bytes.as_slice(), answers.as_bytes());
     }

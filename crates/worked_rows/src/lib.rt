@@ -17,6 +17,8 @@ mod day;
 #[cfg(test)]
 mod encoding;
 #[cfg(test)]
+mod limit;
+#[cfg(test)]
 mod running;
 #[cfg(test)]
 mod stocks;

@@ -1,5 +1,6 @@
-//! Runs over ports in memory.
+//! Runs over ports and a disk in memory.
 
+use farm_disk::MemDisk;
 use farm_ports::{Files, Fixed, Gather, Script};
 use farm_run::run;
 use std::alloc::Global;
@@ -8,13 +9,15 @@ use std::test::Fail;
 /// What a run ends with: its status, and the bytes that it put.
 pub type Answer = (u8, Vec<u8>);
 
-/// The words of a batch on the row site.
-pub const BATCH: &[&str] = &["batch", "--site", "row"];
+// The words that make a journal, and those of a batch on it.
+const INIT: &[&str] = &["init", "--site", "row", "--journal", "j"];
+
+const BATCH: &[&str] = &["batch", "--journal", "j"];
 
 /// The moment of the clock of the runs.
 const MOMENT: i64 = 1_700_000_000;
 
-/// What the words are answered with, over an input and a folder, no call on which fails.
+/// What the words are answered with, over an input, a folder and an empty disk, no call on which fails.
 pub fn answer(
     alloc: Global,
     words: &[&str],
@@ -22,7 +25,8 @@ pub fn answer(
     folder: &mut Files,
 ) -> Result<Answer, Fail> {
     let mut source = source_of(alloc, &[input])?;
-    answer_from(alloc, words, &mut source, folder)
+    let (answer, _) = answer_on(alloc, words, &mut source, folder, empty_disk(alloc)?)?;
+    Ok(answer)
 }
 
 /// A source of texts, each a piece.
@@ -34,27 +38,47 @@ pub fn source_of(alloc: Global, texts: &[&str]) -> Result<Script, Fail> {
     Ok(Script::new(alloc, pieces, Vec::new(alloc))?)
 }
 
-/// What the words are answered with, over a source and a folder.
-pub fn answer_from(
+/// A disk without a byte.
+pub fn empty_disk(alloc: Global) -> Result<MemDisk, Fail> {
+    Ok(MemDisk::new(alloc, Vec::new(alloc), Vec::new(alloc))?)
+}
+
+// What the words are answered with, over a source, a folder and a disk, and the disk that is left.
+fn answer_on(
     alloc: Global,
     words: &[&str],
     source: &mut Script,
     folder: &mut Files,
-) -> Result<Answer, Fail> {
+    disk: MemDisk,
+) -> Result<(Answer, MemDisk), Fail> {
     let mut owned = Vec::new(alloc);
     for word in words {
         owned.push(String::from_str(alloc, word)?)?;
     }
     let mut sink = Gather::new(alloc, Vec::new(alloc))?;
     let clock = Fixed::new(alloc, MOMENT)?;
-    let status = run(alloc, &owned, source, &mut sink, folder, &clock);
-    Ok((status, Vec::from_slice(alloc, sink.bytes())?))
+    let done = run(alloc, &owned, source, &mut sink, folder, disk, &clock);
+    let bytes = Vec::from_slice(alloc, sink.bytes())?;
+    Ok(((done.status, bytes), done.disk.ok_or("no disk")?))
 }
 
-/// What a batch on the row site answers to its lines.
-pub fn batch_answer(alloc: Global, lines: &str) -> Result<Answer, Fail> {
+// A disk with the journal of the row site, without an entry.
+fn row_journal(alloc: Global) -> Result<MemDisk, Fail> {
     let mut folder = row_site::row_folder(alloc)?;
-    answer(alloc, BATCH, lines, &mut folder)
+    let mut source = source_of(alloc, &[])?;
+    let (answer, disk) = answer_on(alloc, INIT, &mut source, &mut folder, empty_disk(alloc)?)?;
+    if answer.0 == 0 {
+        Ok(disk)
+    } else {
+        Err("no journal")?
+    }
+}
+
+/// What a batch on a new journal of the row site answers to a source of lines.
+pub fn batch_answer(alloc: Global, lines: &mut Script) -> Result<Answer, Fail> {
+    let mut folder = Files::new(alloc, Vec::new(alloc), Vec::new(alloc))?;
+    let (answer, _) = answer_on(alloc, BATCH, lines, &mut folder, row_journal(alloc)?)?;
+    Ok(answer)
 }
 
 /// Appends the lines of rows to a text and their answers to another, each with its line feed.

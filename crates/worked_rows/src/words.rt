@@ -18,29 +18,31 @@ fn usage_line(rt: HostRuntime) -> Result<(), Fail> {
     Ok(())
 }
 
-// The site's folder that words name.
-fn site_of(alloc: Global, words: &[&str]) -> Result<String, Fail> {
+// The site's folder and the journal's file that words name.
+fn places_of(alloc: Global, words: &[&str]) -> Result<(String, String), Fail> {
     let mut owned = Vec::new(alloc);
     for word in words {
         owned.push(String::from_str(alloc, word)?)?;
     }
-    let (site, _) = places(alloc, &owned).ok_or("out of memory")?;
-    Ok(site)
+    Ok(places(alloc, &owned).ok_or("out of memory")?)
 }
 
 #[test]
 fn places_of_words(rt: HostRuntime) -> Result<(), Fail> {
-    let cases: [(&[&str], &str); 6] = [
-        (&["table", "--site", "d"], "d"),
-        (&["table", "--site=d/e"], "d/e"),
-        (&["table", "--site", "-d"], ""),
-        (&["batch", "--site=d"], "d"),
-        (&["batch", "--journal", "d"], ""),
-        (&["calc"], ""),
+    let cases: [(&[&str], &str, &str); 8] = [
+        (&["table", "--site", "d"], "d", ""),
+        (&["table", "--site=d/e"], "d/e", ""),
+        (&["table", "--site", "-d"], "", ""),
+        (&["batch", "--site=d"], "", ""),
+        (&["batch", "--journal", "j"], "", "j"),
+        (&["init", "--journal=j", "--site", "d"], "d", "j"),
+        (&["init", "--site", "d"], "", ""),
+        (&["calc"], "", ""),
     ];
-    for (words, want) in cases {
-        let site = site_of(rt.alloc(), words)?;
-        assert_eq!(rt; site.as_str(), want, "{words:?}");
+    for (words, site, journal) in cases {
+        let places = places_of(rt.alloc(), words)?;
+        assert_eq!(rt; places.0.as_str(), site, "{words:?}");
+        assert_eq!(rt; places.1.as_str(), journal, "{words:?}");
     }
     Ok(())
 }

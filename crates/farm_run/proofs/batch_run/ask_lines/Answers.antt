@@ -1,32 +1,40 @@
-use Rattle.std.proofs.Common.{ℕ, refl, arith}
-use Rattle.std.specs.declared.alloc.Global.{Global}
-use Rattle.std.specs.Prelude.{Vec}
-use Rattle.farm_site.specs.Sites.{described}
-use Rattle.farm_run.specs.Texts.{too_long_text}
-use Rattle.farm_run.proofs.BatchRuns.{batch_done, batch_failed, batch_long, not_begun}
-use Rattle.farm_run.proofs.Runs.{refused_by}
+use Rattle.std.proofs.Common.{◌≡◌, ap, false}
+use Rattle.batch_lines.specs.Reader.{count_of}
+use Rattle.farm_run.specs.Disks.{IsLater}
+use Rattle.farm_run.proofs.BatchEnds.{batch_ended, on_err_all}
+use Rattle.farm_run.proofs.DisksLeft.{later_more, leaves}
 use Rattle.farm_run.proofs.batch_run.ask_lines.Goals as goal
 
-pub returns-in-Ok-Done-clause-site_batch : goal.returns-in-Ok-Done-clause-site_batch
-returns-in-Ok-Done-clause-site_batch g c =
-    batch_done _ (described c.args.site) _ _ _ _ _ _ _ _ _ c.laws.ensures.outcomes_are_one c.in-Ok.ensures.history (rw c.in-Ok-Done.field-0-is at c.in-Ok-Done.ensures.batch)
+pub returns-clause-desk_batch : goal.returns-clause-desk_batch
+returns-clause-desk_batch g c =
+    let finish = c.finish-disk.ensures in
+    let answers = c.answer_lines-end.ensures in
+    let settled : c.answer_lines-end.new.desk.doubt ≡ false → c.finish-disk.result.1 ≡ false = λ sure. (finish.untouched sure).1 in
+    rw c.into_inner.ensures.disk
+    (batch_ended _ c.args.desk c.answer_lines-end.new.desk _ _ _ _ _ _ c.finish-disk.result.1 c.laws.ensures.outcomes_are_one
+    (λ steps left counted acknowledged.
+    leaves (λ boxed. g.D.Disk.trace boxed.disk.value) (λ boxed. g.D.Disk.moment boxed.disk.value) (λ boxed. g.D.Disk.faults boxed.disk.value)
+    c.args.desk c.answer_lines-end.new.desk c.finish-disk.result.0 c.finish-disk.result.1 steps c.requires.new answers.keeps.opened left counted acknowledged
+    settled finish.since finish.now finish.counted finish.counted_once_more)
+    c.answer_lines-end.result _ _ _ _ _ _ _ answers.batch
+    (on_err_all c.answer_lines-end.result _ _ _ _ answers.desk_kept answers.input_kept answers.output_kept (λ desk_kept input_kept output_kept. record {
+      desk_kept = desk_kept;
+      input_kept = ap g.S.Port.stream input_kept;
+      quiet = ap g.S.Port.faults input_kept;
+      output_kept = ap g.K.Port.held output_kept;
+      output_quiet = ap g.K.Port.faults output_kept;
+    }))
+    c.requires.new.certain settled answers.output_never_falls c.report_end.ensures.never_falls c.report_end.ensures.reports)
 
-pub returns-in-Ok-Long-clause-site_batch : goal.returns-in-Ok-Long-clause-site_batch
-returns-in-Ok-Long-clause-site_batch g c =
-    let number = c.in-Ok-Long.number in
-    batch_long _ (described c.args.site) _ _ _ _ _ _ _ _ _ _ _ _ number c.laws.ensures.outcomes_are_one c.in-Ok.ensures.history
-    (rw c.in-Ok-Long.field-0-is at c.in-Ok-Long.ensures.batch) c.refuse.ensures.never_falls
-    (refused_by 4 (too_long_text number) _ _ (λ (text : Vec ℕ Global). text.items) c.too_long_text.result (omega arith, omega arith) c.too_long_text.ensures.line c.refuse.ensures.refuses)
-
-pub returns-in-Ok-Failed-clause-site_batch : goal.returns-in-Ok-Failed-clause-site_batch
-returns-in-Ok-Failed-clause-site_batch g c =
-    batch_failed _ (described c.args.site) _ _ _ _ _ _ _ _ _ _ _ _ c.in-Ok.ensures.history (rw c.in-Ok-Failed.field-0-is at c.in-Ok-Failed.ensures.batch)
-    c.in-Ok-Failed.ensures.output_never_falls c.report_fault.ensures.never_falls c.report_fault.ensures.status c.report_fault.ensures.puts
-
-pub returns-clause-site_batch : goal.returns-clause-site_batch
-returns-clause-site_batch g c =
-    rw c.in-Err.ensures.input_kept (
-    not_begun _ (described c.args.site) _ _ _ _ _ _ _ refl
-    (rw c.in-Err.ensures.output_kept at c.report_no_memory-in-Err.ensures.never_falls)
-    (rw c.in-Err.ensures.output_kept at c.report_no_memory-in-Err.ensures.lacks_memory)
-    )
+pub returns-clause-later : goal.returns-clause-later
+returns-clause-later g c =
+    let keeps = c.answer_lines-end.ensures.keeps in
+    let finish = c.finish-disk.ensures in
+    let before = c.args.desk.disk.disk.value in
+    let between = c.answer_lines-end.new.desk.disk.disk.value in
+    let after = c.finish-disk.result.0.disk.value in
+    let asked : IsLater (g.D.Disk.trace before) (g.D.Disk.trace between) (g.D.Disk.moment before) (g.D.Disk.moment between) (count_of g.D.Disk.faults before between) =
+    record { extends = keeps.extends; moment_on = keeps.moment_on; never_falls = keeps.never_falls } in
+    let finished : IsLater (g.D.Disk.trace between) (g.D.Disk.trace after) (g.D.Disk.moment between) (g.D.Disk.moment after) (count_of g.D.Disk.faults between after) =
+    record { extends = finish.extends; moment_on = finish.moment; never_falls = finish.never_falls } in
+    rw c.into_inner.ensures.disk (later_more _ _ _ _ _ _ _ _ _ asked finished)
