@@ -1,5 +1,6 @@
 """Writes into a folder two inputs of `calc` from levels, the greatest one and one of 100,000 short factor lines, a factor file, and
-batches: refused lines, repeated lines, lines that are accepted, and a history with tickets, without looks at its total and with them."""
+batches: refused lines, repeated lines, lines that are accepted, looks, and a history with tickets, without looks at its total and with
+them."""
 
 import pathlib
 import sys
@@ -62,6 +63,8 @@ entries = "".join(day())
 (folder / "looks.jsonl").write_text(entries + '{"do":"total"}\n' * 200)
 (folder / "refused.jsonl").write_text("".join(gauge(key, 99) for key in range(200_000)))
 (folder / "repeated.jsonl").write_text(gauge(1, 101) * 200_000)
+(folder / "thousand.jsonl").write_text("".join(gauge(key, 101) for key in range(1_000)))
+(folder / "stocks.jsonl").write_text('{"do":"stock","tank":101}\n' * 1_000)
 (folder / "accepted.jsonl").write_text("".join(gauge(key, 101) for key in range(10_000)))
 (folder / "many.jsonl").write_text("".join(gauge(key, 101) for key in range(100_000)))
 (folder / "levels.txt").write_text(levels())

@@ -1,15 +1,19 @@
 """Times the built programs beside others that do the same; `run` builds them and hands over the two folders."""
 
 import os
+import shutil
+import statistics
 import subprocess
 import sys
+import tempfile
 import time
 
 TOP, WORK = sys.argv[1:]
 PROGRAM = f"{TOP}/crates/farm/out/farm"
 FARM = [PROGRAM, "calc"]
 TABLE = [PROGRAM, "table", "--site"]
-BATCH = [PROGRAM, "batch", "--site", f"{TOP}/examples/site"]
+# Where a journal lies whose syncs aren't to be measured: in memory, where the system has a file system there.
+MEMORY = tempfile.TemporaryDirectory(dir="/dev/shm" if os.path.isdir("/dev/shm") else WORK)
 LINE = f"{TOP}/examples/calc/observed.txt"
 LEVELS = f"{WORK}/levels.txt"
 SHORT_LEVELS = f"{WORK}/short_levels.txt"
@@ -30,6 +34,25 @@ def least(words, runs, path="/dev/null"):
         answer(words, path)
         spent.append(time.perf_counter() - start)
     return 1000 * min(spent)
+
+
+def batch(journal):
+    """The words of a batch."""
+    return [PROGRAM, "batch", "--journal", journal]
+
+
+def fresh(folder):
+    """A journal of the example site, without an entry, in place of the one that was there."""
+    path = os.path.join(folder, "fresh")
+    if os.path.exists(path):
+        os.remove(path)
+    subprocess.run([PROGRAM, "init", "--site", f"{TOP}/examples/site", "--journal", path], check=True)
+    return path
+
+
+def least_fresh(runs, path):
+    """The least time of some batches in milliseconds, each on a fresh journal in memory."""
+    return min(least(batch(fresh(MEMORY.name)), 1, path) for _ in range(runs))
 
 
 def kilobytes(words, path):
@@ -69,12 +92,61 @@ print(f"a site with every list at its limit: {least([*TABLE, f'{WORK}/limits'], 
 # C with cJSON that reads the same lines and prints answers of the same text, where there is cJSON.
 if os.path.exists(f"{WORK}/batch"):
     for name, text in (("refused", '{"rule":3,"value":0}'), ("repeated", '{"place":1}')):
-        compare(f"200,000 {name} lines of a batch, C with cJSON", BATCH, [f"{WORK}/batch", text], 9, f"{WORK}/{name}.jsonl")
-print(f"10,000 accepted lines of a batch: {least(BATCH, 3, f'{WORK}/accepted.jsonl'):.0f} ms")
-history = least(BATCH, 5, f"{WORK}/entries.jsonl")
-looked = least(BATCH, 5, f"{WORK}/looks.jsonl")
+        compare(f"200,000 {name} lines of a batch, C with cJSON", batch(fresh(MEMORY.name)), [f"{WORK}/batch", text], 9, f"{WORK}/{name}.jsonl")
+print(f"10,000 accepted lines of a batch, journal in memory: {least_fresh(3, f'{WORK}/accepted.jsonl'):.0f} ms")
+history = least_fresh(5, f"{WORK}/entries.jsonl")
+looked = least_fresh(5, f"{WORK}/looks.jsonl")
 print(f"a history of 10,000 entries with 2,499 tickets: {history:.0f} ms, and a look at its total: {(looked - history) / 200:.2f} ms")
-print(f"memory of a batch of 100,000 entries: {kilobytes(BATCH, f'{WORK}/many.jsonl')} KB")
+print(f"memory of a batch of 100,000 entries: {kilobytes(batch(fresh(MEMORY.name)), f'{WORK}/many.jsonl')} KB")
+
+
+def rate(words, path):
+    """How many of a thousand lines a program gets through in a second. Its answers are thrown away, so that no other file is written."""
+    with open(path, "rb") as lines:
+        start = time.perf_counter()
+        subprocess.run(words, stdin=lines, stdout=subprocess.DEVNULL, check=True)
+        return 1000 / (time.perf_counter() - start)
+
+
+def gauge_rates():
+    """Gauge lines a second of a batch, and of C that makes the same calls on the disk: medians of five runs in turns, on fresh journals."""
+    ours, beside = [], []
+    for _ in range(5):
+        ours.append(rate(batch(fresh(WORK)), f"{WORK}/thousand.jsonl"))
+        beside.append(rate([f"{WORK}/journal", "put", fresh(WORK), "1000"], "/dev/null"))
+    return statistics.median(ours), statistics.median(beside)
+
+
+def zeros(folder):
+    """A journal of 1,000,000 records, each with a body of 59 zeros, which no batch would take: of an entry's length, and no entry."""
+    path = fresh(folder)
+    with open(path, "rb+") as file:
+        file.seek(-1, os.SEEK_END)
+        file.write((b"\x01" + (59).to_bytes(4, "big") + bytes(59)) * 1_000_000 + b"\x00")
+    return path
+
+
+def disk_calls(path):
+    """How many calls on its disk a batch makes."""
+    trace = f"{WORK}/trace"
+    answer(["strace", "-o", trace, "-e", "trace=fsync,fdatasync,pread64,pwrite64", *batch(fresh(MEMORY.name))], path)
+    with open(trace) as file:
+        return sum(line.startswith(("f", "p")) for line in file)
+
+
+# Journals. On a file system in memory a sync costs nothing, so that the first row says something only of one on a disk.
+KIND = subprocess.run(["df", "--output=fstype", WORK], stdout=subprocess.PIPE, text=True).stdout.split()[-1]
+rates = gauge_rates()
+print(f"gauge lines of a batch, a journal on {KIND}: {rates[0]:.0f} a second, C {rates[1]:.0f} a second, ratio {rates[0] / rates[1]:.2f}")
+written = fresh(MEMORY.name)
+answer(batch(written), f"{WORK}/accepted.jsonl")
+gauges = shutil.copy(written, f"{WORK}/gauges")
+print(f"10,000 gauges recovered from {KIND}: {least(batch(gauges), 5):.0f} ms")
+for where, folder in (("memory", MEMORY.name), (KIND, WORK)):
+    path = zeros(folder)
+    compare(f"1,000,000 records recovered from {where}, C", [f"{TOP}/crates/journal_bench/out/journal_bench", path], [f"{WORK}/journal", "walk", path], 9)
+if shutil.which("strace"):
+    print(f"calls on the disk for 1,000 looks at a stock: {disk_calls(f'{WORK}/stocks.jsonl') - disk_calls('/dev/null')}")
 LOG = f"{TOP}/crates/shared_log/out/shared_log"
 for callers, turns in ((1, 200_000), (4, 50_000)):
     words = [str(callers), str(turns), "500"]
