@@ -1,0 +1,5 @@
+//! Tests of the types of desks and of runs: what no clause of `farm_desk` and `farm_run` says.
+#![tactic(auto)]
+
+#[cfg(test)]
+mod sharing;
