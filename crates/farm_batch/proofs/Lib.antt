@@ -7,10 +7,10 @@ pub mod TimelessStocks
 pub mod TimelessRules
 pub mod MoreSteps
 pub mod OneOutcome
-pub mod OutOfMemory
 pub mod OutcomeSteps
 pub mod Puts
 pub mod SoFar
+pub mod StatusTexts
 pub mod Ends
 pub mod Kept
 pub mod Taken

@@ -1,5 +1,5 @@
 -- What is put of the answer to a line.
-use Rattle.std.proofs.Common.{◌≡◌, ◌⊎◌, inl, inr, ℕ, ◌≤◌, Bool, true, false, List, take, Option, None, Some, Result, Ok, Err, ℤ, refl, subst, arith, IsErr}
+use Rattle.std.proofs.Common.{◌≡◌, ◌≢◌, inl, inr, ℕ, ◌≤◌, Bool, true, false, List, take, Option, None, Some, Result, Ok, Err, ℤ, refl, subst, arith, IsErr}
 use Rattle.farm_base.specs.Counts.{Count, HasRisen, RoseBy}
 use Rattle.farm_base.specs.Known.{Adds}
 use Rattle.farm_desk.specs.Histories.{certain}
@@ -8,8 +8,8 @@ use Rattle.farm_history.specs.History.{History, last_place}
 use Rattle.farm_http.specs.declared.page.Page.{Page}
 use Rattle.farm_batch.specs.declared.batch.BatchEnd.{BatchEnd}
 use Rattle.farm_batch.specs.declared.batch.BatchEnd.TheVariants.{Done, Failed}
-use Rattle.farm_batch.specs.Answers.{AsksNothing, IsReply, LineAnswer, MeetsLine, Step, answer_text, faults_of, line_answer, out_of_memory}
-use Rattle.farm_batch.specs.Batches.{Answers, PutsPage, PutsStep}
+use Rattle.farm_batch.specs.Answers.{AsksNothing, IsReply, LineAnswer, MeetsLine, Step, answer_text, disk_fault, faults_of, line_answer, out_of_memory}
+use Rattle.farm_batch.specs.Batches.{Answers, MayBePut, PutsPage, PutsStep}
 
 -- the step of a line
 abbrev step_of : List ℕ → Page → History → Bool → Step
@@ -30,20 +30,26 @@ lacking before after meant page stops meets line = elim (meets line) [
 counted_none : (some before now : ℕ) → RoseBy some before now → RoseBy 0 before now
 counted_none some before now rose = omega (arith, rose)
 
-module _ {D : Type 0} (may_give : ℤ → Type 0) (limit : ℕ) (before after : DeskState D) (line : List ℕ) (now : ℤ) (given : may_give now)
+module _ {D : Type 0} (faults : D → ℕ) (may_give : ℤ → Type 0) (limit : ℕ) (before after : DeskState D) (line : List ℕ) (now : ℤ) (given : may_give now)
     (surer : certain before.doubt before.history ≤ certain after.doubt after.history) (untouched : AsksNothing line → after ≡ before)
     (old new : Option (List ℕ)) (sink : Count) where
+  -- the disk counted no fault, unless a page is a fault of the disk
+  abbrev DiskQuiet : Page → Type 0
+  DiskQuiet page = page ≢ disk_fault → faults after.disk ≡ faults before.disk
+
   -- a line whose answer meets what is meant, and of which this was put
   answers : (page : Page) (stops : Bool) → MeetsLine before.history after.history (line_answer limit before.history now line) page stops →
-      RoseBy (faults_of page) before.failed after.failed → (IsReply page → last_place after.history ≤ certain after.doubt after.history) →
+      RoseBy (faults_of page) before.failed after.failed → DiskQuiet page →
+      (IsReply page → last_place after.history ≤ certain after.doubt after.history) →
       (end : Option BatchEnd) → PutsStep (step_of line page after.history stops) old new sink end →
-      Answers may_give limit before after line old new sink end
-  answers page stops meets counted acknowledged end puts = record {
+      Answers faults may_give limit before after line old new sink end
+  answers page stops meets counted disk_quiet acknowledged end puts = record {
     step = step_of line page after.history stops;
     line_is = refl;
     history_is = refl;
     answered = record { now = now; given = given; meets = meets line };
     counted = counted;
+    disk_quiet = disk_quiet;
     acknowledged = acknowledged;
     surer = surer;
     untouched = untouched;
@@ -51,39 +57,39 @@ module _ {D : Type 0} (may_give : ℤ → Type 0) (limit : ℕ) (before after : 
   }
 
   module _ (page : Page) (stops : Bool) (meets : MeetsLine before.history after.history (line_answer limit before.history now line) page stops)
-      (counted : RoseBy (faults_of page) before.failed after.failed)
+      (counted : RoseBy (faults_of page) before.failed after.failed) (disk_quiet : DiskQuiet page)
       (acknowledged : IsReply page → last_place after.history ≤ certain after.doubt after.history) where
     -- an answer that was put whole ends the batch
-    pub ends : Adds old new (answer_text page) → stops ≡ true → Answers may_give limit before after line old new sink (Some Done)
-    ends added is = answers page stops meets counted acknowledged (Some Done) (is, added)
+    pub ends : Adds old new (answer_text page) → stops ≡ true → Answers faults may_give limit before after line old new sink (Some Done)
+    ends added is = answers page stops meets counted disk_quiet acknowledged (Some Done) (is, added)
 
     -- or the batch goes on after it
-    pub goes_on : Adds old new (answer_text page) → stops ≡ false → Answers may_give limit before after line old new sink None
-    goes_on added is = answers page stops meets counted acknowledged None (is, added)
+    pub goes_on : Adds old new (answer_text page) → stops ≡ false → Answers faults may_give limit before after line old new sink None
+    goes_on added is = answers page stops meets counted disk_quiet acknowledged None (is, added)
 
-    -- what out of memory in place of the answer is, whatever was put
-    lacks : (end : Option BatchEnd) → PutsStep (step_of line out_of_memory after.history false) old new sink end →
-        Answers may_give limit before after line old new sink end
-    lacks end puts =
+    -- what out of memory in place of an answer is, whatever was put
+    lacks : page ≢ disk_fault → (end : Option BatchEnd) → PutsStep (step_of line out_of_memory after.history false) old new sink end →
+        Answers faults may_give limit before after line old new sink end
+    lacks other end puts =
         answers out_of_memory false (lacking before.history after.history _ page stops meets)
-        (counted_none (faults_of page) before.failed after.failed counted) (λ reply. absurd reply) end puts
+        (counted_none (faults_of page) before.failed after.failed counted) (λ memory. disk_quiet other) (λ reply. absurd reply) end puts
 
     -- the batch goes on after out of memory was put in place of an answer
-    pub lacks_memory : Adds old new (answer_text out_of_memory) → Answers may_give limit before after line old new sink None
-    lacks_memory added = lacks None (refl, added)
+    pub lacks_memory : page ≢ disk_fault → Adds old new (answer_text out_of_memory) → Answers faults may_give limit before after line old new sink None
+    lacks_memory other added = lacks other None (refl, added)
 
     -- a put of the answer, or of out of memory in its place, failed
-    pub fails : (shown : Page) → (shown ≡ page) ⊎ (shown ≡ out_of_memory) → (count : ℕ) → Adds old new (take count (answer_text shown)) → HasRisen sink →
-        Answers may_give limit before after line old new sink (Some Failed)
+    pub fails : (shown : Page) → MayBePut page shown → (count : ℕ) → Adds old new (take count (answer_text shown)) → HasRisen sink →
+        Answers faults may_give limit before after line old new sink (Some Failed)
     fails shown which count added risen =
         let Puts : Page → Type 0 = λ page. Adds old new (take count (answer_text page)) in
         elim which [
-          | inl same ↦ answers page stops meets counted acknowledged (Some Failed) (risen, count, subst Puts same added)
-          | inr lacking ↦ lacks (Some Failed) (risen, count, subst Puts lacking added)
+          | inl same ↦ answers page stops meets counted disk_quiet acknowledged (Some Failed) (risen, count, subst Puts same added)
+          | inr lacking ↦ lacks lacking.1 (Some Failed) (risen, count, subst Puts lacking.0 added)
         ]
 
 -- a put that failed, of an answer or of out of memory in its place, has put a front of it
 pub failed_put : {E : Type 0} (page shown : Page) (old new : Option (List ℕ)) (result : Result Bool E) → IsErr result →
-    (shown ≡ page) ⊎ (shown ≡ out_of_memory) → (count : ℕ) → Adds old new (take count (answer_text shown)) → PutsPage page old new result
+    MayBePut page shown → (count : ℕ) → Adds old new (take count (answer_text shown)) → PutsPage page old new result
 failed_put page shown old new (Ok whole) failed which count added = let no : false ≡ true = failed in cc
 failed_put page shown old new (Err e) failed which count added = (shown, which, count, added)

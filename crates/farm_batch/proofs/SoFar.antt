@@ -9,19 +9,20 @@ use Rattle.farm_desk.specs.Histories.{certain}
 use Rattle.farm_desk.specs.States.{DeskState}
 use Rattle.farm_history.specs.History.{History, last_place}
 use Rattle.farm_batch.specs.declared.batch.BatchEnd.{BatchEnd}
-use Rattle.farm_batch.specs.Answers.{AnswersEach, AnswersLine, AreAcknowledged, AsksNothing, IsReply, Step, answer_text, answers_text, faults_in, history_after}
+use Rattle.farm_batch.specs.Answers.{AnswersEach, AnswersLine, AreAcknowledged, AsksNothing, HaveNoFault, IsReply, Step, answer_text, answers_text, faults_in, history_after}
 use Rattle.farm_batch.specs.Batches.{Answers, GoesOn, lines_of}
-use Rattle.farm_batch.proofs.MoreSteps.{acknowledged_more, answers_more, answers_text-more, ask_nothing_more, counted_more, goes_on-more, history_after-more, length-more, lines_of-more}
+use Rattle.farm_batch.proofs.MoreSteps.{acknowledged_more, answers_more, answers_text-more, ask_nothing_more, counted_more, goes_on-more, history_after-more, length-more, lines_of-more, no_fault_more}
 use Rattle.farm_batch.proofs.Taken.{IsRead, read_line, read_none}
 
 -- The batch so far: the lines that were asked, of which none ended it, what was read and what was put. The line of this number is next.
-pub record SoFar {D : Type 0} (may_give : ℤ → Type 0) (limit : ℕ) (before after : DeskState D) (from to : Option Stream) (source : Count)
+pub record SoFar {D : Type 0} (faults : D → ℕ) (may_give : ℤ → Type 0) (limit : ℕ) (before after : DeskState D) (from to : Option Stream) (source : Count)
     (old new : Option (List ℕ)) (sink : Count) (reading : Reading) (number : ℕ) : Type 0 where
   pub steps : List Step
   pub answered : AnswersEach may_give limit before.history steps
   pub goes_on : GoesOn steps
   pub left : after.history ≡ history_after before.history steps
   pub counted : RoseBy (faults_in steps) before.failed after.failed
+  pub disk_quiet : HaveNoFault steps → faults after.disk ≡ faults before.disk
   pub acknowledged : AreAcknowledged (certain after.doubt after.history) steps
   pub untouched : All AsksNothing (lines_of steps) → after ≡ before
   pub read : IsRead from to (lines_of steps) reading
@@ -44,16 +45,17 @@ rose_by_none : (count : ℕ) → RoseBy 0 count count
 rose_by_none count = omega arith
 
 -- the batch before its first line
-pub at_start : {D : Type 0} (may_give : ℤ → Type 0) (limit : ℕ) (desk : DeskState D) (from : Option Stream) (faults : ℕ) (old : Option (List ℕ))
+pub at_start : {D : Type 0} (faults : D → ℕ) (may_give : ℤ → Type 0) (limit : ℕ) (desk : DeskState D) (from : Option Stream) (source_faults : ℕ) (old : Option (List ℕ))
     (sink_faults : ℕ) (reading : Reading) → reading.in_hand ≡ [] → reading.passed ≡ 0 →
-    SoFar may_give limit desk desk from from (counts faults faults) old old (counts sink_faults sink_faults) reading 1
-at_start may_give limit desk from faults old sink_faults reading in_hand passed =
+    SoFar faults may_give limit desk desk from from (counts source_faults source_faults) old old (counts sink_faults sink_faults) reading 1
+at_start faults may_give limit desk from source_faults old sink_faults reading in_hand passed =
     record {
       steps = [];
       answered = tt;
       goes_on = All-nil (λ (step : Step). step.stops ≡ false);
       left = refl;
       counted = rose_by_none desk.failed;
+      disk_quiet = λ none. refl;
       acknowledged = All-nil (λ (step : Step). IsReply step.page → last_place step.history ≤ certain desk.doubt desk.history);
       untouched = λ nothing. refl;
       read = read_none from reading in_hand passed;
@@ -64,21 +66,22 @@ at_start may_give limit desk from faults old sink_faults reading in_hand passed 
     }
 
 -- the steps of a batch so far and one more
-pub record WithStep {D : Type 0} (may_give : ℤ → Type 0) (limit : ℕ) (before after : DeskState D) (front : List Step) (step : Step) (line : List ℕ) : Type 0 where
+pub record WithStep {D : Type 0} (faults : D → ℕ) (may_give : ℤ → Type 0) (limit : ℕ) (before after : DeskState D) (front : List Step) (step : Step) (line : List ℕ) : Type 0 where
   pub answered : AnswersEach may_give limit before.history (front ++ step ∷ [])
   pub left : after.history ≡ history_after before.history (front ++ step ∷ [])
   pub counted : RoseBy (faults_in (front ++ step ∷ [])) before.failed after.failed
+  pub disk_quiet : HaveNoFault (front ++ step ∷ []) → faults after.disk ≡ faults before.disk
   pub acknowledged : AreAcknowledged (certain after.doubt after.history) (front ++ step ∷ [])
   pub untouched : All AsksNothing (lines_of (front ++ step ∷ [])) → after ≡ before
   pub lines : lines_of front ++ line ∷ [] ≡ lines_of (front ++ step ∷ [])
 
 -- a line was answered after those so far
-pub with_step : {D : Type 0} {may_give : ℤ → Type 0} {limit : ℕ} {before middle after : DeskState D} {from between : Option Stream} {source : Count}
+pub with_step : {D : Type 0} {faults : D → ℕ} {may_give : ℤ → Type 0} {limit : ℕ} {before middle after : DeskState D} {from between : Option Stream} {source : Count}
     {old held new : Option (List ℕ)} {sink sink_step : Count} {reading : Reading} {number : ℕ} {line : List ℕ} {end : Option BatchEnd} →
-    (so_far : SoFar may_give limit before middle from between source old held sink reading number) →
-    (answers : Answers may_give limit middle after line held new sink_step end) →
-    WithStep may_give limit before after so_far.steps answers.step line
-with_step {D} {may_give} {limit} {before} {middle} {after} {from} {between} {source} {old} {held} {new} {sink} {sink_step} {reading} {number} {line} {end}
+    (so_far : SoFar faults may_give limit before middle from between source old held sink reading number) →
+    (answers : Answers faults may_give limit middle after line held new sink_step end) →
+    WithStep faults may_give limit before after so_far.steps answers.step line
+with_step {D} {faults} {may_give} {limit} {before} {middle} {after} {from} {between} {source} {old} {held} {new} {sink} {sink_step} {reading} {number} {line} {end}
     so_far answers =
     let front = so_far.steps in
     let step = answers.step in
@@ -89,6 +92,7 @@ with_step {D} {may_give} {limit} {before} {middle} {after} {from} {between} {sou
       answered = answers_more may_give limit before.history front step so_far.answered so_far.goes_on (subst After so_far.left answers.answered);
       left = sym answers.history_is ∙ sym (history_after-more before.history front step);
       counted = counted_more front step before.failed middle.failed after.failed so_far.counted answers.counted;
+      disk_quiet = λ none. let each = no_fault_more front step none in answers.disk_quiet each.1 ∙ so_far.disk_quiet each.0;
       acknowledged = acknowledged_more (certain middle.doubt middle.history) (certain after.doubt after.history) front step answers.surer so_far.acknowledged rests;
       untouched = λ nothing.
           let each = ask_nothing_more front step nothing in
@@ -108,22 +112,23 @@ pub risen_since : (before middle now : ℕ) → middle ≡ before → Rose middl
 risen_since before middle now quiet rose = subst (λ (count : ℕ). Rose count now) quiet rose
 
 -- The batch goes on after a line.
-pub goes_on : {D : Type 0} {may_give : ℤ → Type 0} {limit : ℕ} {before middle after : DeskState D} {from between to : Option Stream}
+pub goes_on : {D : Type 0} {faults : D → ℕ} {may_give : ℤ → Type 0} {limit : ℕ} {before middle after : DeskState D} {from between to : Option Stream}
     {source source_now : Count} {old held new : Option (List ℕ)} {sink sink_step sink_now : Count} {reading next_reading : Reading} {number : ℕ} →
-    (so_far : SoFar may_give limit before middle from between source old held sink reading number) →
+    (so_far : SoFar faults may_give limit before middle from between source old held sink reading number) →
     (reads : ReadsLine reading next_reading between to) →
-    Answers may_give limit middle after reads.line held new sink_step None → IsQuiet source_now → IsQuiet sink_now →
-    SoFar may_give limit before after from to source_now old new sink_now next_reading (number + 1)
-goes_on {D} {may_give} {limit} {before} {middle} {after} {from} {between} {to} {source} {source_now} {old} {held} {new} {sink} {sink_step} {sink_now}
+    Answers faults may_give limit middle after reads.line held new sink_step None → IsQuiet source_now → IsQuiet sink_now →
+    SoFar faults may_give limit before after from to source_now old new sink_now next_reading (number + 1)
+goes_on {D} {faults} {may_give} {limit} {before} {middle} {after} {from} {between} {to} {source} {source_now} {old} {held} {new} {sink} {sink_step} {sink_now}
     {reading} {next_reading} {number} so_far reads answers source_quiet sink_quiet =
     let step = answers.step in
-    let more : WithStep may_give limit before after so_far.steps step reads.line = with_step so_far answers in
+    let more : WithStep faults may_give limit before after so_far.steps step reads.line = with_step so_far answers in
     record {
       steps = so_far.steps ++ step ∷ [];
       answered = more.answered;
       goes_on = goes_on-more so_far.steps step so_far.goes_on answers.puts.0;
       left = more.left;
       counted = more.counted;
+      disk_quiet = more.disk_quiet;
       acknowledged = more.acknowledged;
       untouched = more.untouched;
       read = subst (λ (lines : List (List ℕ)). IsRead from to lines next_reading) more.lines (read_line so_far.read reads);

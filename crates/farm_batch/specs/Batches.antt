@@ -9,7 +9,7 @@ use Rattle.farm_batch.specs.declared.batch.BatchEnd.{BatchEnd}
 use Rattle.farm_batch.specs.declared.batch.BatchEnd.TheVariants.{Done, Long, Failed}
 use Rattle.farm_batch.specs.declared.limits.TheConstants.{MOST_LINES}
 use Rattle.farm_http.specs.declared.page.Page.{Page}
-use Rattle.farm_batch.specs.Answers.{AnswersEach, AnswersLine, AreAcknowledged, AsksNothing, EndsInStop, IsCutAtLast, IsReply, Step, answer_text, answers_text, faults_in, faults_of, history_after, out_of_memory}
+use Rattle.farm_batch.specs.Answers.{AnswersEach, AnswersLine, AreAcknowledged, AsksNothing, EndsInStop, HaveNoFault, IsCutAtLast, IsReply, Step, answer_text, answers_text, disk_fault, faults_in, faults_of, history_after, out_of_memory}
 use Rattle.batch_lines.specs.declared.limits.TheConstants.{MOST_BYTES}
 use Rattle.batch_lines.specs.Lines.{BeginsWith, EndsWithin, HasByteTooMany, ended}
 use Rattle.batch_lines.specs.Reader.{AtEnd}
@@ -50,7 +50,7 @@ EndsAs in_hand to steps source sink (Long number) = GoesOn steps × IsTooMuch (l
 EndsAs in_hand to steps source sink Failed = HasRisen source ⊎ HasRisen sink
 
 -- A batch, from a desk to a desk: the lines that it asked, what it took and put, and how it ended.
-pub record Batch {D : Type 0} (may_give : ℤ → Type 0) (limit : ℕ) (before after : DeskState D) (from to : Option Stream) (source : Count)
+pub record Batch {D : Type 0} (faults : D → ℕ) (may_give : ℤ → Type 0) (limit : ℕ) (before after : DeskState D) (from to : Option Stream) (source : Count)
     (old new : Option (List ℕ)) (sink : Count) (end : BatchEnd) : Type 0 where
   pub steps : List Step
   pub taken : List ℕ
@@ -60,6 +60,8 @@ pub record Batch {D : Type 0} (may_give : ℤ → Type 0) (limit : ℕ) (before 
   pub left : after.history ≡ history_after before.history steps
   -- the desk counted no fewer faults than were answered
   pub counted : RoseBy (faults_in steps) before.failed after.failed
+  -- where no line was answered with a fault of the disk, it counted none
+  pub disk_quiet : HaveNoFault steps → faults after.disk ≡ faults before.disk
   -- no reply rests on an entry that is in doubt at the end
   pub acknowledged : AreAcknowledged (certain after.doubt after.history) steps
   -- where no line asks anything, the desk stays as it was
@@ -69,11 +71,15 @@ pub record Batch {D : Type 0} (may_give : ℤ → Type 0) (limit : ℕ) (before 
   pub ends : EndsAs in_hand to steps source sink end
   pub quiet : end ≢ Failed → IsQuiet source × IsQuiet sink
 
+-- What may be put for an answer: the answer, or out of memory in its place, but never in place of a fault of the disk.
+abbrev pub MayBePut : Page → Page → Type 0
+MayBePut page shown = (shown ≡ page) ⊎ ((shown ≡ out_of_memory) × (page ≢ disk_fault))
+
 -- An answer was put, whole or else out of memory in its place; or the put failed, and a front of one of these was added.
 abbrev pub PutsPage : {E : Type 0} → Page → Option (List ℕ) → Option (List ℕ) → Result Bool E → Type 0
 PutsPage page old new (Ok true) = Adds old new (answer_text page)
-PutsPage page old new (Ok false) = Adds old new (answer_text out_of_memory)
-PutsPage page old new (Err e) = (shown : Page) × ((shown ≡ page) ⊎ (shown ≡ out_of_memory)) × (count : ℕ) × Adds old new (take count (answer_text shown))
+PutsPage page old new (Ok false) = (page ≢ disk_fault) × Adds old new (answer_text out_of_memory)
+PutsPage page old new (Err e) = (shown : Page) × MayBePut page shown × (count : ℕ) × Adds old new (take count (answer_text shown))
 
 -- what was put of a line's answer, by how the batch ends with it, or that it goes on
 abbrev pub PutsStep : Step → Option (List ℕ) → Option (List ℕ) → Count → Option BatchEnd → Type 0
@@ -83,13 +89,14 @@ PutsStep step old new sink (Some (Long number)) = ⊥
 PutsStep step old new sink (Some Failed) = HasRisen sink × (count : ℕ) × Adds old new (take count (answer_text step.page))
 
 -- a line was asked, from a desk to a desk, and answered
-pub record Answers {D : Type 0} (may_give : ℤ → Type 0) (limit : ℕ) (before after : DeskState D) (line : List ℕ) (old new : Option (List ℕ)) (sink : Count)
+pub record Answers {D : Type 0} (faults : D → ℕ) (may_give : ℤ → Type 0) (limit : ℕ) (before after : DeskState D) (line : List ℕ) (old new : Option (List ℕ)) (sink : Count)
     (end : Option BatchEnd) : Type 0 where
   pub step : Step
   pub line_is : step.line ≡ line
   pub history_is : step.history ≡ after.history
   pub answered : AnswersLine may_give limit before.history step
   pub counted : RoseBy (faults_of step.page) before.failed after.failed
+  pub disk_quiet : step.page ≢ disk_fault → faults after.disk ≡ faults before.disk
   pub acknowledged : IsReply step.page → last_place after.history ≤ certain after.doubt after.history
   pub surer : certain before.doubt before.history ≤ certain after.doubt after.history
   pub untouched : AsksNothing line → after ≡ before

@@ -1,9 +1,9 @@
 //! The lines of a batch, one after another.
 
-ghost use Rattle.std.specs.Prelude.{◌≡◌, ◌≢◌, ◌≤◌, ℕ, List, Some, option_map, IfOk, OnErr, OnOk};
+ghost use Rattle.std.specs.Prelude.{◌≡◌, ◌≢◌, ◌≤◌, ℕ, List, Some, option_map, IfOk, IsFalse, IsTrue, OnErr, OnOk};
 ghost use Rattle.farm_base.specs.Counts.{HasCause};
 ghost use Rattle.farm_http.specs.Answers.{IsAnswer};
-ghost use Rattle.farm_batch.specs.Answers.{answer_text};
+ghost use Rattle.farm_batch.specs.Answers.{answer_text, disk_fault};
 ghost use Rattle.farm_batch.specs.Desks.{KeepsDesk};
 ghost use Rattle.batch_lines.specs.Reader.{count_of, kept};
 ghost use Rattle.farm_batch.specs.Batches.{Answers, Batch, PutsPage};
@@ -20,6 +20,8 @@ use std::alloc::Global;
 
 /// The answer of a line for which there is no memory, with its line feed.
 const OUT_OF_MEMORY: &[u8] = b"{\"error\":507}\n";
+/// The answer of a line in which the disk failed, with its line feed.
+const DISK_FAULT: &[u8] = b"{\"error\":503}\n";
 
 /// How a batch ended.
 #[derive(Clone, Copy, Debug, PartialEq, Eq)]
@@ -45,7 +47,7 @@ pub fn answer_lines<D: Disk, const LIMIT: usize, S: Source, K: Sink, C: Clock>(
     output: &mut K,
     clock: &C,
 ) -> Result<BatchEnd, NoMemory>
-    ensures batch { IfOk result (λ end. Batch (C.may_give clock.now) LIMIT desk.old desk.new
+    ensures batch { IfOk result (λ end. Batch D.faults (C.may_give clock.now) LIMIT desk.old desk.new
         (S.stream input.old) (S.stream input.new) (count_of S.faults input.old input.new)
         (K.held output.old) (K.held output.new) (count_of K.faults output.old output.new) end) }
     ensures keeps { KeepsDesk D.trace D.moment D.faults LIMIT desk.old desk.new }
@@ -88,7 +90,7 @@ fn answer_line<D: Disk, const LIMIT: usize, K: Sink, C: Clock>(
     text: &mut Vec<u8>,
 ) -> Option<BatchEnd>
     ensures answers { (bytes : List ℕ) → option_map (λ line. line.now) line.entry ≡ kept bytes →
-        Answers (C.may_give clock.now) LIMIT desk.old desk.new bytes (K.held output.old) (K.held output.new)
+        Answers D.faults (C.may_give clock.now) LIMIT desk.old desk.new bytes (K.held output.old) (K.held output.new)
         (count_of K.faults output.old output.new) result }
     ensures keeps { KeepsDesk D.trace D.moment D.faults LIMIT desk.old desk.new }
     ensures never_falls { K.faults output.old ≤ K.faults output.new }
@@ -103,7 +105,7 @@ fn answer_line<D: Disk, const LIMIT: usize, K: Sink, C: Clock>(
 }
 
 // Puts an answer and a line feed, made in `text`, and says whether it is that answer: where there is no memory for it, out of memory
-// is put in its place.
+// is put in its place. A fault of the disk takes no memory, so that out of memory never hides one.
 fn put_page<K: Sink>(
     alloc: Global,
     page: &Page,
@@ -115,6 +117,10 @@ fn put_page<K: Sink>(
     ensures cause { HasCause (K.faults output.old) (K.faults output.new) result }
     ensures quiet { OnOk result (K.faults output.new ≡ K.faults output.old) }
 {
+    if is_disk_fault(page) {
+        put_all(output, DISK_FAULT)?;
+        return Ok(true);
+    }
     match write_page(alloc, page, text) {
         Ok(()) => {
             put_all(output, text)?;
@@ -125,6 +131,14 @@ fn put_page<K: Sink>(
             Ok(false)
         }
     }
+}
+
+// Whether an answer says that the disk failed.
+fn is_disk_fault(page: &Page) -> bool
+    ensures fault { IsTrue result → page.now ≡ disk_fault }
+    ensures other { IsFalse result → page.now ≢ disk_fault }
+{
+    matches!(page, Page::Status(503, None))
 }
 
 // Writes an answer and a line feed in place of what a buffer has.

@@ -5,7 +5,7 @@ use Rattle.farm_base.specs.Counts.{Count, IsQuiet, RoseBy}
 use Rattle.farm_base.specs.Known.{Stream}
 use Rattle.farm_batch.specs.declared.batch.BatchEnd.{BatchEnd}
 use Rattle.farm_batch.specs.declared.batch.BatchEnd.TheVariants.{Done, Long, Failed}
-use Rattle.farm_batch.specs.Answers.{AreAcknowledged, IsReply, Step, faults_in, history_after}
+use Rattle.farm_batch.specs.Answers.{AreAcknowledged, HaveNoFault, IsReply, Step, faults_in, history_after}
 use Rattle.farm_batch.specs.Batches.{Batch}
 use Rattle.farm_batch.specs.Outcomes.{OutcomesAreOne}
 use Rattle.farm_desk.specs.Histories.{certain}
@@ -31,10 +31,10 @@ pub on_err_all : {T E : Type 0} (result : Result T E) (P Q R S : Type 0) → OnE
 on_err_all (Ok value) P Q R S p q r follows = tt
 on_err_all (Err e) P Q R S p q r follows = follows p q r
 
-module _ {D : Type 0} (may_give : ℤ → Type 0) (desk after : DeskState D) (moment : ℕ) (trace : Option (List State)) (disk : Count)
+module _ {D : Type 0} (faults : D → ℕ) (may_give : ℤ → Type 0) (desk after : DeskState D) (moment : ℕ) (trace : Option (List State)) (disk : Count)
     (from to : Option Stream) (source : Count) (doubt : Bool) (one : OutcomesAreOne may_give)
     (left : (steps : List Step) → after.history ≡ history_after desk.history steps → RoseBy (faults_in steps) desk.failed after.failed →
-    AreAcknowledged (certain after.doubt after.history) steps → LeavesOnDisk desk.history steps doubt moment trace disk) where
+    (HaveNoFault steps → faults after.disk ≡ faults desk.disk) → AreAcknowledged (certain after.doubt after.history) steps → LeavesOnDisk desk.history steps doubt moment trace disk) where
   -- nothing was asked, since there was no memory
   unbegun : (old middle new : Option (List ℕ)) (before between now status : ℕ) → IsUntouched desk after from to source old middle before between →
       desk.doubt ≡ false → (after.doubt ≡ false → doubt ≡ false) → between ≤ now →
@@ -44,6 +44,7 @@ module _ {D : Type 0} (may_give : ℤ → Type 0) (desk after : DeskState D) (mo
       let certain_now : doubt ≡ false = settled (ap (λ (d : DeskState D). d.doubt) untouched.desk_kept ∙ sure) in
       let failed : after.failed ≡ desk.failed = ap (λ (d : DeskState D). d.failed) untouched.desk_kept in
       let stands = left [] (ap (λ (d : DeskState D). d.history) untouched.desk_kept) (omega (arith, failed))
+      (λ none. ap (λ (d : DeskState D). faults d.disk) untouched.desk_kept)
       (All-nil (λ (step : Step). IsReply step.page → last_place step.history ≤ certain after.doubt after.history)) in
       let Ends : Option Stream → Type 0 = λ to. DeskBatch may_give desk.history moment trace disk from to source (output_with old new before now) status in
       subst Ends (sym untouched.input_kept)
@@ -52,39 +53,39 @@ module _ {D : Type 0} (may_give : ℤ → Type 0) (desk after : DeskState D) (mo
 
   -- however it ended
   pub batch_ended : {E : Type 0} (end : Result BatchEnd E) (old middle new : Option (List ℕ)) (before between now status : ℕ) →
-      IfOk end (λ end. Batch may_give BOOK_LIMIT desk after from to source old middle (record { before = before; now = between }) end) →
+      IfOk end (λ end. Batch faults may_give BOOK_LIMIT desk after from to source old middle (record { before = before; now = between }) end) →
       OnErr end (IsUntouched desk after from to source old middle before between) → desk.doubt ≡ false → (after.doubt ≡ false → doubt ≡ false) →
       before ≤ between → between ≤ now → EndReported end doubt (output_with middle new between now) status →
       DeskBatch may_give desk.history moment trace disk from to source (output_with old new before now) status
   batch_ended (Err e) old middle new before between now status batch untouched sure settled earlier later lacks =
       unbegun old middle new before between now status untouched sure settled later lacks
   batch_ended (Ok (Long number)) old middle new before between now status batch untouched sure settled earlier later refuses =
-      batch_long may_give desk after moment trace disk from to source doubt old middle new before between now status number one batch
-      (left batch.steps batch.left batch.counted batch.acknowledged) later refuses
+      batch_long faults may_give desk after moment trace disk from to source doubt old middle new before between now status number one batch
+      (left batch.steps batch.left batch.counted batch.disk_quiet batch.acknowledged) later refuses
   batch_ended (Ok Done) old middle new before between now status batch untouched sure settled earlier later reported = ends_done doubt refl reported
     where
       stands : LeavesOnDisk desk.history batch.steps doubt moment trace disk
-      stands = left batch.steps batch.left batch.counted batch.acknowledged
+      stands = left batch.steps batch.left batch.counted batch.disk_quiet batch.acknowledged
 
       ends_done : (still : Bool) → doubt ≡ still → EndReported {E = Unit {0}} (Ok Done) still (output_with middle new between now) status →
           DeskBatch may_give desk.history moment trace disk from to source (output_with old new before now) status
       ends_done true is said =
-          batch_in_doubt may_give desk after moment trace disk from to source doubt old middle new before between now status Done batch stands
+          batch_in_doubt faults may_give desk after moment trace disk from to source doubt old middle new before between now status Done batch stands
           (λ number same. cc) is earlier later said.0 said.1
       ends_done false is said =
           let same : new ≡ middle = said.1 in
           let quiet : now ≡ between = said.2 in
-          rw (said.0, same, quiet) (batch_done may_give desk after moment trace disk from to source doubt old middle before between one batch stands is)
+          rw (said.0, same, quiet) (batch_done faults may_give desk after moment trace disk from to source doubt old middle before between one batch stands is)
   batch_ended (Ok Failed) old middle new before between now status batch untouched sure settled earlier later reported = ends_failed doubt refl reported
     where
       stands : LeavesOnDisk desk.history batch.steps doubt moment trace disk
-      stands = left batch.steps batch.left batch.counted batch.acknowledged
+      stands = left batch.steps batch.left batch.counted batch.disk_quiet batch.acknowledged
 
       ends_failed : (still : Bool) → doubt ≡ still → EndReported {E = Unit {0}} (Ok Failed) still (output_with middle new between now) status →
           DeskBatch may_give desk.history moment trace disk from to source (output_with old new before now) status
       ends_failed true is said =
-          batch_in_doubt may_give desk after moment trace disk from to source doubt old middle new before between now status Failed batch stands
+          batch_in_doubt faults may_give desk after moment trace disk from to source doubt old middle new before between now status Failed batch stands
           (λ number same. cc) is earlier later said.0 said.1
       ends_failed false is said =
-          batch_failed may_give desk after moment trace disk from to source doubt old middle new before between now status batch stands is earlier later
+          batch_failed faults may_give desk after moment trace disk from to source doubt old middle new before between now status batch stands is earlier later
           said.0 said.1

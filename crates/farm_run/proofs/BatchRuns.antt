@@ -1,5 +1,5 @@
 -- A run of `batch` on a desk, from what its parts did.
-use Rattle.std.proofs.Common.{◌≡◌, ◌≢◌, ◌⊎◌, inl, inr, ℕ, ◌+◌, ◌≤◌, Bool, true, false, List, [], ◌∷◌, ◌++◌, append-nil, Option, Some, None, refl, sym, subst, ◌∙◌, arith, ℤ}
+use Rattle.std.proofs.Common.{◌≡◌, ◌≢◌, ◌⊎◌, inl, inr, ℕ, ◌≤◌, Bool, true, false, List, [], ◌∷◌, ◌++◌, append-nil, Option, Some, None, refl, sym, subst, ◌∙◌, arith, ℤ}
 use Rattle.farm_base.specs.Counts.{Count, HasRisen, IsQuiet}
 use Rattle.farm_base.specs.Known.{Adds, Stream, Takes, WhereKnown}
 use Rattle.farm_batch.specs.declared.batch.BatchEnd.{BatchEnd}
@@ -65,7 +65,7 @@ all_asked in_hand to steps source sink (Long number) ends other source_quiet sin
 all_asked in_hand to steps source sink Failed ends other source_quiet sink_quiet =
     elim ends [ inl rose ↦ absurd (source_quiet rose) | inr rose ↦ absurd (sink_quiet rose) ]
 
-module _ {D : Type 0} (may_give : ℤ → Type 0) (desk after : DeskState D) (moment : ℕ) (trace : Option (List State)) (disk : Count)
+module _ {D : Type 0} (may_give : ℤ → Type 0) (desk : DeskState D) (moment : ℕ) (trace : Option (List State)) (disk : Count)
     (from to : Option Stream) (source : Count) where
   -- a batch that asked its lines, whose answers stand, and then no memory
   lacking : (old middle new : Option (List ℕ)) (before between now status : ℕ) (taken in_hand : List ℕ) (steps : List Step) (doubt : Bool) →
@@ -96,139 +96,140 @@ module _ {D : Type 0} (may_give : ℤ → Type 0) (desk after : DeskState D) (mo
     function = λ small. elim lacks.statuses [ inl six ↦ absurd (omega (arith, small)) | inr seven ↦ absurd (omega (arith, small)) ];
   }
 
-  module _ (doubt : Bool) where
-    -- a batch that is done, with nothing in doubt
-    pub batch_done : (old new : Option (List ℕ)) (before now : ℕ) → OutcomesAreOne may_give →
-        (batch : Batch may_give BOOK_LIMIT desk after from to source old new (record { before = before; now = now }) Done) →
-        LeavesOnDisk desk.history batch.steps doubt moment trace disk → doubt ≡ false →
-        DeskBatch may_give desk.history moment trace disk from to source (output_with old new before now) 0
-    batch_done old new before now one batch left sure =
-        let fine : Done ≢ Failed = λ same. cc in
-        let whole = put_whole batch.steps old new (record { before = before; now = now }) Done fine batch.put in
-        record {
-          steps = batch.steps;
-          taken = batch.taken;
-          in_hand = batch.in_hand;
-          moved = batch.moved;
-          asks = batch.asks;
-          doubt = doubt;
-          left = left;
-          statuses = inl refl;
-          done = λ zero. (batch.ends, whole, sure);
-          refused = λ four. absurd (omega arith);
-          disk_failed = λ five. absurd (omega arith);
-          asked_all = λ five. absurd (omega arith);
-          faulted = λ six. absurd (omega arith);
-          fault_said = λ six. absurd (omega arith);
-          memory_only = λ seven. absurd (omega arith);
-          memory_said = λ seven. absurd (omega arith);
-          least = λ greater. inl sure;
-          function = λ small quiet answered. function_of may_give desk.history from to batch.taken batch.in_hand batch.steps source
-              (record { before = before; now = now }) Done old new one batch.moved batch.asks batch.ends fine answered
-              (subst (λ (text : List ℕ). Adds old new text) (sym (append-nil (answers_text batch.steps))) whole);
-        }
+module _ {D : Type 0} (faults : D → ℕ) (may_give : ℤ → Type 0) (desk after : DeskState D) (moment : ℕ) (trace : Option (List State)) (disk : Count)
+    (from to : Option Stream) (source : Count) (doubt : Bool) where
+  -- a batch that is done, with nothing in doubt
+  pub batch_done : (old new : Option (List ℕ)) (before now : ℕ) → OutcomesAreOne may_give →
+      (batch : Batch faults may_give BOOK_LIMIT desk after from to source old new (record { before = before; now = now }) Done) →
+      LeavesOnDisk desk.history batch.steps doubt moment trace disk → doubt ≡ false →
+      DeskBatch may_give desk.history moment trace disk from to source (output_with old new before now) 0
+  batch_done old new before now one batch left sure =
+      let fine : Done ≢ Failed = λ same. cc in
+      let whole = put_whole batch.steps old new (record { before = before; now = now }) Done fine batch.put in
+      record {
+        steps = batch.steps;
+        taken = batch.taken;
+        in_hand = batch.in_hand;
+        moved = batch.moved;
+        asks = batch.asks;
+        doubt = doubt;
+        left = left;
+        statuses = inl refl;
+        done = λ zero. (batch.ends, whole, sure);
+        refused = λ four. absurd (omega arith);
+        disk_failed = λ five. absurd (omega arith);
+        asked_all = λ five. absurd (omega arith);
+        faulted = λ six. absurd (omega arith);
+        fault_said = λ six. absurd (omega arith);
+        memory_only = λ seven. absurd (omega arith);
+        memory_said = λ seven. absurd (omega arith);
+        least = λ greater. inl sure;
+        function = λ small quiet answered. function_of may_give desk.history from to batch.taken batch.in_hand batch.steps source
+            (record { before = before; now = now }) Done old new one batch.moved batch.asks batch.ends fine answered
+            (subst (λ (text : List ℕ). Adds old new text) (sym (append-nil (answers_text batch.steps))) whole);
+      }
 
-    -- a batch that came to a line too many
-    pub batch_long : (old middle new : Option (List ℕ)) (before between now status number : ℕ) → OutcomesAreOne may_give →
-        (batch : Batch may_give BOOK_LIMIT desk after from to source old middle (record { before = before; now = between }) (Long number)) →
-        LeavesOnDisk desk.history batch.steps doubt moment trace disk →
-        between ≤ now → Refuses (output_with middle new between now) 4 (too_long_text number) status →
-        DeskBatch may_give desk.history moment trace disk from to source (output_with old new before now) status
-    batch_long old middle new before between now status number one batch left later refuses =
-        let sink : Count = record { before = before; now = between } in
-        let fine : Long number ≢ Failed = λ same. cc in
-        let quiet = batch.quiet fine in
-        let whole = put_whole batch.steps old middle sink (Long number) fine batch.put in
-        elim refuses.statuses [
-          | inl four ↦ let said = said_after old middle new before between now batch.steps [] (too_long_text number) (inl whole) (omega (arith, quiet.1)) later (refuses.said four) in
-              record {
-                steps = batch.steps;
-                taken = batch.taken;
-                in_hand = batch.in_hand;
-                moved = batch.moved;
-                asks = batch.asks;
-                doubt = doubt;
-                left = left;
-                statuses = inr (inl four);
-                done = λ zero. absurd (omega arith);
-                refused = λ _. (batch.ends.0, batch.ends.1, subst (λ (n : ℕ). SaysAfter (output_with old new before now) batch.steps [] (too_long_text n)) batch.ends.2 said);
-                disk_failed = λ five. absurd (omega arith);
-                asked_all = λ five. absurd (omega arith);
-                faulted = λ six. absurd (omega arith);
-                fault_said = λ six. absurd (omega arith);
-                memory_only = λ seven. absurd (omega arith);
-                memory_said = λ seven. absurd (omega arith);
-                least = λ greater. absurd (omega (arith, greater));
-                function = λ small still answered. function_of may_give desk.history from to batch.taken batch.in_hand batch.steps source sink (Long number)
-                    old new one batch.moved batch.asks batch.ends fine answered (said.whole still);
-              }
-          | inr lacks ↦ lacking old middle new before between now status batch.taken batch.in_hand batch.steps doubt batch.moved batch.asks left
-              (inr batch.ends.1) quiet.0 quiet.1 later whole lacks
-        ]
+  -- a batch that came to a line too many
+  pub batch_long : (old middle new : Option (List ℕ)) (before between now status number : ℕ) → OutcomesAreOne may_give →
+      (batch : Batch faults may_give BOOK_LIMIT desk after from to source old middle (record { before = before; now = between }) (Long number)) →
+      LeavesOnDisk desk.history batch.steps doubt moment trace disk →
+      between ≤ now → Refuses (output_with middle new between now) 4 (too_long_text number) status →
+      DeskBatch may_give desk.history moment trace disk from to source (output_with old new before now) status
+  batch_long old middle new before between now status number one batch left later refuses =
+      let sink : Count = record { before = before; now = between } in
+      let fine : Long number ≢ Failed = λ same. cc in
+      let quiet = batch.quiet fine in
+      let whole = put_whole batch.steps old middle sink (Long number) fine batch.put in
+      elim refuses.statuses [
+        | inl four ↦ let said = said_after old middle new before between now batch.steps [] (too_long_text number) (inl whole) (omega (arith, quiet.1)) later (refuses.said four) in
+            record {
+              steps = batch.steps;
+              taken = batch.taken;
+              in_hand = batch.in_hand;
+              moved = batch.moved;
+              asks = batch.asks;
+              doubt = doubt;
+              left = left;
+              statuses = inr (inl four);
+              done = λ zero. absurd (omega arith);
+              refused = λ _. (batch.ends.0, batch.ends.1, subst (λ (n : ℕ). SaysAfter (output_with old new before now) batch.steps [] (too_long_text n)) batch.ends.2 said);
+              disk_failed = λ five. absurd (omega arith);
+              asked_all = λ five. absurd (omega arith);
+              faulted = λ six. absurd (omega arith);
+              fault_said = λ six. absurd (omega arith);
+              memory_only = λ seven. absurd (omega arith);
+              memory_said = λ seven. absurd (omega arith);
+              least = λ greater. absurd (omega (arith, greater));
+              function = λ small still answered. function_of may_give desk.history from to batch.taken batch.in_hand batch.steps source sink (Long number)
+                  old new one batch.moved batch.asks batch.ends fine answered (said.whole still);
+            }
+        | inr lacks ↦ lacking may_give desk moment trace disk from to source old middle new before between now status batch.taken batch.in_hand batch.steps doubt batch.moved batch.asks left
+            (inr batch.ends.1) quiet.0 quiet.1 later whole lacks
+      ]
 
-    -- a batch that ended otherwise, with an entry in doubt
-    pub batch_in_doubt : (old middle new : Option (List ℕ)) (before between now status : ℕ) (end : BatchEnd) →
-        (batch : Batch may_give BOOK_LIMIT desk after from to source old middle (record { before = before; now = between }) end) →
-        LeavesOnDisk desk.history batch.steps doubt moment trace disk → ((number : ℕ) → end ≢ Long number) → doubt ≡ true →
-        before ≤ between → between ≤ now → status ≡ 5 → Puts (output_with middle new between now) disk_failed_line →
-        DeskBatch may_give desk.history moment trace disk from to source (output_with old new before now) status
-    batch_in_doubt old middle new before between now status end batch left other in_doubt earlier later five puts =
-        let sink : Count = record { before = before; now = between } in
-        record {
-          steps = batch.steps;
-          taken = batch.taken;
-          in_hand = batch.in_hand;
-          moved = batch.moved;
-          asks = batch.asks;
-          doubt = doubt;
-          left = left;
-          statuses = inr (inr (inl five));
-          done = λ zero. absurd (omega arith);
-          refused = λ four. absurd (omega arith);
-          disk_failed = λ _. (
-            in_doubt,
-            said_after old middle new before between now batch.steps [] disk_failed_line
-                (put_before_fault batch.steps old middle sink end batch.put) earlier later (says_last (output_with middle new between now) [] [] disk_failed_line puts),
-          );
-          asked_all = λ _ source_quiet quiet. all_asked batch.in_hand to batch.steps source sink end batch.ends other source_quiet
-              (λ rose. quiet (rose_later before between now rose later));
-          faulted = λ six. absurd (omega arith);
-          fault_said = λ six. absurd (omega arith);
-          memory_only = λ seven. absurd (omega arith);
-          memory_said = λ seven. absurd (omega arith);
-          least = λ greater. absurd (omega (arith, greater));
-          function = λ small. absurd (omega (arith, small));
-        }
+  -- a batch that ended otherwise, with an entry in doubt
+  pub batch_in_doubt : (old middle new : Option (List ℕ)) (before between now status : ℕ) (end : BatchEnd) →
+      (batch : Batch faults may_give BOOK_LIMIT desk after from to source old middle (record { before = before; now = between }) end) →
+      LeavesOnDisk desk.history batch.steps doubt moment trace disk → ((number : ℕ) → end ≢ Long number) → doubt ≡ true →
+      before ≤ between → between ≤ now → status ≡ 5 → Puts (output_with middle new between now) disk_failed_line →
+      DeskBatch may_give desk.history moment trace disk from to source (output_with old new before now) status
+  batch_in_doubt old middle new before between now status end batch left other in_doubt earlier later five puts =
+      let sink : Count = record { before = before; now = between } in
+      record {
+        steps = batch.steps;
+        taken = batch.taken;
+        in_hand = batch.in_hand;
+        moved = batch.moved;
+        asks = batch.asks;
+        doubt = doubt;
+        left = left;
+        statuses = inr (inr (inl five));
+        done = λ zero. absurd (omega arith);
+        refused = λ four. absurd (omega arith);
+        disk_failed = λ _. (
+          in_doubt,
+          said_after old middle new before between now batch.steps [] disk_failed_line
+              (put_before_fault batch.steps old middle sink end batch.put) earlier later (says_last (output_with middle new between now) [] [] disk_failed_line puts),
+        );
+        asked_all = λ _ source_quiet quiet. all_asked batch.in_hand to batch.steps source sink end batch.ends other source_quiet
+            (λ rose. quiet (rose_later before between now rose later));
+        faulted = λ six. absurd (omega arith);
+        fault_said = λ six. absurd (omega arith);
+        memory_only = λ seven. absurd (omega arith);
+        memory_said = λ seven. absurd (omega arith);
+        least = λ greater. absurd (omega (arith, greater));
+        function = λ small. absurd (omega (arith, small));
+      }
 
-    -- a batch whose port failed, with nothing in doubt
-    pub batch_failed : (old middle new : Option (List ℕ)) (before between now status : ℕ) →
-        (batch : Batch may_give BOOK_LIMIT desk after from to source old middle (record { before = before; now = between }) Failed) →
-        LeavesOnDisk desk.history batch.steps doubt moment trace disk → doubt ≡ false →
-        before ≤ between → between ≤ now → status ≡ 6 → Puts (output_with middle new between now) port_fault →
-        DeskBatch may_give desk.history moment trace disk from to source (output_with old new before now) status
-    batch_failed old middle new before between now status batch left sure earlier later six puts =
-        let sink : Count = record { before = before; now = between } in
-        record {
-          steps = batch.steps;
-          taken = batch.taken;
-          in_hand = batch.in_hand;
-          moved = batch.moved;
-          asks = batch.asks;
-          doubt = doubt;
-          left = left;
-          statuses = inr (inr (inr (inl six)));
-          done = λ zero. absurd (omega arith);
-          refused = λ four. absurd (omega arith);
-          disk_failed = λ five. absurd (omega arith);
-          asked_all = λ five. absurd (omega arith);
-          faulted = λ _. elim batch.ends [ inl rose ↦ inl rose | inr rose ↦ inr (rose_later before between now rose later) ];
-          fault_said = λ _. said_after old middle new before between now batch.steps (no_memory ∷ []) port_fault
-              (put_before_fault batch.steps old middle sink Failed batch.put) earlier later (says_last (output_with middle new between now) [] (no_memory ∷ []) port_fault puts);
-          memory_only = λ seven. absurd (omega arith);
-          memory_said = λ seven. absurd (omega arith);
-          least = λ greater. inl sure;
-          function = λ small. absurd (omega (arith, small));
-        }
+  -- a batch whose port failed, with nothing in doubt
+  pub batch_failed : (old middle new : Option (List ℕ)) (before between now status : ℕ) →
+      (batch : Batch faults may_give BOOK_LIMIT desk after from to source old middle (record { before = before; now = between }) Failed) →
+      LeavesOnDisk desk.history batch.steps doubt moment trace disk → doubt ≡ false →
+      before ≤ between → between ≤ now → status ≡ 6 → Puts (output_with middle new between now) port_fault →
+      DeskBatch may_give desk.history moment trace disk from to source (output_with old new before now) status
+  batch_failed old middle new before between now status batch left sure earlier later six puts =
+      let sink : Count = record { before = before; now = between } in
+      record {
+        steps = batch.steps;
+        taken = batch.taken;
+        in_hand = batch.in_hand;
+        moved = batch.moved;
+        asks = batch.asks;
+        doubt = doubt;
+        left = left;
+        statuses = inr (inr (inr (inl six)));
+        done = λ zero. absurd (omega arith);
+        refused = λ four. absurd (omega arith);
+        disk_failed = λ five. absurd (omega arith);
+        asked_all = λ five. absurd (omega arith);
+        faulted = λ _. elim batch.ends [ inl rose ↦ inl rose | inr rose ↦ inr (rose_later before between now rose later) ];
+        fault_said = λ _. said_after old middle new before between now batch.steps (no_memory ∷ []) port_fault
+            (put_before_fault batch.steps old middle sink Failed batch.put) earlier later (says_last (output_with middle new between now) [] (no_memory ∷ []) port_fault puts);
+        memory_only = λ seven. absurd (omega arith);
+        memory_said = λ seven. absurd (omega arith);
+        least = λ greater. inl sure;
+        function = λ small. absurd (omega (arith, small));
+      }
 
 -- a batch that wasn't begun
 pub not_begun : {D : Type 0} (may_give : ℤ → Type 0) (desk : DeskState D) (moment : ℕ) (trace : Option (List State)) (disk : Count)
@@ -237,5 +238,5 @@ pub not_begun : {D : Type 0} (may_give : ℤ → Type 0) (desk : DeskState D) (m
     LacksMemory (output_with old new before now) status →
     DeskBatch may_give desk.history moment trace disk input input source (output_with old new before now) status
 not_begun may_give desk moment trace disk input source doubt old new before now status left sure source_quiet later lacks =
-    lacking may_give desk desk moment trace disk input input source old old new before before now status [] [] [] doubt (takes_none input)
+    lacking may_give desk moment trace disk input input source old old new before before now status [] [] [] doubt (takes_none input)
     (asks_none may_give desk.history input) left (inl sure) source_quiet refl later (adds_none old) lacks

@@ -3,7 +3,7 @@ use Rattle.std.proofs.Common.{◌≡◌, ◌∙◌, ℕ, ◌+◌, ◌≤◌, Boo
 use Rattle.std.proofs.lemmas.List.Elements.{All-weaker}
 use Rattle.batch_lines.specs.Reader.{count_of}
 use Rattle.farm_base.specs.Counts.{RoseBy}
-use Rattle.farm_batch.specs.Answers.{AreAcknowledged, IsReply, Step, faults_in, history_after}
+use Rattle.farm_batch.specs.Answers.{AreAcknowledged, HaveNoFault, IsReply, Step, faults_in, history_after}
 use Rattle.farm_desk.specs.Histories.{RecoversFront, RecoversNow, certain}
 use Rattle.farm_desk.specs.Moments.{EachFrom}
 use Rattle.farm_desk.specs.States.{DeskState, IsNew}
@@ -41,12 +41,12 @@ module _ {D : Type 0} (trace : D → Option (List State)) (moment faults : D →
     (new : IsNew moment faults desk (last_place desk.history)) (opened : after.opened ≡ desk.opened)
     (left : after.history ≡ history_after desk.history steps) where
   -- from the desk as it was recovered, what it leaves after the batch and the last opening of a gate
-  pub leaves : RoseBy (faults_in steps) desk.failed after.failed → AreAcknowledged (certain after.doubt after.history) steps →
+  pub leaves : RoseBy (faults_in steps) desk.failed after.failed → (HaveNoFault steps → faults after.disk ≡ faults desk.disk) → AreAcknowledged (certain after.doubt after.history) steps →
       (after.doubt ≡ false → doubt ≡ false) → EachFrom (trace out) after.opened.moment (RecoversFront BOOK_LIMIT after.history after.opened.entries) →
       EachNow (trace out) (RecoversNow BOOK_LIMIT doubt after.history) → RoseBy after.failed after.opened.faults (faults out) →
-      (doubt ≡ true → RoseBy (after.failed + 1) after.opened.faults (faults out)) →
+      (doubt ≡ true → RoseBy (after.failed + 1) after.opened.faults (faults out)) → (doubt ≡ false → faults out ≡ faults after.disk) →
       LeavesOnDisk desk.history steps doubt (moment desk.disk) (trace out) (count_of faults desk.disk out)
-  leaves counted acknowledged settled since now risen risen_once_more =
+  leaves counted disk_quiet acknowledged settled since now risen risen_once_more opened_quiet =
       let start : after.opened.moment ≡ moment desk.disk = ap (λ (opened : Opened). opened.moment) opened ∙ new.moment_is in
       let entries : after.opened.entries ≡ last_place desk.history = ap (λ (opened : Opened). opened.entries) opened ∙ new.entries_is in
       let before : after.opened.faults ≡ faults desk.disk = ap (λ (opened : Opened). opened.faults) opened ∙ new.faults_is in
@@ -63,6 +63,7 @@ module _ {D : Type 0} (trace : D → Option (List State)) (moment faults : D →
             (counted_by_disk (faults_in steps) after.failed after.opened.faults (faults out) from_none risen);
         counted_once_more = λ is. subst (λ (count : ℕ). RoseBy (faults_in steps + 1) count (faults out)) before
             (counted_one_more (faults_in steps) after.failed after.opened.faults (faults out) from_none (risen_once_more is));
+        quiet = λ none sure. opened_quiet sure ∙ disk_quiet none;
       }
 
 -- a disk later than one that is later is later

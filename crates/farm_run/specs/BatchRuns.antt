@@ -5,7 +5,7 @@ use Rattle.farm_base.specs.Known.{Adds, Fronts, Stream, Takes, WhereKnown}
 use Rattle.batch_lines.specs.Reader.{count_of}
 use Rattle.farm_batch.specs.declared.batch.BatchEnd.{BatchEnd}
 use Rattle.farm_batch.specs.declared.batch.BatchEnd.TheVariants.{Done, Long, Failed}
-use Rattle.farm_batch.specs.Answers.{AreAcknowledged, IsCutAtLast, Step, answers_text, faults_in, history_after}
+use Rattle.farm_batch.specs.Answers.{AreAcknowledged, HaveNoFault, IsCutAtLast, Step, answers_text, faults_in, history_after}
 use Rattle.farm_batch.specs.Batches.{AskedAll, Asks, GoesOn, IsTooMuch, lines_of}
 use Rattle.farm_batch.specs.Outcomes.{Outcome, WereAnswered, outcome}
 use Rattle.farm_desk.specs.Histories.{Recovers, RecoversFront, RecoversNow, certain}
@@ -53,6 +53,8 @@ pub record LeavesOnDisk (found : History) (steps : List Step) (doubt : Bool) (mo
   -- the disk counted no fewer faults than were answered, and one more where an entry is in doubt
   pub counted : RoseBy (faults_in steps) disk.before disk.now
   pub counted_once_more : doubt ≡ true → RoseBy (faults_in steps + 1) disk.before disk.now
+  -- and none where no line was answered with a fault of the disk and nothing is in doubt
+  pub quiet : HaveNoFault steps → doubt ≡ false → IsQuiet disk
 
 -- A batch on a desk that was recovered: the lines that it asked, one after another, whether an entry is in doubt at the end, what is left on
 -- the disk, and what was printed, by its status.

@@ -8,7 +8,7 @@ ghost use Rattle.farm_run.specs.BatchRuns.{BatchRun, DeskBatch, EndReported, Not
 ghost use Rattle.farm_run.specs.Disks.{IsLater};
 ghost use Rattle.farm_run.specs.Runs.{output_of};
 
-use crate::boxed_disk::BoxedDisk;
+use crate::boxed_disk::{BoxedDisk, on_heap};
 use crate::done::Done;
 use crate::limits::BOOK_LIMIT;
 use crate::reports::{
@@ -39,14 +39,9 @@ pub(crate) fn batch<S: Source, K: Sink, D: Disk, C: Clock>(
     ensures output_never_falls { K.faults output.old ≤ K.faults output.new }
 {
     farm_desk::laws();
-    let disk = match BoxedDisk::new(alloc, disk) {
+    let disk = match on_heap(alloc, disk, output) {
         Ok(disk) => disk,
-        Err(disk) => {
-            return Done {
-                status: report_no_memory(output),
-                disk: Some(disk),
-            };
-        }
+        Err(done) => return done,
     };
     match Desk::<BoxedDisk<D>, BOOK_LIMIT>::recover(alloc, disk) {
         Ok(desk) => ask_lines(alloc, desk, input, output, clock),

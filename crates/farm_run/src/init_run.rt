@@ -8,7 +8,7 @@ ghost use Rattle.farm_run.specs.InitRuns.{FolderFailed, InitRun, NotCreated, Sit
 ghost use Rattle.farm_run.specs.Runs.{output_of};
 ghost use Rattle.farm_site.specs.Sites.{described};
 
-use crate::boxed_disk::BoxedDisk;
+use crate::boxed_disk::{BoxedDisk, on_heap};
 use crate::done::Done;
 use crate::limits::BOOK_LIMIT;
 use crate::reports::{
@@ -59,14 +59,9 @@ fn create<K: Sink, D: Disk>(alloc: Global, site: Site, output: &mut K, disk: D) 
     ensures later { IfSome result.disk (λ left. IsLater (D.trace disk) (D.trace left) (D.moment disk) (D.moment left) (count_of D.faults disk left)) }
     ensures never_falls { K.faults output.old ≤ K.faults output.new }
 {
-    let disk = match BoxedDisk::new(alloc, disk) {
+    let disk = match on_heap(alloc, disk, output) {
         Ok(disk) => disk,
-        Err(disk) => {
-            return Done {
-                status: report_no_memory(output),
-                disk: Some(disk),
-            };
-        }
+        Err(done) => return done,
     };
     match Desk::<BoxedDisk<D>, BOOK_LIMIT>::create(alloc, disk, site) {
         Ok(desk) => Done {

@@ -8,7 +8,7 @@ use Rattle.farm_batch.proofs.batch.answer_lines.Goals as goal
 use Rattle.farm_batch.proofs.batch.answer_lines.Goals.{in-Line, in-Last, in-End, in-Long, in-Failed, in-Ok-true, in-Ok-false, in-Err}
 
 pub loop-number-init : goal.loop-number-init
-loop-number-init g c = (at_start _ _ _ _ _ _ _ _ c.in_ok-reader.ensures.in_hand c.in_ok-reader.ensures.passed, keeps_same _ _ _ _ _)
+loop-number-init g c = (at_start _ _ _ _ _ _ _ _ _ c.in_ok-reader.ensures.in_hand c.in_ok-reader.ensures.passed, keeps_same _ _ _ _ _)
 
 pub returns-in-Some-clause-batch : goal.returns-in-Some-clause-batch
 returns-in-Some-clause-batch g c =

@@ -7,7 +7,7 @@ use Rattle.farm_run.proofs.batch_run.batch.Goals as goal
 
 pub returns-in-Err-clause-batch_run : goal.returns-in-Err-clause-batch_run
 returns-in-Err-clause-batch_run g c =
-    rw c.in-Err.ensures.given_back (inl (not_asked _ _ _ _ _ _ c.report_no_memory.ensures.lacks_memory))
+    rw c.in-Err.ensures.given_back (inl (not_asked _ _ _ _ _ _ c.in-Err.ensures.lacks_memory))
 
 pub returns-in-Ok-recover-clause-later : goal.returns-in-Ok-recover-clause-later
 returns-in-Ok-recover-clause-later g c =
@@ -21,6 +21,6 @@ returns-in-Ok-recover-clause-later g c =
 pub returns-in-Err-recover-clause-batch_run : goal.returns-in-Err-recover-clause-batch_run
 returns-in-Err-recover-clause-batch_run g c =
     let said = c.in-Err-recover.ensures in
-    rw (c.into_inner.ensures.disk, ← c.in-Ok.ensures.moved)
+    rw (c.into_inner.ensures.disk, ← c.in-Ok.ensures.moved, ← c.in-Ok.ensures.output_kept)
     (inl (not_recovered _ _ _ _ _ _ _ said.wrote_nothing c.in-Err-recover.fault c.laws.ensures.recovered_is_not_refused said.refused said.cause said.quiet
     c.report_recover.ensures.reports))
