@@ -5,5 +5,6 @@ mod HeadReaders
 mod ProductReaders
 mod TankReaders
 mod GaugeReaders
+mod LineReaders
 mod Counted
 mod Grids

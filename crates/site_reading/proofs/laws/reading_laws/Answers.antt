@@ -1,4 +1,4 @@
-use Rattle.site_reading.proofs.GaugeReaders.{lines_reader}
+use Rattle.site_reading.proofs.LineReaders.{lines_reader}
 use Rattle.site_reading.proofs.HeadReaders.{head_reader}
 use Rattle.site_reading.proofs.ProductReaders.{parties_reader, products_reader}
 use Rattle.site_reading.proofs.TankReaders.{tanks_reader}
