@@ -4,12 +4,11 @@ ghost use Rattle.std.specs.Prelude.{◌≡◌, ℕ, List, OnOk};
 ghost use Rattle.farm_base.specs.Known.{WhereKnown};
 ghost use Rattle.farm_disk.specs.Images.{IsCrashImage, present};
 
-use crate::sharing::shared;
 use farm_base::NoMemory;
 use farm_disk::{Disk, Fill, MemDisk, Stand, disk_laws};
 use farm_ports::Failed;
+use row_checks::{Checks, shared};
 use std::alloc::Global;
-use std::process::Abort;
 use std::test::Fail;
 
 // A disk with "abcd" and these calls that fail.
@@ -25,18 +24,20 @@ fn seen<D: Disk>(alloc: Global, disk: &mut D) -> Result<Vec<u8>, Fail> {
 }
 
 // The images at a moment: the old bytes, the new ones, and "?" wherever a crash may leave any byte.
-fn assert_images(
-    rt: &impl Abort,
+fn check_images<R: Print>(
+    checks: &mut Checks<'_, R>,
     alloc: Global,
     disk: &MemDisk,
     moment: u64,
     wants: [&[u8]; 3],
 ) -> Result<(), Fail> {
     let fills = [Fill::Old, Fill::New, Fill::Byte(b'?')];
-    assert!(rt; moment <= disk.stand().moment, "moment {moment}");
+    if moment > disk.stand().moment {
+        return Err("the disk has no such moment")?;
+    }
     for (fill, want) in fills.iter().zip(wants) {
         let image = disk.image(alloc, moment, *fill)?;
-        assert_eq!(rt; image.as_slice(), want, "{fill:?} at moment {moment}");
+        checks.same_at(moment, image.as_slice(), want);
     }
     Ok(())
 }
@@ -53,10 +54,12 @@ fn keep<D: Disk>(disk: &mut D, at: u64, bytes: &[u8]) -> Result<(), Failed>
 
 #[test]
 fn what_was_synced_is_all_that_a_crash_leaves(rt: HostRuntime) -> Result<(), Fail> {
+    let mut checks = Checks::new(&rt);
     let alloc = rt.alloc();
     let mut disk = four_bytes(alloc, &[])?;
-    assert_eq!(rt; keep(&mut disk, 2, b"CDE"), Ok(()));
-    assert_images(&rt, alloc, &disk, 4, [b"abCDE", b"abCDE", b"abCDE"])
+    checks.same(keep(&mut disk, 2, b"CDE"), Ok(()));
+    check_images(&mut checks, alloc, &disk, 4, [b"abCDE", b"abCDE", b"abCDE"])?;
+    Ok(checks.end()?)
 }
 
 // "abcd" with "XY" written at 1, a write of "ZZ" at 3 that fails, a sync, and "Q" written at 6.
@@ -83,79 +86,85 @@ fn wants_at(moment: u64) -> [&'static [u8]; 3] {
 
 #[test]
 fn a_crash_leaves_the_images_of_its_moment(rt: HostRuntime) -> Result<(), Fail> {
+    let mut checks = Checks::new(&rt);
     let disk = four_calls(rt.alloc())?;
     for moment in 0..9 {
-        assert_images(&rt, rt.alloc(), &disk, moment, wants_at(moment))?;
+        check_images(&mut checks, rt.alloc(), &disk, moment, wants_at(moment))?;
     }
-    Ok(())
+    Ok(checks.end()?)
 }
 
 #[test]
 fn reads_give_what_was_written(rt: HostRuntime) -> Result<(), Fail> {
+    let mut checks = Checks::new(&rt);
     let mut disk = shared(four_calls(rt.alloc())?);
-    assert_eq!(rt;
+    checks.same(
         shared(disk.stand()),
         Stand {
             moment: 8,
-            faults: 1
-        }
+            faults: 1,
+        },
     );
-    assert_eq!(rt;
+    checks.same(
         seen(rt.alloc(), &mut disk)?.as_slice(),
-        b"aXYd\0\0Q".as_slice()
+        b"aXYd\0\0Q".as_slice(),
     );
-    Ok(())
+    Ok(checks.end()?)
 }
 
 #[test]
 fn a_failed_sync_keeps_the_base(rt: HostRuntime) -> Result<(), Fail> {
+    let mut checks = Checks::new(&rt);
     let alloc = rt.alloc();
     let mut disk = four_bytes(alloc, &[2])?;
-    assert_eq!(rt; disk.write_at(0, b"W"), Ok(()));
-    assert_eq!(rt; disk.sync(), Err(Failed));
-    assert_eq!(rt;
+    checks.same(disk.write_at(0, b"W"), Ok(()));
+    checks.same(disk.sync(), Err(Failed));
+    checks.same(
         disk.stand(),
         Stand {
             moment: 4,
-            faults: 1
-        }
+            faults: 1,
+        },
     );
-    assert_images(&rt, alloc, &disk, 4, [b"abcd", b"Wbcd", b"?bcd"])
+    check_images(&mut checks, alloc, &disk, 4, [b"abcd", b"Wbcd", b"?bcd"])?;
+    Ok(checks.end()?)
 }
 
 #[test]
 fn measurings_and_reads_are_counted(rt: HostRuntime) -> Result<(), Fail> {
+    let mut checks = Checks::new(&rt);
     let mut disk = four_bytes(rt.alloc(), &[2, 4])?;
     let mut buffer = [0; 3];
-    assert_eq!(rt; disk.len(), Ok(4));
-    assert_eq!(rt; disk.len(), Err(Failed));
-    assert_eq!(rt; disk.read_at(1, &mut buffer), Ok(3));
-    assert_eq!(rt; buffer, *b"bcd");
-    assert_eq!(rt; disk.read_at(1, &mut buffer), Err(Failed));
-    assert_eq!(rt; disk.read_at(3, &mut buffer), Ok(1));
-    assert_eq!(rt; disk.read_at(u64::MAX, &mut buffer), Ok(0));
-    assert_eq!(rt;
+    checks.same(disk.len(), Ok(4));
+    checks.same(disk.len(), Err(Failed));
+    checks.same(disk.read_at(1, &mut buffer), Ok(3));
+    checks.same(buffer, *b"bcd");
+    checks.same(disk.read_at(1, &mut buffer), Err(Failed));
+    checks.same(disk.read_at(3, &mut buffer), Ok(1));
+    checks.same(disk.read_at(u64::MAX, &mut buffer), Ok(0));
+    checks.same(
         disk.stand(),
         Stand {
             moment: 0,
-            faults: 2
-        }
+            faults: 2,
+        },
     );
-    Ok(())
+    Ok(checks.end()?)
 }
 
 #[test]
 fn a_write_without_memory_has_no_moment(rt: HostRuntime) -> Result<(), Fail> {
+    let mut checks = Checks::new(&rt);
     let alloc = rt.alloc();
     let mut disk = four_bytes(alloc, &[])?;
-    assert_eq!(rt; disk.write_at(u64::MAX, b"XY"), Err(Failed));
-    assert_eq!(rt; seen(alloc, &mut disk)?.as_slice(), b"abcd".as_slice());
-    assert_eq!(rt;
+    checks.same(disk.write_at(u64::MAX, b"XY"), Err(Failed));
+    checks.same(seen(alloc, &mut disk)?.as_slice(), b"abcd".as_slice());
+    checks.same(
         disk.stand(),
         Stand {
             moment: 0,
-            faults: 1
-        }
+            faults: 1,
+        },
     );
-    Ok(())
+    Ok(checks.end()?)
 }

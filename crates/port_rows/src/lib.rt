@@ -9,5 +9,3 @@ mod file_disks;
 mod links;
 #[cfg(test)]
 mod ports;
-#[cfg(test)]
-mod sharing;

@@ -1,8 +1,8 @@
 //! A link in memory, and one over TCP to a device on the loopback.
 
-use crate::sharing::shared;
 use farm_base::NoMemory;
 use farm_ports::{Failed, Link, LinkCall, Port, TcpLink, Wire};
+use row_checks::{Checks, shared};
 use std::alloc::Global;
 use std::io;
 use std::io::{Read, Write};
@@ -24,20 +24,21 @@ fn two_responses(alloc: Global) -> Result<Wire, NoMemory> {
 
 #[test]
 fn a_wire_gives_its_responses(rt: HostRuntime) -> Result<(), Fail> {
+    let mut checks = Checks::new(&rt);
     let mut wire = shared(two_responses(rt.alloc())?);
     let mut buffer = [0; 2];
-    assert_eq!(rt; ask(&mut wire, 502, &mut buffer), Err(Failed));
-    assert_eq!(rt; ask(&mut wire, 502, &mut buffer), Ok(2));
-    assert_eq!(rt; buffer, *b"ab");
+    checks.same(ask(&mut wire, 502, &mut buffer), Err(Failed));
+    checks.same(ask(&mut wire, 502, &mut buffer), Ok(2));
+    checks.same(buffer, *b"ab");
     // What was left is dropped.
-    assert_eq!(rt; ask(&mut wire, 502, &mut buffer), Ok(2));
-    assert_eq!(rt; buffer, *b"de");
-    assert_eq!(rt; wire.recv(&mut buffer), Err(Failed));
+    checks.same(ask(&mut wire, 502, &mut buffer), Ok(2));
+    checks.same(buffer, *b"de");
+    checks.same(wire.recv(&mut buffer), Err(Failed));
     wire.pause();
-    assert_eq!(rt; wire.faults(), 2);
-    assert_eq!(rt; wire.calls().len(), 9);
-    assert!(rt; matches!(wire.calls().last(), Some(LinkCall::Paused)));
-    Ok(())
+    checks.same(wire.faults(), 2);
+    checks.same(wire.calls().len(), 9);
+    checks.same(matches!(wire.calls().last(), Some(LinkCall::Paused)), true);
+    Ok(checks.end()?)
 }
 
 // The device takes a connection, reads a request, answers, and closes the connection.
@@ -56,23 +57,24 @@ fn device_of<R: Net>(rt: &R) -> io::Result<(R::Listener, u16)> {
 
 #[test]
 fn a_device_is_asked_over_tcp(rt: HostRuntime) -> Result<(), Fail> {
+    let mut checks = Checks::new(&rt);
     let (device, port) = device_of(&rt)?;
     let mut link = shared(TcpLink::new(&rt));
     let mut buffer = [0; 8];
-    assert_eq!(rt; link.send(b""), Err(Failed));
-    assert_eq!(rt; link.connect(b"127.0.0.1", port), Ok(()));
-    assert_eq!(rt; link.send(b"ask"), Ok(3));
-    assert_eq!(rt; answer_one(&device, &mut buffer).unwrap_or(0), 3);
-    assert_eq!(rt; buffer[..3], b"ask"[..]);
-    assert_eq!(rt; link.recv(&mut buffer), Ok(5));
-    assert_eq!(rt; buffer[..5], b"level"[..]);
+    checks.same(link.send(b""), Err(Failed));
+    checks.same(link.connect(b"127.0.0.1", port), Ok(()));
+    checks.same(link.send(b"ask"), Ok(3));
+    checks.same(answer_one(&device, &mut buffer).unwrap_or(0), 3);
+    checks.same(&buffer[..3], b"ask".as_slice());
+    checks.same(link.recv(&mut buffer), Ok(5));
+    checks.same(&buffer[..5], b"level".as_slice());
     link.pause();
-    assert_eq!(rt; link.faults(), 1);
-    assert_eq!(rt; link.recv(&mut buffer), Err(Failed));
+    checks.same(link.faults(), 1);
+    checks.same(link.recv(&mut buffer), Err(Failed));
     // Nobody listens there any more, and a host has to be a text.
     drop(device);
-    assert_eq!(rt; ask(&mut link, port, &mut buffer), Err(Failed));
-    assert_eq!(rt; link.connect(&[255], port), Err(Failed));
-    assert_eq!(rt; link.faults(), 4);
-    Ok(())
+    checks.same(ask(&mut link, port, &mut buffer), Err(Failed));
+    checks.same(link.connect(&[255], port), Err(Failed));
+    checks.same(link.faults(), 4);
+    Ok(checks.end()?)
 }
