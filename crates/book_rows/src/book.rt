@@ -4,11 +4,12 @@ ghost use Rattle.std.specs.Prelude.{◌≡◌, pos, ◌≤ℤ◌};
 ghost use Rattle.farm_history.specs.Commands.{IsShortList, IsWellFormedCommand};
 ghost use Rattle.farm_history.specs.History.{IsWellFormed, last_moment};
 
-use crate::sharing::shared;
 use farm_base::NoMemory;
 use farm_book::Book;
 use farm_history::{Command, Entry, Few, Query, Reply, Rule, Verdict};
+use row_checks::{Checks, shared};
 use row_site::row_site;
+use std::alloc::Global;
 use std::test::Fail;
 
 // A list of two numbers, and zeros.
@@ -123,98 +124,128 @@ fn answer(book: &mut Book<4>, entry: Entry) -> Result<Reply, NoMemory>
 }
 
 // What is answered to a command under a key, at the moment of the other entries.
-fn placed(book: &mut Book<4>, key: u64, cmd: Command) -> Result<Reply, Fail>
+fn placed(book: &mut Book<4>, key: u64, cmd: Command) -> Result<Reply, NoMemory>
     requires { IsWellFormedCommand cmd }
 {
     if book.last_moment() > 1_000 {
         return Ok(Reply::Placed(0));
     }
-    Ok(answer(book, entry(key, cmd))?)
+    answer(book, entry(key, cmd))
+}
+
+// A book of the row site.
+fn row_book(alloc: Global) -> Result<Book<4>, Fail> {
+    Ok(Book::new(alloc, row_site(alloc)?)?)
+}
+
+// Four readings fill a book.
+fn check_four<R: Print>(checks: &mut Checks<'_, R>, book: &mut Book<4>) {
+    for key in 1..=4 {
+        let reply = placed(book, key, gauge(101, 5_000, 0, 2_000, 2_000));
+        checks.same(reply, Ok(Reply::Placed(key as u32)));
+    }
+}
+
+// The full book refuses a fifth, answers a repeat, and takes a Stop.
+fn check_full<R: Print>(checks: &mut Checks<'_, R>, book: &mut Book<4>) {
+    let fifth = placed(book, 5, gauge(101, 5_000, 0, 2_000, 2_000));
+    checks.same(fifth, Ok(Reply::Refused(Rule::HistoryFull)));
+    let repeat = placed(book, 2, gauge(101, 5_000, 0, 2_000, 2_000));
+    checks.same(repeat, Ok(Reply::Placed(2)));
+    let reused = placed(book, 2, gauge(101, 5_001, 0, 2_000, 2_000));
+    checks.same(reused, Ok(Reply::Refused(Rule::KeyReused(2))));
+    checks.same(placed(book, 5, Command::Stop), Ok(Reply::Placed(5)));
+    let look = book.look(&Query::Ticket(1));
+    checks.same(look, Reply::Refused(Rule::UnknownTicket));
+    checks.same(book.entries().len(), 5);
+    checks.same(book.site().tanks.get().len(), 6);
 }
 
 #[test]
 fn a_full_book_takes_repeats_and_stops(rt: HostRuntime) -> Result<(), Fail> {
-    let mut book = shared(Book::<4>::new(rt.alloc(), row_site(rt.alloc())?)?);
-    for key in 1..=4 {
-        let reply = placed(&mut book, key, gauge(101, 5_000, 0, 2_000, 2_000))?;
-        assert_eq!(rt; reply, Reply::Placed(key as u32));
+    let mut checks = Checks::new(&rt);
+    let mut book = shared(row_book(rt.alloc())?);
+    check_four(&mut checks, &mut book);
+    check_full(&mut checks, &mut book);
+    drop(book);
+    Ok(checks.end()?)
+}
+
+// What gauges and samples are refused by.
+fn check_gauges<R: Print>(checks: &mut Checks<'_, R>, book: &Book<4>) {
+    let cases = [
+        (refusal(book, gauge(99, 5_000, 0, 2_000, 2_000)), (3, 0)),
+        (refusal(book, gauge(101, 50_001, 0, 2_000, 2_000)), (5, 1)),
+        (refusal(book, gauge(101, 5_000, -1, 2_000, 2_000)), (5, 2)),
+        (refusal(book, gauge(101, 5_000, 0, 30_001, 2_000)), (5, 3)),
+        (refusal(book, gauge(101, 5_000, 0, 2_000, -10_001)), (5, 4)),
+        (
+            refusal(book, gauge(101, 15_001, 15_002, 2_000, 2_000)),
+            (7, 0),
+        ),
+        (refusal(book, gauge(101, 10, 11, 2_000, 2_000)), (8, 0)),
+        (
+            refusal(book, gauge(101, 15_000, 15_000, 2_000, 2_000)),
+            (0, 0),
+        ),
+        (refusal(book, sample(3_999, 0)), (5, 1)),
+        (refusal(book, sample(8_500, 100_001)), (5, 2)),
+        (refusal(book, sample(8_500, 100_000)), (0, 0)),
+    ];
+    for (index, (found, want)) in cases.iter().enumerate() {
+        checks.same_at(index, found, want);
     }
-    let fifth = placed(&mut book, 5, gauge(101, 5_000, 0, 2_000, 2_000))?;
-    let repeat = placed(&mut book, 2, gauge(101, 5_000, 0, 2_000, 2_000))?;
-    let reused = placed(&mut book, 2, gauge(101, 5_001, 0, 2_000, 2_000))?;
-    let stop = placed(&mut book, 5, Command::Stop)?;
-    assert_eq!(rt; fifth, Reply::Refused(Rule::HistoryFull));
-    assert_eq!(rt; repeat, Reply::Placed(2));
-    assert_eq!(rt; reused, Reply::Refused(Rule::KeyReused(2)));
-    assert_eq!(rt; stop, Reply::Placed(5));
-    let look = book.look(&Query::Ticket(1));
-    assert_eq!(rt; look, Reply::Refused(Rule::UnknownTicket));
-    assert_eq!(rt; book.entries().len(), 5);
-    assert_eq!(rt; book.site().tanks.get().len(), 6);
-    Ok(())
 }
 
 #[test]
 fn gauges_and_samples_are_refused_by_their_first_rule(rt: HostRuntime) -> Result<(), Fail> {
-    let book = Book::<4>::new(rt.alloc(), row_site(rt.alloc())?)?;
-    let cases = [
-        (refusal(&book, gauge(99, 5_000, 0, 2_000, 2_000)), (3, 0)),
-        (refusal(&book, gauge(101, 50_001, 0, 2_000, 2_000)), (5, 1)),
-        (refusal(&book, gauge(101, 5_000, -1, 2_000, 2_000)), (5, 2)),
-        (refusal(&book, gauge(101, 5_000, 0, 30_001, 2_000)), (5, 3)),
-        (refusal(&book, gauge(101, 5_000, 0, 2_000, -10_001)), (5, 4)),
-        (
-            refusal(&book, gauge(101, 15_001, 15_002, 2_000, 2_000)),
-            (7, 0),
-        ),
-        (refusal(&book, gauge(101, 10, 11, 2_000, 2_000)), (8, 0)),
-        (
-            refusal(&book, gauge(101, 15_000, 15_000, 2_000, 2_000)),
-            (0, 0),
-        ),
-        (refusal(&book, sample(3_999, 0)), (5, 1)),
-        (refusal(&book, sample(8_500, 100_001)), (5, 2)),
-        (refusal(&book, sample(8_500, 100_000)), (0, 0)),
-    ];
-    for (index, (found, want)) in cases.iter().enumerate() {
-        assert_eq!(rt; found, want, "case {index}");
-    }
-    Ok(())
+    let mut checks = Checks::new(&rt);
+    let book = row_book(rt.alloc())?;
+    check_gauges(&mut checks, &book);
+    drop(book);
+    Ok(checks.end()?)
 }
 
-#[test]
-fn dips_are_refused_by_their_first_rule(rt: HostRuntime) -> Result<(), Fail> {
-    let book = Book::<4>::new(rt.alloc(), row_site(rt.alloc())?)?;
+// What dips are refused by.
+fn check_dips<R: Print>(checks: &mut Checks<'_, R>, book: &Book<4>) {
     let warm = one(2_000);
     let level = two(5_000, 5_000);
     let cases = [
         (
-            refusal(&book, dip(true, two(16_001, 16_001), none(), warm)),
+            refusal(book, dip(true, two(16_001, 16_001), none(), warm)),
             (6, 3),
         ),
-        (refusal(&book, dip(false, one(5_000), none(), warm)), (6, 1)),
+        (refusal(book, dip(false, one(5_000), none(), warm)), (6, 1)),
         (
-            refusal(&book, dip(false, two(5_000, 5_004), none(), warm)),
+            refusal(book, dip(false, two(5_000, 5_004), none(), warm)),
             (6, 2),
         ),
-        (refusal(&book, dip(false, level, one(1), warm)), (6, 4)),
-        (refusal(&book, dip(false, level, two(1, 2), warm)), (6, 5)),
+        (refusal(book, dip(false, level, one(1), warm)), (6, 4)),
+        (refusal(book, dip(false, level, two(1, 2), warm)), (6, 5)),
         (
-            refusal(&book, dip(false, level, two(5_001, 5_001), warm)),
+            refusal(book, dip(false, level, two(5_001, 5_001), warm)),
             (8, 0),
         ),
         (
-            refusal(&book, dip(true, two(999, 999), none(), warm)),
+            refusal(book, dip(true, two(999, 999), none(), warm)),
             (7, 0),
         ),
         (
-            refusal(&book, dip(true, two(1_000, 1_000), none(), warm)),
+            refusal(book, dip(true, two(1_000, 1_000), none(), warm)),
             (0, 0),
         ),
-        (refusal(&book, dip(false, level, none(), none())), (5, 3)),
+        (refusal(book, dip(false, level, none(), none())), (5, 3)),
     ];
     for (index, (found, want)) in cases.iter().enumerate() {
-        assert_eq!(rt; found, want, "case {index}");
+        checks.same_at(index, found, want);
     }
-    Ok(())
+}
+
+#[test]
+fn dips_are_refused_by_their_first_rule(rt: HostRuntime) -> Result<(), Fail> {
+    let mut checks = Checks::new(&rt);
+    let book = row_book(rt.alloc())?;
+    check_dips(&mut checks, &book);
+    drop(book);
+    Ok(checks.end()?)
 }

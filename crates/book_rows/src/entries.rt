@@ -3,15 +3,14 @@
 ghost use Rattle.farm_history.specs.Commands.{IsWellFormedCommand};
 ghost use Rattle.farm_history.specs.History.{IsMoment, IsWellFormed};
 
-use crate::sharing::shared;
 use crate::test_entries::{
     CANCEL, CLOSING, CLOSING_OF_TWO, DIP, GAUGE, LAST, RECEIPT, REVERSE, SAMPLE, SETTLE, STOP,
     TRANSFER,
 };
 use farm_history::{BadEntry, Command, Entry, Few, Gauged, LAST_MOMENT, Plan};
 use farm_ticket::Way;
+use row_checks::{Checks, shared};
 use std::alloc::Global;
-use std::process::Abort;
 use std::test::Fail;
 
 // An entry of caller 0 and account 1.
@@ -30,13 +29,18 @@ fn entry(key: u64, at: i64, cmd: Command) -> Entry
 }
 
 // An entry has these bytes, and is read from them.
-fn has_bytes(rt: &impl Abort, alloc: Global, entry: Entry, bytes: &[u8]) -> Result<(), Fail>
+fn check_bytes<R: Print>(
+    checks: &mut Checks<'_, R>,
+    alloc: Global,
+    entry: Entry,
+    bytes: &[u8],
+) -> Result<(), Fail>
     requires well_formed { IsWellFormed entry }
 {
     let mut out = Vec::new(alloc);
     entry.write(&mut out)?;
-    assert_eq!(rt; out.as_slice(), bytes);
-    assert_eq!(rt; shared(Entry::read(bytes)), Ok(entry));
+    checks.same(out.as_slice(), bytes);
+    checks.same(shared(Entry::read(bytes)), Ok(entry));
     Ok(())
 }
 
@@ -55,16 +59,22 @@ fn bad_place(bytes: &[u8]) -> Option<usize> {
 
 #[test]
 fn entries_have_their_bytes(rt: HostRuntime) -> Result<(), Fail> {
+    let mut checks = Checks::new(&rt);
     let alloc = rt.alloc();
     let moment = 1_700_000_000;
-    has_bytes(&rt, alloc, entry(1, moment, Command::Stop), &STOP)?;
-    has_bytes(&rt, alloc, entry(1, LAST_MOMENT, Command::Stop), &LAST)?;
+    check_bytes(&mut checks, alloc, entry(1, moment, Command::Stop), &STOP)?;
+    check_bytes(
+        &mut checks,
+        alloc,
+        entry(1, LAST_MOMENT, Command::Stop),
+        &LAST,
+    )?;
     let sample = Command::Sample {
         tank: 101,
         density: 8_500,
         sw: 0,
     };
-    has_bytes(&rt, alloc, entry(2, moment, sample), &SAMPLE)?;
+    check_bytes(&mut checks, alloc, entry(2, moment, sample), &SAMPLE)?;
     let gauge = Command::Gauge {
         tank: 101,
         level: 8_000,
@@ -72,7 +82,7 @@ fn entries_have_their_bytes(rt: HostRuntime) -> Result<(), Fail> {
         temperature: 1_500,
         ambient: 1_500,
     };
-    has_bytes(&rt, alloc, entry(1, moment, gauge), &GAUGE)?;
+    check_bytes(&mut checks, alloc, entry(1, moment, gauge), &GAUGE)?;
     let dip = Command::Dip {
         tank: 102,
         outage: false,
@@ -90,11 +100,13 @@ fn entries_have_their_bytes(rt: HostRuntime) -> Result<(), Fail> {
         },
         ambient: -50,
     };
-    has_bytes(&rt, alloc, entry(1, moment, dip), &DIP)
+    check_bytes(&mut checks, alloc, entry(1, moment, dip), &DIP)?;
+    Ok(checks.end()?)
 }
 
 #[test]
 fn entries_of_movements_have_their_bytes(rt: HostRuntime) -> Result<(), Fail> {
+    let mut checks = Checks::new(&rt);
     let alloc = rt.alloc();
     let receipt = Command::Opening(Plan::Outside {
         way: Way::Inward,
@@ -102,67 +114,112 @@ fn entries_of_movements_have_their_bytes(rt: HostRuntime) -> Result<(), Fail> {
         party: 7,
         gauged: gauged(2, 1),
     });
-    has_bytes(&rt, alloc, entry(1, 1_700_000_000, receipt), &RECEIPT)?;
+    check_bytes(
+        &mut checks,
+        alloc,
+        entry(1, 1_700_000_000, receipt),
+        &RECEIPT,
+    )?;
     let transfer = Command::Opening(Plan::Transfer {
         from: 101,
         to: 102,
         from_gauged: gauged(4, 1),
         to_gauged: gauged(7, 6),
     });
-    has_bytes(&rt, alloc, entry(1, 1_700_000_000, transfer), &TRANSFER)?;
+    check_bytes(
+        &mut checks,
+        alloc,
+        entry(1, 1_700_000_000, transfer),
+        &TRANSFER,
+    )?;
     let closing = Command::Closing {
         movement: 3,
         first: gauged(4, 1),
         second: None,
     };
-    has_bytes(&rt, alloc, entry(1, 1_700_000_000, closing), &CLOSING)?;
+    check_bytes(
+        &mut checks,
+        alloc,
+        entry(1, 1_700_000_000, closing),
+        &CLOSING,
+    )?;
     let closing = Command::Closing {
         movement: 8,
         first: gauged(9, 1),
         second: Some(gauged(10, 6)),
     };
-    has_bytes(
-        &rt,
+    check_bytes(
+        &mut checks,
         alloc,
         entry(1, 1_700_000_000, closing),
         &CLOSING_OF_TWO,
-    )
+    )?;
+    Ok(checks.end()?)
 }
 
 #[test]
 fn entries_that_end_movements_have_their_bytes(rt: HostRuntime) -> Result<(), Fail> {
+    let mut checks = Checks::new(&rt);
     let alloc = rt.alloc();
     let cancel = Command::Cancel { movement: 3 };
-    has_bytes(&rt, alloc, entry(1, 1_700_000_000, cancel), &CANCEL)?;
+    check_bytes(&mut checks, alloc, entry(1, 1_700_000_000, cancel), &CANCEL)?;
     let reverse = Command::Reverse { ticket: 14 };
-    has_bytes(&rt, alloc, entry(1, 1_700_000_000, reverse), &REVERSE)
+    check_bytes(
+        &mut checks,
+        alloc,
+        entry(1, 1_700_000_000, reverse),
+        &REVERSE,
+    )?;
+    Ok(checks.end()?)
 }
 
 #[test]
 fn a_settlement_has_its_bytes(rt: HostRuntime) -> Result<(), Fail> {
+    let mut checks = Checks::new(&rt);
     let settle = Command::Settle {
         tank: 101,
         gauged: gauged(15, 1),
     };
-    has_bytes(&rt, rt.alloc(), entry(16, 1_700_000_000, settle), &SETTLE)
+    check_bytes(
+        &mut checks,
+        rt.alloc(),
+        entry(16, 1_700_000_000, settle),
+        &SETTLE,
+    )?;
+    Ok(checks.end()?)
+}
+
+// The place of the first bad byte of an entry with another byte at an offset.
+fn bad_place_with(entry: &[u8], offset: usize, byte: u8) -> Option<usize> {
+    let mut bytes = [0; 64];
+    for (place, own) in bytes.iter_mut().zip(entry) {
+        *place = *own;
+    }
+    if let Some(place) = bytes.get_mut(offset) {
+        *place = byte;
+    }
+    bad_place(&bytes[..entry.len().min(64)])
+}
+
+// The same of an entry and one byte more.
+fn bad_place_of_longer(entry: &[u8]) -> Option<usize> {
+    let mut longer = [0; 64];
+    if let Some(front) = longer.get_mut(..entry.len()) {
+        front.copy_from_slice(entry);
+    }
+    bad_place(&longer[..(entry.len() + 1).min(64)])
+}
+
+// The first bytes of an entry are bad where they end.
+fn check_first_bytes<R: Print>(checks: &mut Checks<'_, R>, entry: &[u8]) {
+    for length in 0..entry.len() {
+        checks.same_at(length, bad_place(&entry[..length]), Some(length));
+    }
 }
 
 #[test]
-fn a_bad_byte_is_refused_at_its_place(rt: HostRuntime) {
-    for length in 0..STOP.len() {
-        assert_eq!(&rt;
-            bad_place(&STOP[..length]),
-            Some(length),
-            "a Stop's first {length} bytes"
-        );
-    }
-    for length in 0..DIP.len() {
-        assert_eq!(&rt;
-            bad_place(&DIP[..length]),
-            Some(length),
-            "a dip's first {length} bytes"
-        );
-    }
+fn a_bad_byte_is_refused_at_its_place(rt: HostRuntime) -> Result<(), Fail> {
+    let mut checks = Checks::new(&rt);
     let cases: [(&[u8], usize, u8, usize); 20] = [
         (&STOP, 24, 0, 24),
         (&STOP, 24, 7, 25),
@@ -190,22 +247,11 @@ fn a_bad_byte_is_refused_at_its_place(rt: HostRuntime) {
         (&DIP, 46, 9, 46),
     ];
     for (whole, offset, byte, want) in cases {
-        assert_eq!(&rt; bad_place(whole), None);
-        let mut bytes = [0; 64];
-        for (index, byte) in whole.iter().enumerate() {
-            if let Some(place) = bytes.get_mut(index) {
-                *place = *byte;
-            }
-        }
-        if let Some(place) = bytes.get_mut(offset) {
-            *place = byte;
-        }
-        assert_eq!(&rt;
-            bad_place(&bytes[..whole.len().min(64)]),
-            Some(want),
-            "{byte} at {offset}"
-        );
+        checks.same(bad_place(whole), None);
+        checks.same_at(offset, bad_place_with(whole, offset, byte), Some(want));
     }
+    check_first_bytes(&mut checks, &STOP);
+    check_first_bytes(&mut checks, &DIP);
     for entry in [
         RECEIPT.as_slice(),
         TRANSFER.as_slice(),
@@ -215,25 +261,18 @@ fn a_bad_byte_is_refused_at_its_place(rt: HostRuntime) {
         REVERSE.as_slice(),
         SETTLE.as_slice(),
     ] {
-        for length in 0..entry.len() {
-            assert_eq!(&rt; bad_place(&entry[..length]), Some(length));
-        }
-        let mut longer = [0; 64];
-        if let Some(front) = longer.get_mut(..entry.len()) {
-            front.copy_from_slice(entry);
-        }
-        assert_eq!(&rt; bad_place(&longer[..entry.len() + 1]), Some(entry.len()));
+        check_first_bytes(&mut checks, entry);
+        checks.same(bad_place_of_longer(entry), Some(entry.len()));
     }
-    // One byte more than a dip has.
-    let mut longer = [0; 64];
-    longer[..63].copy_from_slice(&DIP);
-    assert_eq!(&rt; bad_place(&longer), Some(63));
+    checks.same(bad_place_of_longer(&DIP), Some(63));
+    Ok(checks.end()?)
 }
 
 #[test]
 fn a_bad_entry_has_a_text(rt: HostRuntime) -> Result<(), Fail> {
+    let mut checks = Checks::new(&rt);
     let mut text = String::new(rt.alloc());
     write!(text, "{}", shared(BadEntry(24)))?;
-    assert_eq!(&rt; text.as_str(), "no entry: byte 24 can't stand there");
-    Ok(())
+    checks.same(text.as_str(), "no entry: byte 24 can't stand there");
+    Ok(checks.end()?)
 }

@@ -11,8 +11,6 @@ mod movements;
 #[cfg(test)]
 mod requests;
 #[cfg(test)]
-mod sharing;
-#[cfg(test)]
 mod stocks;
 #[cfg(test)]
 mod test_entries;

@@ -3,10 +3,10 @@
 ghost use Rattle.std.specs.Prelude.{◌≡◌, IfOk, IsNone, None};
 ghost use Rattle.farm_movement.specs.Closing.{ticket_of};
 
-use crate::sharing::shared;
 use farm_fixed::{Fac5, Kg, Litres, Quantities};
 use farm_movement::{Leg, OpenMove};
 use farm_ticket::{Moved, Side, Ticket, Way};
+use row_checks::{Checks, shared};
 use std::test::Fail;
 
 /// The ticket of a receipt or a delivery that is closed, or the movement where it has to stay open.
@@ -80,6 +80,7 @@ fn received(opening: &Quantities, closing: &Quantities, nsv: i64, mass: i64) -> 
 fn a_receipt_is_closed_with_its_ticket_unless_the_tank_has_less(
     rt: HostRuntime,
 ) -> Result<(), Fail> {
+    let mut checks = Checks::new(&rt);
     let opening = figures(8_000_000, 6_800_000)?;
     let receipt = OpenMove::new(3, 7, shared(leg(101, Way::Inward, opening)), None);
     let cases = [
@@ -94,22 +95,23 @@ fn a_receipt_is_closed_with_its_ticket_unless_the_tank_has_less(
             Some((nsv, mass)) => Ok(received(&opening, &closing, nsv, mass)),
             None => Err(receipt),
         };
-        assert_eq!(rt; answer, want, "{litres} l {kg} kg");
+        checks.same_at(litres, answer, want);
     }
-    Ok(())
+    Ok(checks.end()?)
 }
 
 #[test]
 fn both_sides_of_a_transfer_go_their_way(rt: HostRuntime) -> Result<(), Fail> {
+    let mut checks = Checks::new(&rt);
     let [less, more] = [figures(1_000, 850)?, figures(2_000, 1_700)?];
     let legs = (leg(101, Way::Outward, more), leg(102, Way::Inward, less));
     let transfer = OpenMove::new(4, 7, legs.0, Some(legs.1));
     let closed = shared(transfer.close(11, 2, less, Some(more)));
-    assert_eq!(rt; closed.map(|closed| closed.tanks()), Ok((101, Some(102))));
-    assert_eq!(rt;
+    checks.same(closed.map(|closed| closed.tanks()), Ok((101, Some(102))));
+    checks.same(
         transfer.close(11, 2, more, Some(figures(999, 849)?)),
-        Err(transfer)
+        Err(transfer),
     );
-    assert_eq!(rt; shared(transfer.cancel(12)).tanks(), transfer.tanks());
-    Ok(())
+    checks.same(shared(transfer.cancel(12)).tanks(), transfer.tanks());
+    Ok(checks.end()?)
 }

@@ -1,9 +1,9 @@
 //! Lines of a batch as requests, lines that are none, and the bodies of answers.
 
-use crate::sharing::shared;
 use farm_history::{Ask, Command, Few, Gauged, Plan, Query, Reply, Rule};
 use farm_http::{LineAsked, Page, body, line};
 use farm_ticket::Way;
+use row_checks::{Checks, shared};
 use std::alloc::{AllocError, Global};
 use std::test::Fail;
 
@@ -23,7 +23,8 @@ fn nested(alloc: Global, depth: usize) -> Result<String, AllocError> {
 }
 
 #[test]
-fn each_command_is_read(rt: HostRuntime) {
+fn each_command_is_read(rt: HostRuntime) -> Result<(), Fail> {
+    let mut checks = Checks::new(&rt);
     let alloc = rt.alloc();
     let sample = r#"{"do":"sample","account":1,"key":3,"tank":101,"density":8500,"sw":0}"#;
     let want = first(Command::Sample {
@@ -31,7 +32,7 @@ fn each_command_is_read(rt: HostRuntime) {
         density: 8500,
         sw: 0,
     });
-    assert_eq!(rt; shared(line(alloc, sample.as_bytes())), want);
+    checks.same(shared(line(alloc, sample.as_bytes())), want);
     let gauge =
         r#"{"do":"gauge","account":1,"key":3,"tank":65535,"level":9223372036854775807,"water":-1,"temperature":-9223372036854775808,"ambient":2150}"#;
     let want = first(Command::Gauge {
@@ -41,7 +42,7 @@ fn each_command_is_read(rt: HostRuntime) {
         temperature: i64::MIN,
         ambient: 2150,
     });
-    assert_eq!(rt; line(alloc, gauge.as_bytes()), want);
+    checks.same(line(alloc, gauge.as_bytes()), want);
     let dip =
         r#"{"do":"dip","account":1,"key":3,"tank":0,"kind":"outage","tapes":[1,2,3,4,5,6,7,8],"water":[],"temperatures":[-15,20],"ambient":7}"#;
     let want = first(Command::Dip {
@@ -61,7 +62,8 @@ fn each_command_is_read(rt: HostRuntime) {
         },
         ambient: 7,
     });
-    assert_eq!(rt; line(alloc, dip.as_bytes()), want);
+    checks.same(line(alloc, dip.as_bytes()), want);
+    Ok(checks.end()?)
 }
 
 // A reading and a sample that are named.
@@ -70,7 +72,8 @@ fn gauged(reading: u32, sample: u32) -> Gauged {
 }
 
 #[test]
-fn each_opening_is_read(rt: HostRuntime) {
+fn each_opening_is_read(rt: HostRuntime) -> Result<(), Fail> {
+    let mut checks = Checks::new(&rt);
     let alloc = rt.alloc();
     let receipt =
         r#"{"do":"open","account":1,"key":3,"way":"receipt","tank":101,"party":7,"reading":2,"sample":1}"#;
@@ -80,7 +83,7 @@ fn each_opening_is_read(rt: HostRuntime) {
         party: 7,
         gauged: gauged(2, 1),
     }));
-    assert_eq!(rt; line(alloc, receipt.as_bytes()), want);
+    checks.same(line(alloc, receipt.as_bytes()), want);
     let delivery =
         r#"{"do":"open","account":1,"key":3,"way":"delivery","tank":65535,"party":65535,"reading":4294967295,"sample":0}"#;
     let want = first(Command::Opening(Plan::Outside {
@@ -89,7 +92,7 @@ fn each_opening_is_read(rt: HostRuntime) {
         party: 65_535,
         gauged: gauged(4_294_967_295, 0),
     }));
-    assert_eq!(rt; line(alloc, delivery.as_bytes()), want);
+    checks.same(line(alloc, delivery.as_bytes()), want);
     let transfer =
         r#"{"do":"open","account":1,"key":3,"way":"transfer","from":101,"to":102,"from_reading":4,"from_sample":1,"to_reading":7,"to_sample":6}"#;
     let want = first(Command::Opening(Plan::Transfer {
@@ -98,11 +101,13 @@ fn each_opening_is_read(rt: HostRuntime) {
         from_gauged: gauged(4, 1),
         to_gauged: gauged(7, 6),
     }));
-    assert_eq!(rt; line(alloc, transfer.as_bytes()), want);
+    checks.same(line(alloc, transfer.as_bytes()), want);
+    Ok(checks.end()?)
 }
 
 #[test]
-fn each_end_of_a_movement_is_read(rt: HostRuntime) {
+fn each_end_of_a_movement_is_read(rt: HostRuntime) -> Result<(), Fail> {
+    let mut checks = Checks::new(&rt);
     let alloc = rt.alloc();
     let close = r#"{"do":"close","account":1,"key":3,"movement":3,"reading":4,"sample":1}"#;
     let want = first(Command::Closing {
@@ -110,7 +115,7 @@ fn each_end_of_a_movement_is_read(rt: HostRuntime) {
         first: gauged(4, 1),
         second: None,
     });
-    assert_eq!(rt; line(alloc, close.as_bytes()), want);
+    checks.same(line(alloc, close.as_bytes()), want);
     let close =
         r#"{"do":"close","account":1,"key":3,"movement":8,"reading":9,"sample":1,"to_reading":10,"to_sample":6}"#;
     let want = first(Command::Closing {
@@ -118,28 +123,32 @@ fn each_end_of_a_movement_is_read(rt: HostRuntime) {
         first: gauged(9, 1),
         second: Some(gauged(10, 6)),
     });
-    assert_eq!(rt; line(alloc, close.as_bytes()), want);
+    checks.same(line(alloc, close.as_bytes()), want);
     let cancel = r#"{"do":"cancel","account":1,"key":3,"movement":3}"#;
     let want = first(Command::Cancel { movement: 3 });
-    assert_eq!(rt; line(alloc, cancel.as_bytes()), want);
+    checks.same(line(alloc, cancel.as_bytes()), want);
     let reverse = r#"{"do":"reverse","account":1,"key":3,"ticket":14}"#;
     let want = first(Command::Reverse { ticket: 14 });
-    assert_eq!(rt; line(alloc, reverse.as_bytes()), want);
+    checks.same(line(alloc, reverse.as_bytes()), want);
+    Ok(checks.end()?)
 }
 
 #[test]
-fn a_look_up_needs_no_account_and_no_key(rt: HostRuntime) {
+fn a_look_up_needs_no_account_and_no_key(rt: HostRuntime) -> Result<(), Fail> {
+    let mut checks = Checks::new(&rt);
     let want = LineAsked::Ask(Ask::Look(Query::Ticket(5)));
     for text in [
         r#"{"do":"ticket","place":5}"#,
         r#"{"do":"ticket","place":5,"account":0,"key":null}"#,
     ] {
-        assert_eq!(rt; line(rt.alloc(), text.as_bytes()), want, "{text}");
+        checks.same_at(text, &line(rt.alloc(), text.as_bytes()), &want);
     }
+    Ok(checks.end()?)
 }
 
 #[test]
 fn a_stop_is_read(rt: HostRuntime) -> Result<(), Fail> {
+    let mut checks = Checks::new(&rt);
     let lines = [
         r#"{"do":"stop","account":1,"key":3}"#,
         " {\t\"key\" : 3 , \"account\" : 1 ,\r \"do\" : \"stop\" } ",
@@ -147,26 +156,27 @@ fn a_stop_is_read(rt: HostRuntime) -> Result<(), Fail> {
         r#"{"do":"stop","account":1,"key":3,"tank":null,"level":1.5}"#,
     ];
     for text in lines {
-        assert_eq!(rt;
+        checks.same_at(
+            text,
             line(rt.alloc(), text.as_bytes()),
             first(Command::Stop),
-            "{text}"
         );
     }
     let deep = nested(rt.alloc(), 126)?;
-    assert_eq!(rt; line(rt.alloc(), deep.as_bytes()), first(Command::Stop));
+    checks.same(line(rt.alloc(), deep.as_bytes()), first(Command::Stop));
     let last = LineAsked::Ask(Ask::Do {
         account: 999_999,
         key: 9_223_372_036_854_775_807,
         cmd: Command::Stop,
     });
     let text = r#"{"do":"stop","account":999999,"key":9223372036854775807}"#;
-    assert_eq!(rt; line(rt.alloc(), text.as_bytes()), last);
-    Ok(())
+    checks.same(line(rt.alloc(), text.as_bytes()), last);
+    Ok(checks.end()?)
 }
 
 #[test]
 fn other_lines_are_bad(rt: HostRuntime) -> Result<(), Fail> {
+    let mut checks = Checks::new(&rt);
     let lines = [
         "",
         "{}",
@@ -192,17 +202,18 @@ fn other_lines_are_bad(rt: HostRuntime) -> Result<(), Fail> {
         r#"{"do":"dip","account":1,"key":1,"tank":1,"kind":"innage","tapes":[1,"2"],"water":[],"temperatures":[],"ambient":0}"#,
     ];
     for text in lines {
-        assert_eq!(rt; line(rt.alloc(), text.as_bytes()), LineAsked::Bad, "{text}");
+        checks.same_at(text, line(rt.alloc(), text.as_bytes()), LineAsked::Bad);
     }
     let no_text = b"{\"do\":\"stop\",\"account\":1,\"key\":1,\"a\":\"\xff\"}";
-    assert_eq!(rt; line(rt.alloc(), no_text), LineAsked::Bad);
+    checks.same(line(rt.alloc(), no_text), LineAsked::Bad);
     let deep = nested(rt.alloc(), 127)?;
-    assert_eq!(rt; line(rt.alloc(), deep.as_bytes()), LineAsked::Bad);
-    Ok(())
+    checks.same(line(rt.alloc(), deep.as_bytes()), LineAsked::Bad);
+    Ok(checks.end()?)
 }
 
 #[test]
 fn bodies_are_compact(rt: HostRuntime) -> Result<(), Fail> {
+    let mut checks = Checks::new(&rt);
     let replies = [
         (Reply::Placed(1), r#"{"place":1}"#),
         (
@@ -214,29 +225,31 @@ fn bodies_are_compact(rt: HostRuntime) -> Result<(), Fail> {
     for (reply, want) in replies {
         let mut out = Vec::new(rt.alloc());
         body(rt.alloc(), &Page::Reply(reply), &mut out)?;
-        assert_eq!(rt; out.as_slice(), want.as_bytes());
+        checks.same(out.as_slice(), want.as_bytes());
     }
     let mut out = Vec::new(rt.alloc());
     body(rt.alloc(), &Page::Status(400, None), &mut out)?;
-    assert_eq!(rt; out.as_slice(), r#"{"error":400}"#.as_bytes());
-    assert_eq!(rt; shared(Page::Status(507, None)), Page::Status(507, None));
-    Ok(())
+    checks.same(out.as_slice(), r#"{"error":400}"#.as_bytes());
+    checks.same(shared(Page::Status(507, None)), Page::Status(507, None));
+    Ok(checks.end()?)
 }
 
 #[test]
-fn a_settlement_and_what_is_asked_of_stocks_are_read(rt: HostRuntime) {
+fn a_settlement_and_what_is_asked_of_stocks_are_read(rt: HostRuntime) -> Result<(), Fail> {
+    let mut checks = Checks::new(&rt);
     let alloc = rt.alloc();
     let settle = r#"{"do":"settle","account":1,"key":3,"tank":101,"reading":15,"sample":1}"#;
     let want = first(Command::Settle {
         tank: 101,
         gauged: gauged(15, 1),
     });
-    assert_eq!(rt; line(alloc, settle.as_bytes()), want);
+    checks.same(line(alloc, settle.as_bytes()), want);
     let stock = LineAsked::Ask(Ask::Look(Query::Stock(101)));
-    assert_eq!(rt;
+    checks.same(
         line(alloc, r#"{"do":"stock","tank":101}"#.as_bytes()),
-        stock
+        stock,
     );
     let total = LineAsked::Ask(Ask::Look(Query::Total));
-    assert_eq!(rt; line(alloc, r#"{"do":"total"}"#.as_bytes()), total);
+    checks.same(line(alloc, r#"{"do":"total"}"#.as_bytes()), total);
+    Ok(checks.end()?)
 }

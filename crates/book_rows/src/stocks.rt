@@ -6,9 +6,9 @@ ghost use Rattle.farm_stock.specs.Books.{book_of, plus};
 ghost use Rattle.farm_stock.specs.Postings.{added};
 ghost use Rattle.farm_stock.specs.Sums.{AreWithinSums};
 
-use crate::sharing::shared;
 use farm_fixed::Amount;
 use farm_stock::{Kind, Posting, Stock};
+use row_checks::{Checks, shared};
 use std::test::Fail;
 
 /// Posts what a tank received, and answers what it holds afterwards.
@@ -47,6 +47,7 @@ fn posting(tank: u16, kind: Kind, party: u16, amount: Amount) -> Posting
 
 #[test]
 fn a_book_is_its_opening_and_its_postings(rt: HostRuntime) -> Result<(), Fail> {
+    let mut checks = Checks::new(&rt);
     let openings = [
         (101, amount(8_000_000, 6_800_000)),
         (102, amount(5_000_000, 4_250_000)),
@@ -57,28 +58,30 @@ fn a_book_is_its_opening_and_its_postings(rt: HostRuntime) -> Result<(), Fail> {
     stock.post(&posting(102, Kind::TransferIn, 0, amount(495_859, 421_481)));
     stock.post(&posting(102, Kind::Gain, 0, amount(-859, -731)));
     stock.post(&posting(102, Kind::Delivery, 8, amount(-1_495_000, -1_270_750)));
-    assert_eq!(rt; stock.book(101), Some(amount(8_429_604, 7_165_163)));
-    assert_eq!(rt; stock.book(102), Some(amount(4_000_000, 3_400_000)));
-    assert_eq!(rt; stock.book(103), None);
-    assert_eq!(rt; stock.total(), amount(12_429_604, 10_565_163));
-    Ok(())
+    checks.same(stock.book(101), Some(amount(8_429_604, 7_165_163)));
+    checks.same(stock.book(102), Some(amount(4_000_000, 3_400_000)));
+    checks.same(stock.book(103), None);
+    checks.same(stock.total(), amount(12_429_604, 10_565_163));
+    Ok(checks.end()?)
 }
 
 #[test]
 fn a_receipt_is_held_afterwards(rt: HostRuntime) -> Result<(), Fail> {
+    let mut checks = Checks::new(&rt);
     let mut stock = Stock::new(rt.alloc(), &[(101, amount(-40, -34))])?;
-    assert_eq!(rt;
+    checks.same(
         received(&mut stock, 101, 7, amount(1_000, 850)),
-        Some(amount(960, 816))
+        Some(amount(960, 816)),
     );
-    Ok(())
+    Ok(checks.end()?)
 }
 
 #[test]
 fn each_type_may_go_to_another_thread(rt: HostRuntime) -> Result<(), Fail> {
+    let mut checks = Checks::new(&rt);
     let stock = shared(Stock::new(rt.alloc(), &[])?);
-    assert_eq!(rt; stock.total(), amount(0, 0));
+    checks.same(stock.total(), amount(0, 0));
     let gain = shared(posting(102, shared(Kind::Gain), 0, amount(-859, -731)));
-    assert_eq!(rt; gain, posting(102, Kind::Gain, 0, amount(-859, -731)));
-    Ok(())
+    checks.same(gain, posting(102, Kind::Gain, 0, amount(-859, -731)));
+    Ok(checks.end()?)
 }

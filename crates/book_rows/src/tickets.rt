@@ -2,9 +2,10 @@
 
 ghost use Rattle.std.specs.Prelude.{◌≡◌, IfOk, ◌+ℤ◌};
 
-use crate::sharing::shared;
 use farm_fixed::{Fac5, Kg, Litres, Quantities};
 use farm_ticket::{Moved, Side, Ticket, Way, WrongWay, moved};
+use row_checks::{Checks, shared};
+use std::alloc::Global;
 use std::test::Fail;
 
 /// The side of a receipt into a tank between these figures, unless it went the wrong way.
@@ -20,10 +21,13 @@ fn received(tank: u16, opening: Quantities, closing: Quantities) -> Result<Side,
     })
 }
 
-// Keeps a ticket in a list.
-fn keep(tickets: &mut Vec<Ticket>, ticket: Ticket) -> Result<(), Fail> {
-    tickets.push(ticket)?;
-    Ok(())
+// The lines of tickets.
+fn lines_of(alloc: Global, tickets: &[Ticket]) -> Result<Vec<u8>, Fail> {
+    let mut out = Vec::new(alloc);
+    for ticket in tickets {
+        ticket.write(&mut out)?;
+    }
+    Ok(out)
 }
 
 // The figures of a tank with no free water, roof or sediment and water: TOV, CTSH, VCF, GOV, NSV, mass.
@@ -50,6 +54,7 @@ const NINE_MILLION: [i64; 6] = [9_000_000, 100_022, 99_150, 9_001_980, 8_925_463
 
 #[test]
 fn a_ticket_has_one_line(rt: HostRuntime) -> Result<(), Fail> {
+    let mut checks = Checks::new(&rt);
     let side = shared(received(101, figures(EIGHT_MILLION)?, figures(NINE_MILLION)?)?);
     let receipt = shared(Ticket {
         place: 5,
@@ -107,26 +112,19 @@ fn a_ticket_has_one_line(rt: HostRuntime) -> Result<(), Fail> {
         first: back,
         ..delivery
     };
-    let mut tickets = Vec::new(rt.alloc());
-    keep(&mut tickets, receipt)?;
-    keep(&mut tickets, transfer)?;
-    keep(&mut tickets, delivery)?;
-    keep(&mut tickets, reversal)?;
-    let mut out = Vec::new(rt.alloc());
-    for ticket in &tickets {
-        ticket.write(&mut out)?;
-    }
     let lines = "ticket 1 place 5 receipt tank 101 party 7 nsv 925463 kg 786644
 ticket 2 place 11 transfer tank 101 to 102 nsv 495859 kg 421481 received 495000 kg 420750
 ticket 3 place 14 delivery tank 102 party 8 nsv 1495000 kg 1270750
 ticket 4 place 15 delivery tank 102 party 8 nsv -1495000 kg -1270750 reverses 14
 ";
-    assert_eq!(rt; out.as_slice(), lines.as_bytes());
-    Ok(())
+    let written = lines_of(rt.alloc(), &[receipt, transfer, delivery, reversal])?;
+    checks.same(written.as_slice(), lines.as_bytes());
+    Ok(checks.end()?)
 }
 
 #[test]
 fn the_net_volume_alone_decides_the_way(rt: HostRuntime) -> Result<(), Fail> {
+    let mut checks = Checks::new(&rt);
     let cases = [
         (8_000_000, 6_800_000, Way::Inward, Ok((0, 0))),
         (8_000_000, 6_799_999, Way::Inward, Ok((0, -1))),
@@ -140,17 +138,14 @@ fn the_net_volume_alone_decides_the_way(rt: HostRuntime) -> Result<(), Fail> {
     for (nsv, mass, way, want) in cases {
         let closing = figures([8_000_000, 100_000, 100_000, 8_000_000, nsv, mass])?;
         let moved = shared(moved(&opening, &closing, shared(way)));
-        assert_eq!(rt;
-            moved.map(|moved| (moved.nsv, moved.mass)),
-            want,
-            "{nsv} l {mass} kg"
-        );
+        checks.same_at(nsv, moved.map(|moved| (moved.nsv, moved.mass)), want);
     }
-    Ok(())
+    Ok(checks.end()?)
 }
 
 #[test]
 fn a_reversal_moves_the_opposite_amounts(rt: HostRuntime) -> Result<(), Fail> {
+    let mut checks = Checks::new(&rt);
     let (opening, closing) = (figures(EIGHT_MILLION)?, figures(NINE_MILLION)?);
     let moved = moved(&opening, &closing, Way::Inward)?;
     let receipt = Ticket {
@@ -175,9 +170,9 @@ fn a_reversal_moves_the_opposite_amounts(rt: HostRuntime) -> Result<(), Fail> {
         swv: 0,
         mass: -786_644,
     };
-    assert_eq!(&rt; reversal.first.moved, back);
-    assert_eq!(&rt; (reversal.place, reversal.number), (6, 2));
-    assert_eq!(&rt; (reversal.movement, reversal.reverses), (2, 5));
-    assert_eq!(&rt; reversal.party, 7);
-    Ok(())
+    checks.same(reversal.first.moved, back);
+    checks.same((reversal.place, reversal.number), (6, 2));
+    checks.same((reversal.movement, reversal.reverses), (2, 5));
+    checks.same(reversal.party, 7);
+    Ok(checks.end()?)
 }

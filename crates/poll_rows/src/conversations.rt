@@ -1,10 +1,11 @@
 //! Whole conversations of one gauge: responses, exceptions, wrong fields, responses cut short, and links that fail.
 
-use crate::gauges::{GAUGE, line};
+use crate::gauges::{GAUGE, poller, wire};
 use farm_base::NoMemory;
-use farm_ports::{LinkCall, Wire};
+use farm_ports::LinkCall;
 use modbus_poll::Polled::{Exception, Wrong};
-use modbus_poll::{Polled, Poller, Raw};
+use modbus_poll::{Polled, Raw};
+use row_checks::Checks;
 use std::alloc::Global;
 use std::test::Fail;
 
@@ -113,10 +114,9 @@ fn is_connect(call: &&LinkCall) -> bool {
 }
 
 // The answer of the first of two polls, and whether the second one begins without a connect.
-fn converse(alloc: Global, response: Vec<u8>, fails: u64) -> Result<(Polled, bool), NoMemory> {
-    let mut poller = Poller::new(alloc, line(alloc, GAUGE)?)?;
-    let responses = vec![in alloc; response]?;
-    let mut wire = Wire::new(alloc, responses, vec![in alloc; fails]?)?;
+fn converse(alloc: Global, response: &[u8], fails: u64) -> Result<(Polled, bool), NoMemory> {
+    let mut poller = poller(alloc, GAUGE)?;
+    let mut wire = wire(alloc, &[response], &[fails])?;
     let answer = poller.turn(&mut wire);
     poller.turn(&mut wire);
     let connects = wire.calls().iter().filter(is_connect).count();
@@ -133,14 +133,12 @@ fn stands_after(answer: Polled) -> bool {
 
 #[test]
 fn each_conversation_has_its_answer(rt: HostRuntime) -> Result<(), Fail> {
+    let mut checks = Checks::new(&rt);
     let alloc = rt.alloc();
-    for (at, other, size, fails, want) in CASES {
-        let got = converse(alloc, response(alloc, at, other, size)?, fails)?;
-        assert_eq!(rt;
-            got,
-            (want, stands_after(want)),
-            "{other:?} at {at}, {size} bytes, call {fails} fails"
-        );
+    for (number, case) in CASES.iter().enumerate() {
+        let (at, other, size, fails, want) = *case;
+        let got = converse(alloc, &response(alloc, at, other, size)?, fails)?;
+        checks.same_at(number, got, (want, stands_after(want)));
     }
-    Ok(())
+    Ok(checks.end()?)
 }

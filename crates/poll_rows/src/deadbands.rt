@@ -2,11 +2,11 @@
 
 ghost use Rattle.std.specs.Prelude.{◌≡◌, IfSome};
 
-use crate::gauges::{GAUGE, line};
-use crate::sharing::shared;
+use crate::gauges::{GAUGE, poller, wire};
 use farm_base::NoMemory;
-use farm_ports::{Link, Wire};
+use farm_ports::Link;
 use modbus_poll::{Polled, Poller, Raw};
+use row_checks::{Checks, shared};
 use std::alloc::Global;
 use std::test::Fail;
 
@@ -24,9 +24,20 @@ fn due_reading<L: Link>(poller: &mut Poller, link: &mut L) -> Option<(usize, Raw
     Some((gauge, raw))
 }
 
+// The levels of three polls of the gauge, where they are to be submitted.
+fn due_levels(alloc: Global, responses: &[&[u8]]) -> Result<[Option<i64>; 3], NoMemory> {
+    let mut poller = shared(poller(alloc, GAUGE)?);
+    let mut wire = wire(alloc, responses, &[])?;
+    Ok([
+        due_reading(&mut poller, &mut wire).map(|due| due.1.level),
+        due_reading(&mut poller, &mut wire).map(|due| due.1.level),
+        due_reading(&mut poller, &mut wire).map(|due| due.1.level),
+    ])
+}
+
 // A response to a transaction with a level whose low byte is this one, the high one 0x13, at 20.00 C.
-fn response(alloc: Global, transaction: u8, low: u8) -> Result<Vec<u8>, NoMemory> {
-    let bytes = [
+fn response(transaction: u8, low: u8) -> [u8; 15] {
+    [
         0,
         transaction,
         0,
@@ -42,25 +53,14 @@ fn response(alloc: Global, transaction: u8, low: u8) -> Result<Vec<u8>, NoMemory
         200,
         0,
         1,
-    ];
-    Ok(bytes.to_vec(alloc)?)
+    ]
 }
 
 #[test]
 fn a_reading_is_due_that_differs_by_the_deadband(rt: HostRuntime) -> Result<(), Fail> {
-    let alloc = rt.alloc();
-    let mut poller = shared(Poller::new(alloc, line(alloc, GAUGE)?)?);
-    let responses = vec![in alloc;
-        response(alloc, 1, 0x88)?,
-        response(alloc, 2, 0x88)?,
-        response(alloc, 3, 0x89)?,
-    ]?;
-    let mut wire = Wire::new(alloc, responses, Vec::new(alloc))?;
-    let levels = [
-        due_reading(&mut poller, &mut wire).map(|due| due.1.level),
-        due_reading(&mut poller, &mut wire).map(|due| due.1.level),
-        due_reading(&mut poller, &mut wire).map(|due| due.1.level),
-    ];
-    assert_eq!(rt; levels, [Some(5_000), None, Some(5_001)]);
-    Ok(())
+    let mut checks = Checks::new(&rt);
+    let responses: [&[u8]; 3] = [&response(1, 0x88), &response(2, 0x88), &response(3, 0x89)];
+    let levels = due_levels(rt.alloc(), &responses)?;
+    checks.same(levels, [Some(5_000), None, Some(5_001)]);
+    Ok(checks.end()?)
 }

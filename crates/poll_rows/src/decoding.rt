@@ -3,11 +3,10 @@
 ghost use Rattle.std.specs.Prelude.{◌<◌, IsTrue};
 ghost use Rattle.modbus_poll.specs.Maps.{is_gauge_map};
 
-use crate::gauges::{GAUGE, PLAIN, line};
-use crate::sharing::shared;
+use crate::gauges::{GAUGE, PLAIN, poller, wire};
 use farm_base::NoMemory;
-use farm_ports::Wire;
-use modbus_poll::{Field, GaugeMap, Polled, Poller, Raw, Valid};
+use modbus_poll::{Field, GaugeMap, Polled, Raw, Valid};
+use row_checks::{Checks, shared};
 use std::alloc::Global;
 use std::test::Fail;
 
@@ -43,17 +42,17 @@ const READING: Raw = Raw {
 fn answer_of(alloc: Global, gauge: GaugeMap) -> Result<Polled, NoMemory>
     requires { IsTrue (is_gauge_map gauge) }
 {
-    let mut poller = Poller::new(alloc, line(alloc, gauge)?)?;
-    let responses = vec![in alloc; RESPONSE.to_vec(alloc)?]?;
-    let mut wire = Wire::new(alloc, responses, Vec::new(alloc))?;
+    let mut poller = poller(alloc, gauge)?;
+    let mut wire = wire(alloc, &[&RESPONSE], &[])?;
     Ok(poller.turn(&mut wire))
 }
 
 #[test]
 fn registers_are_read_in_the_order_of_the_map(rt: HostRuntime) -> Result<(), Fail> {
+    let mut checks = Checks::new(&rt);
     let answer = answer_of(rt.alloc(), LONG_GAUGE)?;
-    assert_eq!(rt; answer, Polled::Value(0, shared(READING)));
-    Ok(())
+    checks.same(answer, Polled::Value(0, shared(READING)));
+    Ok(checks.end()?)
 }
 
 // The gauge with this validity bit.
@@ -70,6 +69,7 @@ fn with_bit(offset: u8, bit: u8) -> GaugeMap
 
 #[test]
 fn a_bit_says_whether_a_reading_is_valid(rt: HostRuntime) -> Result<(), Fail> {
+    let mut checks = Checks::new(&rt);
     let cases = [
         (2, 2, false),
         (1, 0, false),
@@ -85,22 +85,19 @@ fn a_bit_says_whether_a_reading_is_valid(rt: HostRuntime) -> Result<(), Fail> {
             } else {
                 Polled::NotValid(0)
             };
-            assert_eq!(rt;
-                answer_of(rt.alloc(), with_bit(offset, bit))?,
-                want,
-                "{offset} {bit}"
-            );
+            checks.same_at(offset, answer_of(rt.alloc(), with_bit(offset, bit))?, want);
         }
     }
-    Ok(())
+    Ok(checks.end()?)
 }
 
 #[test]
 fn a_reading_without_a_validity_bit_is_valid(rt: HostRuntime) -> Result<(), Fail> {
+    let mut checks = Checks::new(&rt);
     let gauge = GaugeMap {
         valid: None,
         ..LONG_GAUGE
     };
-    assert_eq!(rt; answer_of(rt.alloc(), gauge)?, Polled::Value(0, READING));
-    Ok(())
+    checks.same(answer_of(rt.alloc(), gauge)?, Polled::Value(0, READING));
+    Ok(checks.end()?)
 }

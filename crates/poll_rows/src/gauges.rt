@@ -1,10 +1,11 @@
-//! A gauge, and a line that has it alone.
+//! A gauge, a line that has it alone, a poller of that line, and its link.
 
 ghost use Rattle.std.specs.Prelude.{IfOk, IsTrue};
 ghost use Rattle.modbus_poll.specs.Maps.{is_gauge_map, is_line_map};
 
 use farm_base::NoMemory;
-use modbus_poll::{Field, GaugeMap, Gauges, Host, LineMap, Valid};
+use farm_ports::Wire;
+use modbus_poll::{Field, GaugeMap, Gauges, Host, LineMap, Poller, Valid};
 use std::alloc::Global;
 
 /// A field of one word in the unit of what it measures.
@@ -49,4 +50,20 @@ pub fn line(alloc: Global, gauge: GaugeMap) -> Result<LineMap, NoMemory>
         port: 502,
         gauges: Gauges::new(vec![in alloc; gauge]?),
     })
+}
+
+/// A poller of a line with one gauge.
+pub fn poller(alloc: Global, gauge: GaugeMap) -> Result<Poller, NoMemory>
+    requires { IsTrue (is_gauge_map gauge) }
+{
+    Poller::new(alloc, line(alloc, gauge)?)
+}
+
+/// A link with these responses, whose calls of these numbers fail.
+pub fn wire(alloc: Global, responses: &[&[u8]], fails: &[u64]) -> Result<Wire, NoMemory> {
+    let mut copies = Vec::new(alloc);
+    for response in responses {
+        copies.push(response.to_vec(alloc)?)?;
+    }
+    Wire::new(alloc, copies, fails.to_vec(alloc)?)
 }

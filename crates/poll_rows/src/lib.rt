@@ -11,5 +11,3 @@ mod decoding;
 mod gauges;
 #[cfg(test)]
 mod polling;
-#[cfg(test)]
-mod sharing;

@@ -1,10 +1,10 @@
 //! The turns of a poller with the calls that they make on a link, and the copy of a line.
 
-use crate::gauges::{GAUGE, line};
-use crate::sharing::shared;
+use crate::gauges::{GAUGE, line, poller, wire};
 use farm_base::NoMemory;
 use farm_ports::{LinkCall, Wire};
 use modbus_poll::{Polled, Poller, Raw};
+use row_checks::{Checks, shared};
 use std::alloc::Global;
 use std::test::Fail;
 
@@ -48,18 +48,24 @@ fn outline(call: &LinkCall) -> Call {
     }
 }
 
-// The answers of four turns at a link whose first call fails, and the calls that they make.
-fn four_turns(
+// The answers of four turns, and the calls that they make.
+fn turn_four_times(
     alloc: Global,
-    responses: Vec<Vec<u8>>,
+    poller: &mut Poller,
+    wire: &mut Wire,
 ) -> Result<([Polled; 4], Vec<Call>), NoMemory> {
-    let mut poller = Poller::new(alloc, line(alloc, GAUGE)?)?;
-    let mut wire = Wire::new(alloc, responses, vec![in alloc; 1]?)?;
-    let first = poller.turn(&mut wire);
-    let second = poller.turn(&mut wire);
-    let third = poller.turn(&mut wire);
-    let answers = [first, second, third, poller.turn(&mut wire)];
+    let first = poller.turn(wire);
+    let second = poller.turn(wire);
+    let third = poller.turn(wire);
+    let answers = [first, second, third, poller.turn(wire)];
     Ok((answers, wire.calls().iter().map(outline).collect(alloc)?))
+}
+
+// The same of a poller at a link whose first call fails.
+fn four_turns(alloc: Global, responses: &[&[u8]]) -> Result<([Polled; 4], Vec<Call>), NoMemory> {
+    let mut poller = poller(alloc, GAUGE)?;
+    let mut wire = wire(alloc, responses, &[1])?;
+    turn_four_times(alloc, &mut poller, &mut wire)
 }
 
 // What the first three turns answer.
@@ -79,44 +85,39 @@ const CALLS: [Call; 8] = [
 
 #[test]
 fn a_poller_goes_on_after_faults(rt: HostRuntime) -> Result<(), Fail> {
-    let alloc = rt.alloc();
-    let responses = vec![in alloc;
-        FIRST.to_vec(alloc)?,
-        OF_ANOTHER_UNIT.to_vec(alloc)?,
-        THIRD.to_vec(alloc)?,
-    ]?;
-    let (answers, calls) = four_turns(alloc, responses)?;
-    assert_eq!(rt; shared(answers)[..3], ANSWERS[..]);
-    assert_eq!(rt; answers[3], READING);
-    assert_eq!(rt; calls.get(..8), Some(&CALLS[..]));
+    let mut checks = Checks::new(&rt);
+    let (answers, calls) = four_turns(rt.alloc(), &[&FIRST, &OF_ANOTHER_UNIT, &THIRD])?;
+    checks.same(&shared(answers)[..3], &ANSWERS[..]);
+    checks.same(answers[3], READING);
+    checks.same(calls.get(..8), Some(&CALLS[..]));
     let last = [
         Call::Sent(3),
         Call::Received(9, false),
         Call::Received(6, false),
     ];
-    assert_eq!(rt; calls.get(8..), Some(&last[..]));
-    Ok(())
+    checks.same(calls.get(8..), Some(&last[..]));
+    Ok(checks.end()?)
 }
 
 #[test]
 fn a_device_that_falls_silent_is_a_fault(rt: HostRuntime) -> Result<(), Fail> {
-    let alloc = rt.alloc();
-    let responses = vec![in alloc; FIRST.to_vec(alloc)?, OF_ANOTHER_UNIT.to_vec(alloc)?]?;
-    let (answers, calls) = four_turns(alloc, responses)?;
-    assert_eq!(rt; answers[..3], ANSWERS[..]);
-    assert_eq!(rt; answers[3], Polled::LinkFault(0));
+    let mut checks = Checks::new(&rt);
+    let (answers, calls) = four_turns(rt.alloc(), &[&FIRST, &OF_ANOTHER_UNIT])?;
+    checks.same(&answers[..3], &ANSWERS[..]);
+    checks.same(answers[3], Polled::LinkFault(0));
     let last = [Call::Sent(3), Call::Received(0, true)];
-    assert_eq!(rt; calls.get(8..), Some(&last[..]));
-    Ok(())
+    checks.same(calls.get(8..), Some(&last[..]));
+    Ok(checks.end()?)
 }
 
 #[test]
 fn a_copied_line_is_polled_as_the_line_is(rt: HostRuntime) -> Result<(), Fail> {
+    let mut checks = Checks::new(&rt);
     let alloc = rt.alloc();
     let line = line(alloc, GAUGE)?;
     let copy = line.copy(alloc)?;
-    assert_eq!(rt; copy.host.get(), line.host.get());
-    assert_eq!(rt; copy.port, 502);
-    assert_eq!(rt; copy.gauges.get(), line.gauges.get());
-    Ok(())
+    checks.same(copy.host.get(), line.host.get());
+    checks.same(copy.port, 502);
+    checks.same(copy.gauges.get(), line.gauges.get());
+    Ok(checks.end()?)
 }

@@ -1,8 +1,9 @@
 //! The volume at a level between the rows of a capacity table, and rows that make no table.
 
-use crate::sharing::shared;
 use farm_fixed::{Centi, Kg, Mm, Shell};
 use farm_rounding::Mode;
+use row_checks::{Checks, shared};
+use std::alloc::{AllocError, Global};
 use std::test::Fail;
 use strap_table::{AboveTable, CapTable, Roof, TableFault, TankSpec};
 
@@ -18,6 +19,7 @@ fn litres_at(
 
 #[test]
 fn a_volume_is_interpolated_between_two_rows(rt: HostRuntime) -> Result<(), Fail> {
+    let mut checks = Checks::new(&rt);
     let table = shared(CapTable::from_rows(vec![in rt.alloc(); 0, 1_000, 3_000]?)?);
     let cases = [
         (0, Ok(0)),
@@ -28,49 +30,51 @@ fn a_volume_is_interpolated_between_two_rows(rt: HostRuntime) -> Result<(), Fail
         (21, Err(shared(AboveTable))),
     ];
     for (millimetres, want) in cases {
-        assert_eq!(rt;
+        checks.same_at(
+            millimetres,
             litres_at(&table, millimetres, Mode::HalfAway)?,
             want,
-            "{millimetres} mm"
         );
     }
-    assert_eq!(rt; table.rows(), [0, 1_000, 3_000].as_slice());
-    Ok(())
+    checks.same(table.rows(), [0, 1_000, 3_000].as_slice());
+    Ok(checks.end()?)
 }
 
 #[test]
 fn a_half_litre_goes_by_the_mode(rt: HostRuntime) -> Result<(), Fail> {
+    let mut checks = Checks::new(&rt);
     let table = CapTable::from_rows(vec![in rt.alloc(); 0, 1_001]?)?;
-    assert_eq!(rt; litres_at(&table, 5, Mode::HalfAway)?, Ok(501));
-    assert_eq!(rt; litres_at(&table, 5, Mode::TowardZero)?, Ok(500));
-    Ok(())
+    checks.same(litres_at(&table, 5, Mode::HalfAway)?, Ok(501));
+    checks.same(litres_at(&table, 5, Mode::TowardZero)?, Ok(500));
+    Ok(checks.end()?)
 }
 
-fn fault_of(rows: Vec<i64>) -> Option<TableFault> {
-    CapTable::from_rows(rows).err()
+fn fault_of(alloc: Global, rows: &[i64]) -> Result<Option<TableFault>, AllocError> {
+    Ok(CapTable::from_rows(rows.to_vec(alloc)?).err())
 }
 
 #[test]
 fn rows_are_refused_at_their_first_fault(rt: HostRuntime) -> Result<(), Fail> {
-    let alloc = rt.alloc();
+    let mut checks = Checks::new(&rt);
     let cases = [
-        (vec![in alloc; 7]?, Some(TableFault::Short)),
-        (vec![in alloc; 0; 5_002]?, Some(TableFault::TooMany)),
-        (vec![in alloc; 0, -1]?, Some(TableFault::OutOfRange(1))),
-        (vec![in alloc; 5, 4, -1]?, Some(TableFault::OutOfRange(2))),
-        (vec![in alloc; 5, 4]?, Some(TableFault::Falling(1))),
-        (vec![in alloc; 0, 0]?, None),
-        (vec![in alloc; 0, 1_000_000_000]?, None),
-        (vec![in alloc; 0; 5_001]?, None),
+        (&[7][..], Some(TableFault::Short)),
+        (&[0; 5_002][..], Some(TableFault::TooMany)),
+        (&[0, -1][..], Some(TableFault::OutOfRange(1))),
+        (&[5, 4, -1][..], Some(TableFault::OutOfRange(2))),
+        (&[5, 4][..], Some(TableFault::Falling(1))),
+        (&[0, 0][..], None),
+        (&[0, 1_000_000_000][..], None),
+        (&[0; 5_001][..], None),
     ];
     for (rows, want) in cases {
-        assert_eq!(rt; fault_of(rows), want);
+        checks.same(fault_of(rt.alloc(), rows)?, want);
     }
-    Ok(())
+    Ok(checks.end()?)
 }
 
 #[test]
 fn a_tank_may_have_a_floating_roof(rt: HostRuntime) -> Result<(), Fail> {
+    let mut checks = Checks::new(&rt);
     let shell = Shell {
         insulated: false,
         coefficient: 112,
@@ -86,7 +90,7 @@ fn a_tank_may_have_a_floating_roof(rt: HostRuntime) -> Result<(), Fail> {
         height: Mm::new(15_000)?,
         roof: Some(roof),
     });
-    assert_eq!(rt; tank.roof, Some(roof));
-    assert_eq!(rt; tank.height.get(), 15_000);
-    Ok(())
+    checks.same(tank.roof, Some(roof));
+    checks.same(tank.height.get(), 15_000);
+    Ok(checks.end()?)
 }

@@ -4,14 +4,17 @@ ghost use Rattle.std.specs.Prelude.{◌^◌, pos};
 ghost use Rattle.farm_fixed.specs.Range.{IsWithin};
 
 use farm_chain::figures;
-use farm_fixed::{Centi, ChainRule, Dens, Fac5, Kg, Litres, Permil5, Quantities, Sample, Shell};
+use farm_fixed::{
+    Centi, ChainRule, Dens, Fac5, Kg, Litres, OutOfRange, Permil5, Quantities, Sample, Shell,
+};
 use farm_rounding::RoundTable;
+use row_checks::Checks;
 use std::test::Fail;
 
 const BARE: bool = false;
 
 // The figures of a bare shell at 25.00 C and 33.00 C ambient, with density 850.0, factor 0.99150 and 0.250 percent.
-fn figures_of(tov: i64, fw: i64, roof: i64) -> Result<Result<Quantities, ChainRule>, Fail>
+fn figures_of(tov: i64, fw: i64, roof: i64) -> Result<Result<Quantities, ChainRule>, OutOfRange>
     requires tov { IsWithin (pos 0) (pos (10 ^ 9)) tov }
     requires fw { IsWithin (pos 0) (pos (10 ^ 9)) fw }
     requires roof { IsWithin (pos 0) (pos (10 ^ 7)) roof }
@@ -55,6 +58,7 @@ fn in_order(q: Quantities) -> [i64; 10] {
 
 #[test]
 fn observed_volumes_with_and_without_a_roof(rt: HostRuntime) -> Result<(), Fail> {
+    let mut checks = Checks::new(&rt);
     let cases = [
         (
             0,
@@ -73,24 +77,21 @@ fn observed_volumes_with_and_without_a_roof(rt: HostRuntime) -> Result<(), Fail>
     ];
     for (roof, want) in cases {
         let figures = figures_of(12_345_000, 45_000, roof)?.map(in_order);
-        assert_eq!(rt; figures, Ok(want), "under a roof of {roof} kg");
+        checks.same_at(roof, figures, Ok(want));
     }
-    Ok(())
+    Ok(checks.end()?)
 }
 
 #[test]
 fn refusals_in_order(rt: HostRuntime) -> Result<(), Fail> {
+    let mut checks = Checks::new(&rt);
     let cases = [
         (40_000, 45_000, 0, ChainRule::WaterAboveLevel),
         (40_000, 45_000, 85_000, ChainRule::WaterAboveLevel),
         (45_000, 45_000, 85_000, ChainRule::Negative),
     ];
     for (tov, fw, roof, want) in cases {
-        assert_eq!(rt;
-            figures_of(tov, fw, roof)?,
-            Err(want),
-            "{tov} over {fw} under {roof}"
-        );
+        checks.same_at(roof, figures_of(tov, fw, roof)?, Err(want));
     }
-    Ok(())
+    Ok(checks.end()?)
 }

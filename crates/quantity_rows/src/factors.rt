@@ -1,9 +1,9 @@
 //! The factor at the nearest listed density and temperature, by lists and by a file, and texts that are no file.
 
-use crate::sharing::shared;
-use farm_fixed::{Centi, Dens, Fac5};
+use farm_fixed::{Centi, Dens, Fac5, OutOfRange};
 use farm_rounding::Mode;
-use farm_vcf::{BadGrid, Vcf, VcfFault};
+use farm_vcf::{Vcf, VcfFault};
+use row_checks::{Checks, shared};
 use std::alloc::Global;
 use std::test::Fail;
 
@@ -31,23 +31,38 @@ fn list_of_factors(alloc: Global, values: &[i64]) -> Result<Vec<Fac5>, Fail> {
     Ok(list)
 }
 
-// Of three densities and three temperatures. A factor's digits tell its row and its column.
-fn grid(alloc: Global) -> Result<Result<Vcf, BadGrid>, Fail> {
+fn grid_of(
+    alloc: Global,
+    densities: &[i64],
+    temperatures: &[i64],
+    factors: &[i64],
+) -> Result<Vcf, Fail> {
     Ok(Vcf::from_grid(
-        list_of_densities(alloc, &[8400, 8500, 8600])?,
-        list_of_temperatures(alloc, &[1500, 2000, 2500])?,
-        list_of_factors(
-            alloc,
-            &[
-                99011, 99012, 99013, 99021, 99022, 99023, 99031, 99032, 99033,
-            ],
-        )?,
-    ))
+        list_of_densities(alloc, densities)?,
+        list_of_temperatures(alloc, temperatures)?,
+        list_of_factors(alloc, factors)?,
+    )?)
 }
+
+// The factor of a grid, where there is one.
+fn factor_at(grid: &Vcf, density: i64, liquid: i64, mode: Mode) -> Result<Option<i64>, OutOfRange> {
+    let found = grid.entry(Dens::new(density)?, Centi::new(liquid)?, mode);
+    Ok(found.ok().map(|factor| factor.get()))
+}
+
+// Three densities, three temperatures, and factors whose digits tell their row and their column.
+const DENSITIES: &[i64] = &[8400, 8500, 8600];
+
+const TEMPERATURES: &[i64] = &[1500, 2000, 2500];
+
+const FACTORS: &[i64] = &[
+    99011, 99012, 99013, 99021, 99022, 99023, 99031, 99032, 99033,
+];
 
 #[test]
 fn the_nearest_listed_factor(rt: HostRuntime) -> Result<(), Fail> {
-    let grid = shared(grid(rt.alloc())??);
+    let mut checks = Checks::new(&rt);
+    let grid = shared(grid_of(rt.alloc(), DENSITIES, TEMPERATURES, FACTORS)?);
     let cases = [
         (8400, 1500, Mode::HalfAway, Some(99011)),
         (8600, 2500, Mode::HalfAway, Some(99033)),
@@ -63,35 +78,34 @@ fn the_nearest_listed_factor(rt: HostRuntime) -> Result<(), Fail> {
         (8601, 2000, Mode::HalfAway, None),
     ];
     for (density, liquid, mode, want) in cases {
-        let found = grid.entry(Dens::new(density)?, Centi::new(liquid)?, mode);
-        assert_eq!(rt;
-            found.ok().map(|factor| factor.get()),
-            want,
-            "{density} at {liquid}"
-        );
+        checks.same_at(density, factor_at(&grid, density, liquid, mode)?, want);
     }
-    Ok(())
+    Ok(checks.end()?)
 }
 
 // Densities 840.0, 850.0 and 860.0 at 15.00, 20.00 and 25.00 C, by lists and as a file.
 const GRID: &[u8] =
     b"density,temperature,factor\n840.0,15.00,1.00000\n840.0,20.00,0.99570\n840.0,25.00,0.99140\n850.0,15.00,1.00000\n850.0,20.00,0.99580\n850.0,25.00,0.99150\n860.0,15.00,1.00000\n860.0,20.00,0.99590\n860.0,25.00,0.99160\n";
 
+fn check_same_lists<R: Print>(checks: &mut Checks<'_, R>, read: &Vcf, listed: &Vcf) {
+    checks.same(read.densities(), listed.densities());
+    checks.same(read.temperatures(), listed.temperatures());
+    checks.same(read.factors(), listed.factors());
+}
+
 #[test]
 fn a_file_and_its_lists_are_one_grid(rt: HostRuntime) -> Result<(), Fail> {
+    let mut checks = Checks::new(&rt);
     let alloc = rt.alloc();
     let factors = [
         100_000, 99_570, 99_140, 100_000, 99_580, 99_150, 100_000, 99_590, 99_160,
     ];
-    let listed = Vcf::from_grid(
-        list_of_densities(alloc, &[8400, 8500, 8600])?,
-        list_of_temperatures(alloc, &[1500, 2000, 2500])?,
-        list_of_factors(alloc, &factors)?,
-    )?;
     let read = Vcf::read(alloc, GRID)?;
-    assert_eq!(rt; read.densities(), listed.densities());
-    assert_eq!(rt; read.temperatures(), listed.temperatures());
-    assert_eq!(rt; read.factors(), listed.factors());
+    check_same_lists(
+        &mut checks,
+        &read,
+        &grid_of(alloc, DENSITIES, TEMPERATURES, &factors)?,
+    );
     let cases = [
         (8450, 2000, Mode::HalfAway, Some(99_580)),
         (8450, 2000, Mode::TowardZero, Some(99_570)),
@@ -99,29 +113,19 @@ fn a_file_and_its_lists_are_one_grid(rt: HostRuntime) -> Result<(), Fail> {
         (8500, 1499, Mode::HalfAway, None),
     ];
     for (density, liquid, mode, want) in cases {
-        let found = read.entry(Dens::new(density)?, Centi::new(liquid)?, mode);
-        assert_eq!(rt;
-            found.ok().map(|factor| factor.get()),
-            want,
-            "{density} at {liquid}"
-        );
+        checks.same_at(density, factor_at(&read, density, liquid, mode)?, want);
     }
-    Ok(())
+    Ok(checks.end()?)
 }
 
 #[test]
 fn of_opposite_temperatures_the_greater(rt: HostRuntime) -> Result<(), Fail> {
-    let alloc = rt.alloc();
-    let grid = Vcf::from_grid(
-        list_of_densities(alloc, &[8500])?,
-        list_of_temperatures(alloc, &[-500, 500])?,
-        list_of_factors(alloc, &[100100, 99900])?,
-    )?;
+    let mut checks = Checks::new(&rt);
+    let grid = grid_of(rt.alloc(), &[8500], &[-500, 500], &[100100, 99900])?;
     for mode in [Mode::HalfAway, Mode::TowardZero] {
-        let found = grid.entry(Dens::new(8500)?, Centi::new(0)?, mode)?;
-        assert_eq!(rt; found.get(), 99900);
+        checks.same(factor_at(&grid, 8500, 0, mode)?, Some(99900));
     }
-    Ok(())
+    Ok(checks.end()?)
 }
 
 // A file of two densities and two temperatures.
@@ -130,17 +134,18 @@ const FILE: &[u8] =
 
 #[test]
 fn a_file_is_read(rt: HostRuntime) -> Result<(), Fail> {
+    let mut checks = Checks::new(&rt);
     let grid = Vcf::read(rt.alloc(), FILE)?;
-    assert_eq!(rt; grid.densities().len(), 2);
-    assert_eq!(rt; grid.temperatures().len(), 2);
-    assert_eq!(rt; grid.factors().len(), 4);
-    let found = grid.entry(Dens::new(8460)?, Centi::new(1600)?, Mode::HalfAway)?;
-    assert_eq!(rt; found.get(), 99150);
-    Ok(())
+    checks.same(grid.densities().len(), 2);
+    checks.same(grid.temperatures().len(), 2);
+    checks.same(grid.factors().len(), 4);
+    checks.same(factor_at(&grid, 8460, 1600, Mode::HalfAway)?, Some(99150));
+    Ok(checks.end()?)
 }
 
 #[test]
 fn texts_that_are_no_file(rt: HostRuntime) -> Result<(), Fail> {
+    let mut checks = Checks::new(&rt);
     let cases: [(&[u8], VcfFault); 4] = [
         (b"", VcfFault::NotGrid(1)),
         (b"d,t,f\nx,15.00,0.99100\na,b\n", VcfFault::Csv),
@@ -156,7 +161,7 @@ fn texts_that_are_no_file(rt: HostRuntime) -> Result<(), Fail> {
     ];
     for (text, want) in cases {
         let fault = Vcf::read(rt.alloc(), text).err();
-        assert_eq!(rt; shared(fault), Some(want));
+        checks.same(shared(fault), Some(want));
     }
-    Ok(())
+    Ok(checks.end()?)
 }

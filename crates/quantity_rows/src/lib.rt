@@ -15,6 +15,4 @@ mod readings;
 #[cfg(test)]
 mod roofs;
 #[cfg(test)]
-mod sharing;
-#[cfg(test)]
 mod strapping;

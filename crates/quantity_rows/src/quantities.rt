@@ -1,13 +1,14 @@
 //! The texts and the ranges of quantities, and the texts of whole numbers.
 
-use crate::sharing::shared;
 use farm_fixed::{
     Amount, Centi, ChainRule, Deci, Dens, Fac5, HundredThousandth, HundredthDegree, Kg, Kilogram,
     Litre, Litres, Millimetre, Mm, NoMemory, OutOfRange, Permil5, Quantities, Quantity, ReadFault,
     Reading, Sample, Shell, TenthKilogramPerCubicMetre, TenthMillimetre, ThousandthPercent, Unit,
     whole_number,
 };
+use row_checks::{Checks, shared};
 use std::alloc::Global;
+use std::test::Fail;
 
 fn read_units<U: Unit>(text: &str) -> Result<i64, ReadFault> {
     Quantity::<U>::read(text.as_bytes()).map(|quantity| quantity.get())
@@ -21,14 +22,21 @@ fn text_of<U: Unit>(alloc: Global, units: i64) -> Result<Vec<u8>, NoMemory> {
     Ok(text)
 }
 
-/// Whether this number of units writes this text and is read from it.
-fn has_text<U: Unit>(alloc: Global, units: i64, text: &str) -> Result<bool, NoMemory> {
-    let written = text_of::<U>(alloc, units)?;
-    Ok(written.as_slice() == text.as_bytes() && read_units::<U>(text) == Ok(units))
+// This number of units writes this text and is read from it.
+fn check_text<U: Unit, R: Print>(
+    checks: &mut Checks<'_, R>,
+    alloc: Global,
+    units: i64,
+    text: &str,
+) {
+    let written = text_of::<U>(alloc, units);
+    checks.same_at(text, written.as_deref(), Ok(text.as_bytes()));
+    checks.same_at(text, read_units::<U>(text), Ok(units));
 }
 
 #[test]
-fn a_number_of_litres_has_no_decimals(rt: HostRuntime) {
+fn a_number_of_litres_has_no_decimals(rt: HostRuntime) -> Result<(), Fail> {
+    let mut checks = Checks::new(&rt);
     let cases = [
         ("", Err(ReadFault::Empty)),
         ("12x", Err(ReadFault::BadByte(2))),
@@ -47,12 +55,14 @@ fn a_number_of_litres_has_no_decimals(rt: HostRuntime) {
         ),
     ];
     for (text, want) in cases {
-        assert_eq!(rt; read_units::<Litre>(text), want, "{text}");
+        checks.same_at(text, read_units::<Litre>(text), want);
     }
+    Ok(checks.end()?)
 }
 
 #[test]
-fn number_texts(rt: HostRuntime) {
+fn number_texts(rt: HostRuntime) -> Result<(), Fail> {
+    let mut checks = Checks::new(&rt);
     let cases = [
         ("", Err(ReadFault::Empty)),
         ("12x", Err(ReadFault::BadByte(2))),
@@ -63,12 +73,14 @@ fn number_texts(rt: HostRuntime) {
         ("007", Ok(7)),
     ];
     for (text, want) in cases {
-        assert_eq!(rt; read_units::<Millimetre>(text), want, "{text}");
+        checks.same_at(text, read_units::<Millimetre>(text), want);
     }
+    Ok(checks.end()?)
 }
 
 #[test]
-fn a_whole_number_has_up_to_18_digits(rt: HostRuntime) {
+fn a_whole_number_has_up_to_18_digits(rt: HostRuntime) -> Result<(), Fail> {
+    let mut checks = Checks::new(&rt);
     let cases = [
         ("0", Some(0)),
         ("-0", Some(0)),
@@ -84,12 +96,14 @@ fn a_whole_number_has_up_to_18_digits(rt: HostRuntime) {
         (" 1", None),
     ];
     for (text, want) in cases {
-        assert_eq!(rt; whole_number(text.as_bytes()), want, "{text}");
+        checks.same_at(text, whole_number(text.as_bytes()), want);
     }
+    Ok(checks.end()?)
 }
 
 #[test]
-fn a_temperature_has_at_most_two_decimals(rt: HostRuntime) {
+fn a_temperature_has_at_most_two_decimals(rt: HostRuntime) -> Result<(), Fail> {
+    let mut checks = Checks::new(&rt);
     let cases = [
         ("-1.5", Ok(-150)),
         ("20", Ok(2_000)),
@@ -100,12 +114,14 @@ fn a_temperature_has_at_most_two_decimals(rt: HostRuntime) {
         ("1.2.3", Err(ReadFault::BadByte(3))),
     ];
     for (text, want) in cases {
-        assert_eq!(rt; read_units::<HundredthDegree>(text), want, "{text}");
+        checks.same_at(text, read_units::<HundredthDegree>(text), want);
     }
+    Ok(checks.end()?)
 }
 
 #[test]
-fn a_temperature_below_zero_keeps_its_minus(rt: HostRuntime) -> Result<(), NoMemory> {
+fn a_temperature_below_zero_keeps_its_minus(rt: HostRuntime) -> Result<(), Fail> {
+    let mut checks = Checks::new(&rt);
     for (units, want) in [
         (-5, "-0.05"),
         (0, "0.00"),
@@ -113,61 +129,63 @@ fn a_temperature_below_zero_keeps_its_minus(rt: HostRuntime) -> Result<(), NoMem
         (2_000, "20.00"),
     ] {
         let text = text_of::<HundredthDegree>(rt.alloc(), units)?;
-        assert_eq!(rt; text.as_slice(), want.as_bytes(), "{units}");
+        checks.same_at(units, text.as_slice(), want.as_bytes());
     }
-    Ok(())
+    Ok(checks.end()?)
 }
 
 #[test]
-fn each_unit_reads_what_it_writes(rt: HostRuntime) -> Result<(), NoMemory> {
+fn each_unit_reads_what_it_writes(rt: HostRuntime) -> Result<(), Fail> {
+    let mut checks = Checks::new(&rt);
     let alloc = rt.alloc();
-    assert!(rt; has_text::<Litre>(alloc, -100_857, "-100857")?);
-    assert!(rt; has_text::<Millimetre>(alloc, 12_345, "12345")?);
-    assert!(rt; has_text::<TenthMillimetre>(alloc, 355_000, "35500.0")?);
-    assert!(rt; has_text::<Kilogram>(alloc, 84_310, "84310")?);
-    assert!(rt; has_text::<HundredthDegree>(alloc, 2_340, "23.40")?);
-    assert!(rt; has_text::<TenthKilogramPerCubicMetre>(alloc, 8_500, "850.0")?);
-    assert!(rt; has_text::<HundredThousandth>(alloc, 99_150, "0.99150")?);
-    assert!(rt; has_text::<ThousandthPercent>(alloc, 100_000, "100.000")?);
-    Ok(())
+    check_text::<Litre, _>(&mut checks, alloc, -100_857, "-100857");
+    check_text::<Millimetre, _>(&mut checks, alloc, 12_345, "12345");
+    check_text::<TenthMillimetre, _>(&mut checks, alloc, 355_000, "35500.0");
+    check_text::<Kilogram, _>(&mut checks, alloc, 84_310, "84310");
+    check_text::<HundredthDegree, _>(&mut checks, alloc, 2_340, "23.40");
+    check_text::<TenthKilogramPerCubicMetre, _>(&mut checks, alloc, 8_500, "850.0");
+    check_text::<HundredThousandth, _>(&mut checks, alloc, 99_150, "0.99150");
+    check_text::<ThousandthPercent, _>(&mut checks, alloc, 100_000, "100.000");
+    Ok(checks.end()?)
 }
 
 #[test]
-fn a_quantity_outside_its_range_is_refused(rt: HostRuntime) {
-    assert_eq!(rt; Centi::new(30_001), Err(OutOfRange));
-    assert_eq!(rt; Mm::new(50_001), Err(OutOfRange));
-    assert_eq!(rt; Deci::new(5_000_001), Err(OutOfRange));
-    assert_eq!(rt; Deci::read(b"-0.1"), Err(ReadFault::OutOfRange));
-    assert_eq!(rt; Dens::new(3_999), Err(OutOfRange));
-    assert_eq!(rt; Fac5::new(150_001), Err(OutOfRange));
-    assert_eq!(rt; Permil5::new(-1), Err(OutOfRange));
-    assert_eq!(rt; Litres::new(100_000_000_000_000_001), Err(OutOfRange));
-    assert_eq!(rt; Kg::new(-100_000_000_000_000_001), Err(OutOfRange));
+fn a_quantity_outside_its_range_is_refused(rt: HostRuntime) -> Result<(), Fail> {
+    let mut checks = Checks::new(&rt);
+    checks.same(Centi::new(30_001), Err(OutOfRange));
+    checks.same(Mm::new(50_001), Err(OutOfRange));
+    checks.same(Deci::new(5_000_001), Err(OutOfRange));
+    checks.same(Deci::read(b"-0.1"), Err(ReadFault::OutOfRange));
+    checks.same(Dens::new(3_999), Err(OutOfRange));
+    checks.same(Fac5::new(150_001), Err(OutOfRange));
+    checks.same(Permil5::new(-1), Err(OutOfRange));
+    checks.same(Litres::new(100_000_000_000_000_001), Err(OutOfRange));
+    checks.same(Kg::new(-100_000_000_000_000_001), Err(OutOfRange));
+    Ok(checks.end()?)
 }
 
-#[test]
-fn quantities_and_records_go_to_other_threads(rt: HostRuntime) -> Result<(), ReadFault> {
+// A record of each kind.
+fn records() -> Result<(Shell, Reading, Sample, Quantities), ReadFault> {
     let level = shared(Mm::read(b"12345")?);
-    let girth = shared(Deci::read(b"35500.0")?);
     let temperature = shared(Centi::read(b"15.00")?);
     let density = shared(Dens::read(b"850.0")?);
     let factor = shared(Fac5::read(b"0.99150")?);
     let share = shared(Permil5::read(b"0.250")?);
     let volume = shared(Litres::read(b"84310")?);
     let mass = shared(Kg::read(b"71663")?);
-    let shell = shared(Shell {
+    let shell = Shell {
         insulated: true,
         coefficient: 112,
         reference: temperature,
-    });
-    let reading = shared(Reading {
+    };
+    let reading = Reading {
         level,
         water: level,
         liquid: temperature,
         ambient: temperature,
-    });
-    let sample = shared(Sample { density, sw: share });
-    let quantities = shared(Quantities {
+    };
+    let sample = Sample { density, sw: share };
+    let quantities = Quantities {
         tov: volume,
         fw: volume,
         ctsh: factor,
@@ -178,19 +196,27 @@ fn quantities_and_records_go_to_other_threads(rt: HostRuntime) -> Result<(), Rea
         nsv: volume,
         swv: volume,
         mass,
-    });
-    assert_eq!(rt; reading.level.get(), 12_345);
-    assert_eq!(rt; girth.get(), 355_000);
-    assert_eq!(rt; shell.reference.get(), 1_500);
-    assert_eq!(rt; sample.sw.get(), 250);
-    assert_eq!(rt; quantities.mass.get(), 71_663);
+    };
+    Ok((shell, reading, sample, quantities))
+}
+
+#[test]
+fn quantities_and_records_go_to_other_threads(rt: HostRuntime) -> Result<(), Fail> {
+    let mut checks = Checks::new(&rt);
+    let (shell, reading, sample, quantities) = records()?;
+    let girth = shared(Deci::read(b"35500.0")?);
+    checks.same(shared(reading).level.get(), 12_345);
+    checks.same(girth.get(), 355_000);
+    checks.same(shared(shell).reference.get(), 1_500);
+    checks.same(shared(sample).sw.get(), 250);
+    checks.same(shared(quantities).mass.get(), 71_663);
     let amount = shared(Amount {
         litres: -1,
         kg: 71_663,
     });
-    assert_eq!(rt; amount.kg, 71_663);
-    assert_eq!(rt; shared(ChainRule::NoEntry), ChainRule::NoEntry);
-    assert_eq!(rt; shared(ReadFault::Empty), ReadFault::Empty);
-    assert_eq!(rt; shared(OutOfRange), OutOfRange);
-    Ok(())
+    checks.same(amount.kg, 71_663);
+    checks.same(shared(ChainRule::NoEntry), ChainRule::NoEntry);
+    checks.same(shared(ReadFault::Empty), ReadFault::Empty);
+    checks.same(shared(OutOfRange), OutOfRange);
+    Ok(checks.end()?)
 }

@@ -3,24 +3,29 @@
 ghost use Rattle.std.specs.Prelude.{◌≡◌, IfSome, Ok, ◌+ℤ◌};
 ghost use Rattle.farm_readings.specs.Readings.{tape_reading};
 
-use crate::sharing::shared;
 use farm_fixed::{Centi, Mm};
 use farm_readings::{BelowDatum, TapeFault, innage, mean_temp, tape};
 use farm_rounding::{Mode, RoundTable};
+use row_checks::{Checks, shared};
 use std::alloc::Global;
 use std::test::Fail;
 
-// The reading of tapes of these heights by the usual table.
-fn reading(alloc: Global, heights: &[i64]) -> Result<Result<Mm, TapeFault>, Fail> {
+// The reading of tapes of these heights.
+fn reading(
+    alloc: Global,
+    heights: &[i64],
+    rounds: &RoundTable,
+) -> Result<Result<Mm, TapeFault>, Fail> {
     let mut tapes = Vec::new(alloc);
     for height in heights {
         tapes.push(Mm::new(*height)?)?;
     }
-    Ok(tape(&tapes, &RoundTable::usual()))
+    Ok(tape(&tapes, rounds))
 }
 
 #[test]
 fn equal_or_close_tapes_have_a_reading(rt: HostRuntime) -> Result<(), Fail> {
+    let mut checks = Checks::new(&rt);
     let cases = [
         (&[12_345, 12_345][..], Ok(12_345)),
         (&[12_344, 12_346, 12_347][..], Ok(12_346)),
@@ -30,11 +35,12 @@ fn equal_or_close_tapes_have_a_reading(rt: HostRuntime) -> Result<(), Fail> {
         (&[][..], Err(TapeFault::Count)),
         (&[12_345, 12_345, 12_345, 12_345][..], Err(TapeFault::Count)),
     ];
+    let usual = RoundTable::usual();
     for (heights, want) in cases {
-        let reading = shared(reading(rt.alloc(), heights)?);
-        assert_eq!(rt; reading.map(Mm::get), want, "{heights:?}");
+        let reading = shared(reading(rt.alloc(), heights, &usual)?);
+        checks.same_at(heights.len(), reading.map(Mm::get), want);
     }
-    Ok(())
+    Ok(checks.end()?)
 }
 
 /// The outage that tapes read and the innage that it stands for, where there are such.
@@ -48,6 +54,7 @@ fn gauged(reference: Mm, tapes: &[Mm], rounds: &RoundTable) -> Option<(Mm, Mm)>
 
 #[test]
 fn an_outage_is_taken_from_the_reference_height(rt: HostRuntime) -> Result<(), Fail> {
+    let mut checks = Checks::new(&rt);
     let height = Mm::new(15_000)?;
     let cases = [
         (2_655, Ok(12_345)),
@@ -56,31 +63,33 @@ fn an_outage_is_taken_from_the_reference_height(rt: HostRuntime) -> Result<(), F
     ];
     for (outage, want) in cases {
         let innage = shared(innage(height, Mm::new(outage)?));
-        assert_eq!(rt; innage.map(Mm::get), want, "outage {outage}");
+        checks.same_at(outage, innage.map(Mm::get), want);
     }
-    Ok(())
+    Ok(checks.end()?)
 }
 
 #[test]
 fn two_tapes_of_an_outage_give_an_innage(rt: HostRuntime) -> Result<(), Fail> {
+    let mut checks = Checks::new(&rt);
     let [reference, outage, innage] = [Mm::new(15_000)?, Mm::new(2_655)?, Mm::new(12_345)?];
     let gauge = gauged(reference, &[outage, outage], &RoundTable::usual());
-    assert_eq!(rt; gauge, Some((outage, innage)));
-    Ok(())
+    checks.same(gauge, Some((outage, innage)));
+    Ok(checks.end()?)
 }
 
 // By hand: 2,503.33 is 2,505 to a step of 5 and 2,500 below it to 100, and 12,345.33 is 12,300 below it to 100.
 #[test]
 fn a_mean_is_rounded_by_its_row(rt: HostRuntime) -> Result<(), Fail> {
+    let mut checks = Checks::new(&rt);
     let list = [Centi::new(2_500)?, Centi::new(2_500)?, Centi::new(2_510)?];
-    let tapes = [Mm::new(12_344)?, Mm::new(12_346)?, Mm::new(12_346)?];
     let usual = RoundTable::usual();
     let mut rows = [(1, Mode::HalfAway); 12];
     rows[0] = (100, Mode::TowardZero);
     rows[1] = (100, Mode::TowardZero);
     let coarse = RoundTable::new(rows)?;
-    assert_eq!(rt; mean_temp(&list, &usual).get(), 2_505);
-    assert_eq!(rt; mean_temp(&list, &coarse).get(), 2_500);
-    assert_eq!(rt; tape(&tapes, &coarse)?.get(), 12_300);
-    Ok(())
+    checks.same(mean_temp(&list, &usual).get(), 2_505);
+    checks.same(mean_temp(&list, &coarse).get(), 2_500);
+    let reading = reading(rt.alloc(), &[12_344, 12_346, 12_346], &coarse)?;
+    checks.same(reading.map(Mm::get), Ok(12_300));
+    Ok(checks.end()?)
 }

@@ -6,6 +6,7 @@ use farm_fixed::{
 };
 use farm_rounding::RoundTable;
 use farm_vcf::Vcf;
+use row_checks::Checks;
 use std::alloc::Global;
 use std::test::Fail;
 use strap_table::{CapTable, Roof, TankSpec};
@@ -30,8 +31,7 @@ fn vcf(alloc: Global) -> Result<Vcf, Fail> {
 
 // The figures of a bare shell under a roof of 85,000 kg with its zone from 1,500 to 1,800 mm.
 fn figures_at(
-    table: &CapTable,
-    vcf: &Vcf,
+    alloc: Global,
     level: i64,
     water: i64,
     density: i64,
@@ -60,13 +60,15 @@ fn figures_at(
         sw: Permil5::new(0)?,
     };
     let rounds = RoundTable::usual();
-    Ok(quantities(&tank, table, vcf, &rounds, &reading, &sample))
+    let table = table(alloc)?;
+    let vcf = vcf(alloc)?;
+    Ok(quantities(&tank, &table, &vcf, &rounds, &reading, &sample))
 }
 
 #[test]
 fn a_roof_floats_above_its_zone(rt: HostRuntime) -> Result<(), Fail> {
-    let table = table(rt.alloc())?;
-    let vcf = vcf(rt.alloc())?;
+    let mut checks = Checks::new(&rt);
+    let alloc = rt.alloc();
     let cases = [
         (1_499, Ok(0)),
         (1_500, Err(ChainRule::CriticalZone)),
@@ -74,21 +76,20 @@ fn a_roof_floats_above_its_zone(rt: HostRuntime) -> Result<(), Fail> {
         (1_801, Ok(-100_000)),
     ];
     for (level, want) in cases {
-        let adjustment = figures_at(&table, &vcf, level, 0, 8_500)?.map(|q| q.fra.get());
-        assert_eq!(rt; adjustment, want, "at {level} mm");
+        let adjustment = figures_at(alloc, level, 0, 8_500)?.map(|q| q.fra.get());
+        checks.same_at(level, adjustment, want);
     }
-    let figures = figures_at(&table, &vcf, 1_801, 5, 8_500)?;
-    assert_eq!(rt;
+    let figures = figures_at(alloc, 1_801, 5, 8_500)?;
+    checks.same(
         figures.map(|q| [q.tov.get(), q.fw.get(), q.gov.get(), q.mass.get()]),
-        Ok([1_801_000, 5_000, 1_696_000, 1_441_600])
+        Ok([1_801_000, 5_000, 1_696_000, 1_441_600]),
     );
-    Ok(())
+    Ok(checks.end()?)
 }
 
 #[test]
 fn refusals_of_a_reading_in_order(rt: HostRuntime) -> Result<(), Fail> {
-    let table = table(rt.alloc())?;
-    let vcf = vcf(rt.alloc())?;
+    let mut checks = Checks::new(&rt);
     let cases = [
         (1_991, 1_992, 9_000, ChainRule::AboveTable),
         (1_600, 1_601, 9_000, ChainRule::WaterAboveLevel),
@@ -97,11 +98,8 @@ fn refusals_of_a_reading_in_order(rt: HostRuntime) -> Result<(), Fail> {
         (1_801, 1_801, 8_500, ChainRule::Negative),
     ];
     for (level, water, density, want) in cases {
-        assert_eq!(rt;
-            figures_at(&table, &vcf, level, water, density)?,
-            Err(want),
-            "{water} mm of water under {level} mm"
-        );
+        let figures = figures_at(rt.alloc(), level, water, density)?;
+        checks.same_at(water, figures, Err(want));
     }
-    Ok(())
+    Ok(checks.end()?)
 }

@@ -1,7 +1,7 @@
 //! A site of few items, and its bytes.
 
-use crate::folders::folder_of;
-use farm_site::Site;
+use crate::folders::site_of;
+use row_checks::Checks;
 use std::test::Fail;
 
 // One product, a tank with a roof, and a line with one gauge.
@@ -47,8 +47,8 @@ const FACTORS: &str =
 
 const TABLE: &str = "mm,litres\n0,0\n10,1000\n";
 
-/// The files of the site.
-pub const FEW: [(&str, &str); 3] = [
+// The files of the site.
+const FEW: [(&str, &str); 3] = [
     ("site.toml", SITE),
     ("factors.csv", FACTORS),
     ("table.csv", TABLE),
@@ -69,9 +69,10 @@ pub const BYTES: &[u8] =
 
 #[test]
 fn a_site_has_its_bytes(rt: HostRuntime) -> Result<(), Fail> {
-    let mut folder = folder_of(rt.alloc(), &FEW, &[])?;
-    let site = Site::read(rt.alloc(), &mut folder)?;
-    let bytes = site.to_bytes(rt.alloc())?;
-    assert_eq!(rt; bytes.as_slice(), BYTES);
-    Ok(())
+    let mut checks = Checks::new(&rt);
+    let site = site_of(rt.alloc(), &FEW)?;
+    let bytes = site.to_bytes(rt.alloc());
+    drop(site);
+    checks.same(bytes?.as_slice(), BYTES);
+    Ok(checks.end()?)
 }

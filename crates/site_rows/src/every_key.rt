@@ -1,26 +1,34 @@
 //! A site with every key, and what is read of it.
 
 use crate::files::{FILES, STRAPPED};
-use crate::folders::folder_of;
-use crate::sharing::shared;
+use crate::folders::site_of;
 use farm_rounding::{Mode, RoundTable};
 use farm_site::{Party, Product, Site, Tank};
 use modbus_poll::{Field, GaugeMap, LineMap, Valid};
-use std::process::Abort;
+use row_checks::{Checks, shared};
 use std::test::Fail;
 
 // The rounding table has these rows.
-fn has_rounds(rt: &impl Abort, rounds: &RoundTable, wanted: &[(i64, Mode); 12]) {
+fn check_rounds<R: Print>(
+    checks: &mut Checks<'_, R>,
+    rounds: &RoundTable,
+    wanted: &[(i64, Mode); 12],
+) {
     for n in 1..=12 {
-        assert_eq!(rt; rounds.row(n), wanted[n as usize - 1], "row {n}");
+        checks.same_at(n, rounds.row(n), wanted[n as usize - 1]);
     }
 }
 
 // A capacity table has this number of rows, and some of these litres.
-fn has_litres(rt: &impl Abort, rows: &[i64], length: usize, wanted: &[(usize, i64)]) {
-    assert_eq!(rt; rows.len(), length);
+fn check_litres<R: Print>(
+    checks: &mut Checks<'_, R>,
+    rows: &[i64],
+    length: usize,
+    wanted: &[(usize, i64)],
+) {
+    checks.same(rows.len(), length);
     for (row, want) in wanted {
-        assert_eq!(rt; rows.get(*row).copied(), Some(*want), "row {row}");
+        checks.same_at(row, rows.get(*row).copied(), Some(*want));
     }
 }
 
@@ -44,7 +52,7 @@ fn roof_of(tank: &Tank) -> Option<(i64, i64, i64)> {
 }
 
 // The name and the rounding table are those of the site file.
-fn top_is_read(rt: &impl Abort, site: &Site) {
+fn check_top<R: Print>(checks: &mut Checks<'_, R>, site: &Site) {
     let mut rounds = [(1, Mode::HalfAway); 12];
     rounds[1] = (10, Mode::TowardZero);
     rounds[3] = (2, Mode::HalfAway);
@@ -53,33 +61,33 @@ fn top_is_read(rt: &impl Abort, site: &Site) {
     rounds[7] = (20, Mode::HalfAway);
     rounds[8] = (50, Mode::HalfAway);
     rounds[9] = (100, Mode::TowardZero);
-    assert_eq!(rt; site.name.get(), b"Small site".as_slice());
-    has_rounds(rt, &site.rounds, &rounds);
+    checks.same(site.name.get(), b"Small site".as_slice());
+    check_rounds(checks, &site.rounds, &rounds);
 }
 
 // Products and parties stand in rising order of number.
-fn products_are_read(rt: &impl Abort, products: &[Product]) {
+fn check_products<R: Print>(checks: &mut Checks<'_, R>, products: &[Product]) {
     let wanted = [(11, "Kerosene", 1), (12, "Gas oil", 9)];
-    assert_eq!(rt; products.len(), wanted.len());
+    checks.same(products.len(), wanted.len());
     for (product, (number, name, factors)) in products.iter().zip(wanted) {
-        assert_eq!(rt;
+        checks.same(
             (product.number, product.name.get()),
-            (number, name.as_bytes())
+            (number, name.as_bytes()),
         );
-        assert_eq!(rt; product.vcf.factors().len(), factors);
+        checks.same_at(number, product.vcf.factors().len(), factors);
     }
 }
 
-fn parties_are_read(rt: &impl Abort, parties: &[Party]) {
+fn check_parties<R: Print>(checks: &mut Checks<'_, R>, parties: &[Party]) {
     let wanted = [(7, "Carrier"), (8, "Owner")];
-    assert_eq!(rt; parties.len(), wanted.len());
+    checks.same(parties.len(), wanted.len());
     for (party, (number, name)) in parties.iter().zip(wanted) {
-        assert_eq!(rt; (party.number, party.name.get()), (number, name.as_bytes()));
+        checks.same((party.number, party.name.get()), (number, name.as_bytes()));
     }
 }
 
 // The first tank has a table file and a roof, the second is strapped.
-fn tanks_are_read(rt: &impl Abort, tanks: &[Tank]) {
+fn check_tanks<R: Print>(checks: &mut Checks<'_, R>, tanks: &[Tank]) {
     let wanted = [
         (
             (21, 11, 20, 17),
@@ -92,15 +100,15 @@ fn tanks_are_read(rt: &impl Abort, tanks: &[Tank]) {
             None,
         ),
     ];
-    assert_eq!(rt; tanks.len(), wanted.len());
+    checks.same(tanks.len(), wanted.len());
     for (tank, (figures, fixed, roof)) in tanks.iter().zip(wanted) {
         let opening = tank.opening;
-        assert_eq!(rt;
+        checks.same(
             (tank.number, tank.product, opening.litres, opening.kg),
-            figures
+            figures,
         );
-        assert_eq!(rt; fixed_of(tank), fixed);
-        assert_eq!(rt; roof_of(tank), roof);
+        checks.same_at(tank.number, fixed_of(tank), fixed);
+        checks.same_at(tank.number, roof_of(tank), roof);
     }
 }
 
@@ -171,44 +179,40 @@ fn bare_gauge() -> GaugeMap {
 }
 
 // Lines stand in the order of the file.
-fn lines_are_read(rt: &impl Abort, lines: &[LineMap]) {
+fn check_lines<R: Print>(checks: &mut Checks<'_, R>, lines: &[LineMap]) {
     let wanted = [
         ("10.0.0.5", 502, full_gauge()),
         ("!~", 65_535, bare_gauge()),
     ];
-    assert_eq!(rt; lines.len(), wanted.len());
+    checks.same(lines.len(), wanted.len());
     for (line, (host, port, gauge)) in lines.iter().zip(wanted) {
-        assert_eq!(rt; (line.host.get(), line.port), (host.as_bytes(), port));
-        assert_eq!(rt; line.gauges.get(), [gauge].as_slice());
+        checks.same((line.host.get(), line.port), (host.as_bytes(), port));
+        checks.same_at(port, line.gauges.get(), [gauge].as_slice());
     }
 }
 
-// The tank of a number has this number of rows, and some of these litres.
-fn tank_has_litres(
-    rt: &impl Abort,
-    site: &Site,
-    number: u16,
-    length: usize,
-    wanted: &[(usize, i64)],
-) {
+// The capacity table of the tank of a number, no rows where the site has no such tank.
+fn rows_of(site: &Site, number: u16) -> &[i64] {
     match site.tank(number) {
-        Some(tank) => has_litres(rt, tank.table.rows(), length, wanted),
-        None => assert!(rt; false, "no tank {number}"),
+        Some(tank) => tank.table.rows(),
+        None => &[],
     }
 }
 
 #[test]
 fn every_key_is_read(rt: HostRuntime) -> Result<(), Fail> {
-    let mut folder = folder_of(rt.alloc(), &FILES, &[])?;
-    let site = shared(Site::read(rt.alloc(), &mut folder)?);
-    top_is_read(&rt, &site);
-    products_are_read(&rt, site.products.get());
-    parties_are_read(&rt, site.parties.get());
-    tanks_are_read(&rt, site.tanks.get());
-    lines_are_read(&rt, site.lines.get());
-    tank_has_litres(&rt, &site, 21, 3, &[(0, 0), (1, 1_000), (2, 3_000)]);
-    tank_has_litres(&rt, &site, 22, 101, &STRAPPED);
-    assert_eq!(rt; site.product(11).map(|product| product.number), Some(11));
-    assert!(rt; site.product(13).is_none());
-    Ok(())
+    let mut checks = Checks::new(&rt);
+    let site = shared(site_of(rt.alloc(), &FILES)?);
+    check_top(&mut checks, &site);
+    check_products(&mut checks, site.products.get());
+    check_parties(&mut checks, site.parties.get());
+    check_tanks(&mut checks, site.tanks.get());
+    check_lines(&mut checks, site.lines.get());
+    let few = [(0, 0), (1, 1_000), (2, 3_000)];
+    check_litres(&mut checks, rows_of(&site, 21), 3, &few);
+    check_litres(&mut checks, rows_of(&site, 22), 101, &STRAPPED);
+    checks.same(site.product(11).map(|product| product.number), Some(11));
+    checks.same(site.product(13).is_none(), true);
+    drop(site);
+    Ok(checks.end()?)
 }

@@ -4,10 +4,12 @@ use crate::files::FILES;
 use crate::folders::{folder_of, folder_with};
 use farm_ports::Port;
 use farm_site::{Site, SiteFault, SiteReadFault};
+use row_checks::Checks;
 use std::test::Fail;
 
 #[test]
 fn a_file_may_have_any_bytes(rt: HostRuntime) -> Result<(), Fail> {
+    let mut checks = Checks::new(&rt);
     let cases: [(&str, &[u8], Option<(u8, u32, u32)>); 5] = [
         ("site.toml", b"# \xff\nformat = 1\n", Some((1, 0, 0))),
         ("strapping.toml", b"# \xff\n", Some((1, 1, 0))),
@@ -22,25 +24,27 @@ fn a_file_may_have_any_bytes(rt: HostRuntime) -> Result<(), Fail> {
             item,
             detail,
         }));
-        assert_eq!(rt; Site::read(rt.alloc(), &mut folder).err(), want, "{name}");
+        checks.same_at(name, Site::read(rt.alloc(), &mut folder).err(), want);
     }
-    Ok(())
+    Ok(checks.end()?)
 }
 
 // The site file, the factors of two products and the tables of two tanks are read, so five reads may fail.
 #[test]
 fn a_read_that_fails_is_a_fault_of_the_folder(rt: HostRuntime) -> Result<(), Fail> {
+    let mut checks = Checks::new(&rt);
     for read in 1..=5 {
         let mut folder = folder_of(rt.alloc(), &FILES, &[read])?;
         let answer = Site::read(rt.alloc(), &mut folder).err();
-        assert_eq!(rt; answer, Some(SiteReadFault::Folder), "without read {read}");
-        assert_eq!(rt; folder.faults(), 1);
+        checks.same_at(read, answer, Some(SiteReadFault::Folder));
+        checks.same(folder.faults(), 1);
     }
-    Ok(())
+    Ok(checks.end()?)
 }
 
 #[test]
 fn faults_have_their_words(rt: HostRuntime) -> Result<(), Fail> {
+    let mut checks = Checks::new(&rt);
     let fault = SiteFault {
         code: 5,
         item: 2,
@@ -53,7 +57,7 @@ fn faults_have_their_words(rt: HostRuntime) -> Result<(), Fail> {
     ];
     for (fault, want) in cases {
         let text = format!(in rt.alloc(); "{fault}")?;
-        assert_eq!(rt; text.as_str(), want);
+        checks.same(text.as_str(), want);
     }
-    Ok(())
+    Ok(checks.end()?)
 }

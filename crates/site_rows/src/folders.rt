@@ -1,7 +1,8 @@
-//! Folders in memory.
+//! Folders in memory, and their sites.
 
 use crate::files::FILES;
 use farm_ports::Files;
+use farm_site::Site;
 use std::alloc::Global;
 use std::test::Fail;
 
@@ -12,6 +13,12 @@ pub fn folder_of(alloc: Global, files: &[(&str, &str)], fails: &[u64]) -> Result
         kept.push(file_of(alloc, name, text.as_bytes())?)?;
     }
     Ok(Files::new(alloc, kept, fails.to_vec(alloc)?)?)
+}
+
+/// The site of a folder of files.
+pub fn site_of(alloc: Global, files: &[(&str, &str)]) -> Result<Site, Fail> {
+    let mut folder = folder_of(alloc, files, &[])?;
+    Ok(Site::read(alloc, &mut folder)?)
 }
 
 // A file of a folder.

@@ -2,8 +2,8 @@
 
 use crate::bytes::BYTES;
 use farm_site::{Site, SiteBytesFault};
+use row_checks::Checks;
 use std::alloc::Global;
-use std::process::Abort;
 use std::test::Fail;
 
 // Where the count of the tanks stands, the tank, the lines, the count of the gauges, and the gauge.
@@ -31,32 +31,39 @@ fn joined(alloc: Global, parts: &[&[u8]]) -> Result<Vec<u8>, Fail> {
     Ok(bytes)
 }
 
-// These bytes are no site's.
-fn is_bad(rt: &impl Abort, alloc: Global, bytes: &[u8], what: &str) {
-    let fault = Site::from_bytes(alloc, bytes).err();
-    assert_eq!(rt; fault, Some(SiteBytesFault::BadSite), "{what}");
+// Why these parts in a row are no site's bytes.
+fn fault_of(alloc: Global, parts: &[&[u8]]) -> Result<Option<SiteBytesFault>, Fail> {
+    let bytes = joined(alloc, parts)?;
+    Ok(Site::from_bytes(alloc, &bytes).err())
 }
+
+const BAD: Option<SiteBytesFault> = Some(SiteBytesFault::BadSite);
 
 #[test]
 fn a_site_is_read_from_its_bytes_and_written_as_it_was(rt: HostRuntime) -> Result<(), Fail> {
+    let mut checks = Checks::new(&rt);
     let site = Site::from_bytes(rt.alloc(), BYTES)?;
-    let bytes = site.to_bytes(rt.alloc())?;
-    assert_eq!(rt; bytes.as_slice(), BYTES);
-    Ok(())
+    let bytes = site.to_bytes(rt.alloc());
+    drop(site);
+    checks.same(bytes?.as_slice(), BYTES);
+    Ok(checks.end()?)
 }
 
 #[test]
 fn bytes_are_neither_missing_nor_too_many(rt: HostRuntime) -> Result<(), Fail> {
+    let mut checks = Checks::new(&rt);
     for length in 0..BYTES.len() {
-        is_bad(&rt, rt.alloc(), bytes_from(0, length), "bytes missing");
+        let fault = fault_of(rt.alloc(), &[bytes_from(0, length)])?;
+        checks.same_at(length, fault, BAD);
     }
-    let longer = joined(rt.alloc(), &[BYTES, &[0]])?;
-    is_bad(&rt, rt.alloc(), &longer, "one byte too many");
-    Ok(())
+    let fault = fault_of(rt.alloc(), &[BYTES, &[0]])?;
+    checks.same_at("one byte too many", fault, BAD);
+    Ok(checks.end()?)
 }
 
 #[test]
 fn a_byte_that_may_not_stand_there_is_bad(rt: HostRuntime) -> Result<(), Fail> {
+    let mut checks = Checks::new(&rt);
     let cases: [(usize, u8, &str); 7] = [
         (0, 2, "another format"),
         (3, 3, "a step that no row may have"),
@@ -68,28 +75,28 @@ fn a_byte_that_may_not_stand_there_is_bad(rt: HostRuntime) -> Result<(), Fail> {
     ];
     for (offset, byte, what) in cases {
         let front = bytes_from(0, offset);
-        let bytes = joined(
-            rt.alloc(),
-            &[front, &[byte], bytes_from(offset + 1, BYTES.len())],
-        )?;
-        is_bad(&rt, rt.alloc(), &bytes, what);
+        let rest = bytes_from(offset + 1, BYTES.len());
+        let fault = fault_of(rt.alloc(), &[front, &[byte], rest])?;
+        checks.same_at(what, fault, BAD);
     }
-    Ok(())
+    Ok(checks.end()?)
 }
 
 #[test]
 fn tanks_rise_and_have_one_gauge(rt: HostRuntime) -> Result<(), Fail> {
+    let mut checks = Checks::new(&rt);
+    let alloc = rt.alloc();
     let front = bytes_from(0, TANKS);
     let tank = bytes_from(TANK + 2, LINES);
     let lines = bytes_from(LINES, BYTES.len());
     let gauge = bytes_from(GAUGE, BYTES.len());
-    let rising = joined(rt.alloc(), &[front, &[2, 0, 6], tank, &[0, 7], tank, lines])?;
-    assert!(rt; Site::from_bytes(rt.alloc(), &rising).is_ok());
-    let equal = joined(rt.alloc(), &[front, &[2, 0, 7], tank, &[0, 7], tank, lines])?;
-    is_bad(&rt, rt.alloc(), &equal, "equal tank numbers");
-    let falling = joined(rt.alloc(), &[front, &[2, 0, 7], tank, &[0, 6], tank, lines])?;
-    is_bad(&rt, rt.alloc(), &falling, "tanks in falling order");
-    let twice = joined(rt.alloc(), &[bytes_from(0, GAUGES), &[2], gauge, gauge])?;
-    is_bad(&rt, rt.alloc(), &twice, "two gauges on one tank");
-    Ok(())
+    let rising = fault_of(alloc, &[front, &[2, 0, 6], tank, &[0, 7], tank, lines])?;
+    checks.same(rising, None);
+    let equal = fault_of(alloc, &[front, &[2, 0, 7], tank, &[0, 7], tank, lines])?;
+    checks.same_at("equal tank numbers", equal, BAD);
+    let falling = fault_of(alloc, &[front, &[2, 0, 7], tank, &[0, 6], tank, lines])?;
+    checks.same_at("tanks in falling order", falling, BAD);
+    let twice = fault_of(alloc, &[bytes_from(0, GAUGES), &[2], gauge, gauge])?;
+    checks.same_at("two gauges on one tank", twice, BAD);
+    Ok(checks.end()?)
 }

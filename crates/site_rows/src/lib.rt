@@ -13,5 +13,3 @@ mod files;
 mod folders;
 #[cfg(test)]
 mod from_bytes;
-#[cfg(test)]
-mod sharing;
