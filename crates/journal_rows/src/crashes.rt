@@ -1,9 +1,9 @@
 //! What each moment's crash leaves of a journal: each image is recovered.
 
-use crate::files::{EMPTY, ONE, keep, new_journal, recovered};
+use crate::files::{EMPTY, ONE, new_journal, recovered, two_bodies};
 use farm_disk::{Disk, Fill, MemDisk};
+use row_checks::Checks;
 use std::alloc::Global;
-use std::process::Abort;
 use std::test::Fail;
 
 // What a crash leaves where it may leave any byte: old bytes, new ones, and some that are gates or look like lengths.
@@ -18,22 +18,25 @@ const FILLS: [Fill; 7] = [
 ];
 
 // Each image at a moment is recovered as one of these two.
-fn assert_recovered(
-    rt: &impl Abort,
+fn check_recovered<R: Print>(
+    checks: &mut Checks<'_, R>,
     alloc: Global,
     disk: &MemDisk,
     moment: u64,
-    before: &str,
-    after: &str,
+    (before, after): (&str, &str),
 ) -> Result<(), Fail> {
-    assert!(rt; moment <= disk.stand().moment, "moment {moment}");
+    if moment > disk.stand().moment {
+        return Err("the disk has no such moment")?;
+    }
     for fill in FILLS {
         let image = disk.image(alloc, moment, fill)?;
         let found = recovered(alloc, &image)?;
-        assert!(rt;
-            found.as_str() == before || found.as_str() == after,
-            "{fill:?} at {moment}: {found}"
-        );
+        let want = if found.as_str() == before {
+            before
+        } else {
+            after
+        };
+        checks.same_at(moment, found.as_str(), want);
     }
     Ok(())
 }
@@ -50,44 +53,43 @@ fn wants_at(moment: u64) -> (&'static str, &'static str) {
 
 #[test]
 fn a_body_is_there_whole_or_not_at_all(rt: HostRuntime) -> Result<(), Fail> {
+    let mut checks = Checks::new(&rt);
     let alloc = rt.alloc();
-    let mut journal = new_journal(alloc, &[])?;
-    keep(&mut journal, b"one")?;
-    let start = journal.stand().moment;
-    keep(&mut journal, b"three")?;
-    let disk = journal.into_disk();
-    assert_eq!(rt; disk.stand().moment, start.saturating_add(8));
+    let (disk, start) = two_bodies(alloc)?;
+    checks.same(disk.stand().moment, start.saturating_add(8));
     for moment in 0..9 {
-        let (before, after) = wants_at(moment);
-        assert_recovered(
-            &rt,
-            alloc,
-            &disk,
-            start.saturating_add(moment),
-            before,
-            after,
-        )?;
+        let at = start.saturating_add(moment);
+        check_recovered(&mut checks, alloc, &disk, at, wants_at(moment))?;
     }
-    Ok(())
+    Ok(checks.end()?)
+}
+
+// The same at a moment of the making.
+fn wants_within_the_making(moment: u64) -> (&'static str, &'static str) {
+    match moment {
+        0..=8 => ("not a journal", "not a journal"),
+        9..=11 => ("not a journal", " site"),
+        _ => (" site", " site"),
+    }
 }
 
 #[test]
 fn a_crash_within_the_making_leaves_no_journal_or_the_empty_one(
     rt: HostRuntime,
 ) -> Result<(), Fail> {
+    let mut checks = Checks::new(&rt);
     let alloc = rt.alloc();
     let disk = new_journal(alloc, &[])?.into_disk();
-    for moment in 0..9 {
-        assert_recovered(&rt, alloc, &disk, moment, "not a journal", "not a journal")?;
+    for moment in 0..13 {
+        let wants = wants_within_the_making(moment);
+        check_recovered(&mut checks, alloc, &disk, moment, wants)?;
     }
-    for moment in 9..12 {
-        assert_recovered(&rt, alloc, &disk, moment, "not a journal", " site")?;
-    }
-    assert_recovered(&rt, alloc, &disk, 12, " site", " site")
+    Ok(checks.end()?)
 }
 
 #[test]
 fn what_stands_after_a_closed_gate_counts_for_nothing(rt: HostRuntime) -> Result<(), Fail> {
+    let mut checks = Checks::new(&rt);
     let alloc = rt.alloc();
     for gate in [0, 2, 0x37, 255] {
         for rest in [b"".as_slice(), b"\x01\0\0\0\x03one\0", b"\0\0\0\x03one\x01"] {
@@ -95,9 +97,9 @@ fn what_stands_after_a_closed_gate_counts_for_nothing(rt: HostRuntime) -> Result
             bytes.pop();
             bytes.push(gate)?;
             bytes.extend_from_slice(rest)?;
-            assert_eq!(rt; recovered(alloc, &bytes)?.as_str(), " site", "gate {gate}");
+            checks.same_at(gate, recovered(alloc, &bytes)?.as_str(), " site");
         }
     }
-    assert_eq!(rt; recovered(alloc, ONE)?.as_str(), " site one");
-    Ok(())
+    checks.same(recovered(alloc, ONE)?.as_str(), " site one");
+    Ok(checks.end()?)
 }

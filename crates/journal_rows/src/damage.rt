@@ -1,6 +1,7 @@
 //! A journal cut at every length, and other damage.
 
 use crate::files::{TWO, recovered};
+use row_checks::Checks;
 use std::alloc::Global;
 use std::test::Fail;
 
@@ -19,11 +20,12 @@ fn want_of(length: usize) -> &'static str {
 
 #[test]
 fn a_journal_cut_short_is_damaged_where_it_ends(rt: HostRuntime) -> Result<(), Fail> {
+    let mut checks = Checks::new(&rt);
     for length in 0..=TWO.len() {
         let found = recovered(rt.alloc(), &TWO[..length])?;
-        assert_eq!(rt; found.as_str(), want_of(length), "{length} bytes");
+        checks.same_at(length, found.as_str(), want_of(length));
     }
-    Ok(())
+    Ok(checks.end()?)
 }
 
 // The journal of two bodies with another byte at an offset.
@@ -37,6 +39,7 @@ fn changed(alloc: Global, offset: usize, byte: u8) -> Result<String, Fail> {
 
 #[test]
 fn damage_is_found_where_it_stands(rt: HostRuntime) -> Result<(), Fail> {
+    let mut checks = Checks::new(&rt);
     let alloc = rt.alloc();
     let cases = [
         (0, 0, "not a journal"),
@@ -56,17 +59,14 @@ fn damage_is_found_where_it_stands(rt: HostRuntime) -> Result<(), Fail> {
         (35, 1, "journal damaged at 3"),
     ];
     for (offset, byte, want) in cases {
-        assert_eq!(rt;
-            changed(alloc, offset, byte)?.as_str(),
-            want,
-            "{byte} at {offset}"
-        );
+        checks.same_at(offset, changed(alloc, offset, byte)?.as_str(), want);
     }
-    Ok(())
+    Ok(checks.end()?)
 }
 
 #[test]
 fn what_a_taker_refuses_is_damage(rt: HostRuntime) -> Result<(), Fail> {
+    let mut checks = Checks::new(&rt);
     let alloc = rt.alloc();
     let cases = [
         (
@@ -84,7 +84,7 @@ fn what_a_taker_refuses_is_damage(rt: HostRuntime) -> Result<(), Fail> {
         (b"\x01FARMJNL1\0\0\0\0\x01\0\0\0\0\0", "  "),
     ];
     for (bytes, want) in cases {
-        assert_eq!(rt; recovered(alloc, bytes)?.as_str(), want);
+        checks.same(recovered(alloc, bytes)?.as_str(), want);
     }
-    Ok(())
+    Ok(checks.end()?)
 }

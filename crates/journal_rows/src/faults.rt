@@ -3,15 +3,14 @@
 ghost use Rattle.std.specs.Prelude.{◌≡◌, ◌<◌, ◌≤◌, ◌+◌, None, OnOk, length};
 
 use crate::Listing;
-use crate::files::{EMPTY, ONE, TWO, bytes_of, disk_of, keep, new_journal, recovered};
+use crate::files::{
+    EMPTY, ONE, TWO, bytes_of, disk_of, keep, new_journal, recovered, refused_making,
+};
 use farm_disk::{Disk, Fill, MemDisk};
 use farm_journal::{CreateFault, DiskFault, Journal, RecoverFault, Taken};
+use row_checks::{Checks, shared};
+use std::alloc::Global;
 use std::test::Fail;
-
-/// A value of a type that may be sent to another thread and shared with one.
-pub fn shared<T: Send + Sync>(value: T) -> T {
-    value
-}
 
 // The making of a journal makes seven calls: a measuring, and three writes with a sync each.
 const MADE: u64 = 7;
@@ -31,22 +30,26 @@ fn put_in_vain(journal: &mut Journal<MemDisk>, body: &[u8]) -> Result<(), Fail>
     }
 }
 
+// The faults of a journal one of whose puts fails, and its disk after the next put.
+fn put_again(alloc: Global, failing: u64) -> Result<(u64, MemDisk), Fail> {
+    let mut journal = new_journal(alloc, &[failing])?;
+    put_in_vain(&mut journal, b"three")?;
+    let faults = journal.stand().faults;
+    keep(&mut journal, b"one")?;
+    Ok((faults, journal.into_disk()))
+}
+
 #[test]
 fn a_body_that_was_not_put_is_put_again(rt: HostRuntime) -> Result<(), Fail> {
+    let mut checks = Checks::new(&rt);
     let alloc = rt.alloc();
     for failing in [MADE + 1, MADE + 2] {
-        let mut journal = new_journal(alloc, &[failing])?;
-        put_in_vain(&mut journal, b"three")?;
-        assert_eq!(rt; journal.stand().faults, 1);
-        keep(&mut journal, b"one")?;
-        let bytes = bytes_of(alloc, &mut journal.into_disk())?;
-        assert_eq!(rt;
-            recovered(alloc, &bytes)?.as_str(),
-            " site one",
-            "call {failing}"
-        );
+        let (faults, mut disk) = put_again(alloc, failing)?;
+        checks.same(faults, 1);
+        let bytes = bytes_of(alloc, &mut disk)?;
+        checks.same_at(failing, recovered(alloc, &bytes)?.as_str(), " site one");
     }
-    Ok(())
+    Ok(checks.end()?)
 }
 
 // Puts a body, of whose gate two openings fail and the third one doesn't.
@@ -69,54 +72,65 @@ fn keep_at_last(journal: &mut Journal<MemDisk>, body: &[u8]) -> Result<(), Fail>
     Ok(())
 }
 
+// The bytes of a journal with two bodies, the gate of the first one opened at last.
+fn opened_again(alloc: Global, failing: u64) -> Result<Vec<u8>, Fail> {
+    let mut journal = new_journal(alloc, &[failing, MADE + 5])?;
+    keep_at_last(&mut journal, b"one")?;
+    keep(&mut journal, b"three")?;
+    bytes_of(alloc, &mut journal.into_disk())
+}
+
 #[test]
 fn a_gate_that_was_not_opened_is_opened_again(rt: HostRuntime) -> Result<(), Fail> {
-    let alloc = rt.alloc();
+    let mut checks = Checks::new(&rt);
     // The gate's write fails, or its sync; then the other call of the second try.
     for failing in [MADE + 3, MADE + 4] {
-        let mut journal = new_journal(alloc, &[failing, MADE + 5])?;
-        keep_at_last(&mut journal, b"one")?;
-        keep(&mut journal, b"three")?;
-        assert_eq!(rt; bytes_of(alloc, &mut journal.into_disk())?.as_slice(), TWO);
+        checks.same(opened_again(rt.alloc(), failing)?.as_slice(), TWO);
     }
-    Ok(())
+    Ok(checks.end()?)
 }
 
 #[test]
 fn a_fault_within_the_making_leaves_no_journal(rt: HostRuntime) -> Result<(), Fail> {
+    let mut checks = Checks::new(&rt);
     let alloc = rt.alloc();
     for failing in 1..8 {
-        let refusal = Journal::create(alloc, disk_of(alloc, b"", &[failing])?, b"site").err();
-        let Some((disk, fault)) = refusal else {
-            return Err(CreateFault::NotEmpty.into());
-        };
-        assert_eq!(rt; fault, shared(CreateFault::DiskFault), "call {failing}");
-        assert_eq!(rt; disk.stand().faults, 1);
+        let (disk, fault) = refused_making(alloc, b"", &[failing])?;
+        checks.same_at(failing, fault, shared(CreateFault::DiskFault));
+        checks.same(disk.stand().faults, 1);
         let old = disk.image(alloc, disk.stand().moment, Fill::Old)?;
-        assert_eq!(rt; recovered(alloc, &old)?.as_str(), "not a journal");
+        checks.same(recovered(alloc, &old)?.as_str(), "not a journal");
     }
-    Ok(())
+    Ok(checks.end()?)
+}
+
+// The disk of a recovery that fails at this call, and the fault.
+fn refused_recovery(alloc: Global, failing: u64) -> Result<(MemDisk, RecoverFault), Fail> {
+    let disk = disk_of(alloc, ONE, &[failing])?;
+    match Journal::recover(alloc, disk, &mut Listing::new(alloc)) {
+        Ok(_) => Err("a journal was recovered".into()),
+        Err(refusal) => Ok(refusal),
+    }
 }
 
 #[test]
 fn a_fault_of_recovery_gives_the_disk_back(rt: HostRuntime) -> Result<(), Fail> {
+    let mut checks = Checks::new(&rt);
     let alloc = rt.alloc();
     for failing in 1..3 {
-        let disk = disk_of(alloc, ONE, &[failing])?;
-        let refusal = Journal::recover(alloc, disk, &mut Listing::new(alloc)).err();
-        let Some((mut disk, fault)) = refusal else {
-            return Err(CreateFault::NotEmpty.into());
-        };
-        assert_eq!(rt; fault, shared(RecoverFault::DiskFault), "call {failing}");
-        assert_eq!(rt; disk.stand().faults, 1);
-        assert_eq!(rt; bytes_of(alloc, &mut disk)?.as_slice(), ONE);
+        let (mut disk, fault) = refused_recovery(alloc, failing)?;
+        checks.same_at(failing, fault, shared(RecoverFault::DiskFault));
+        checks.same(disk.stand().faults, 1);
+        checks.same(bytes_of(alloc, &mut disk)?.as_slice(), ONE);
     }
-    assert_eq!(rt; recovered(alloc, EMPTY)?.as_str(), " site");
-    Ok(())
+    checks.same(recovered(alloc, EMPTY)?.as_str(), " site");
+    Ok(checks.end()?)
 }
 
 #[test]
-fn each_type_may_go_to_another_thread(rt: HostRuntime) {
-    assert_eq!(rt; shared(DiskFault), DiskFault);
-    assert_eq!(rt; shared(Taken::Go), Taken::Go);
+fn each_type_may_go_to_another_thread(rt: HostRuntime) -> Result<(), Fail> {
+    let mut checks = Checks::new(&rt);
+    checks.same(shared(DiskFault), DiskFault);
+    checks.same(shared(Taken::Go), Taken::Go);
+    Ok(checks.end()?)
 }

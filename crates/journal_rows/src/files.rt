@@ -1,14 +1,14 @@
 //! The bytes of a journal, and what they are recovered as.
 
-ghost use Rattle.std.specs.Prelude.{◌≡◌, ◌<◌, ◌≤◌, ◌+◌, IfOk, None, OnOk, length};
+ghost use Rattle.std.specs.Prelude.{◌≡◌, ◌<◌, ◌≤◌, ◌+◌, IfOk, None, OnOk, [], length};
 
 use crate::Listing;
-use crate::faults::shared;
 use farm_base::NoMemory;
 use farm_disk::{Disk, Fill, MemDisk};
 use farm_journal::{CreateFault, Journal, RecoverFault};
-use std::alloc::Global;
-use std::process::Abort;
+use farm_ports::Bytes;
+use row_checks::{Checks, shared};
+use std::alloc::{AllocError, Global};
 use std::test::Fail;
 
 /// A journal of the header `site` without a body: an open gate, the name, 4, the header, a closed gate.
@@ -25,22 +25,40 @@ pub fn disk_of(alloc: Global, bytes: &[u8], fails: &[u64]) -> Result<MemDisk, No
     MemDisk::new(alloc, bytes.to_vec(alloc)?, fails.to_vec(alloc)?)
 }
 
+// Each byte string after a blank.
+fn text_of(alloc: Global, taken: &[Bytes]) -> Result<String, AllocError> {
+    let mut text = String::new(alloc);
+    for bytes in taken {
+        text.push(' ')?;
+        for byte in bytes.get() {
+            text.push(char::from(*byte))?;
+        }
+    }
+    Ok(text)
+}
+
+// The fault of a recovery of bytes.
+fn fault_of(
+    alloc: Global,
+    bytes: &[u8],
+    listing: &mut Listing,
+) -> Result<Option<RecoverFault>, NoMemory>
+    requires fresh { listing.old ≡ [] }
+{
+    let disk = disk_of(alloc, bytes, &[])?;
+    match Journal::recover(alloc, disk, listing) {
+        Ok(_) => Ok(None),
+        Err((_, fault)) => Ok(Some(fault)),
+    }
+}
+
 /// What is recovered of bytes: what was taken, each byte string after a blank, or the text of the refusal.
 pub fn recovered(alloc: Global, bytes: &[u8]) -> Result<String, Fail> {
     let mut listing = Listing::new(alloc);
-    let mut text = String::new(alloc);
-    match Journal::recover(alloc, disk_of(alloc, bytes, &[])?, &mut listing) {
-        Ok(_) => {
-            for taken in listing.taken() {
-                text.push(' ')?;
-                for byte in taken.get() {
-                    text.push(char::from(*byte))?;
-                }
-            }
-        }
-        Err((_, fault)) => text = format!(in alloc; "{fault}")?,
+    match fault_of(alloc, bytes, &mut listing)? {
+        None => Ok(text_of(alloc, listing.taken())?),
+        Some(fault) => Ok(format!(in alloc; "{fault}")?),
     }
-    Ok(text)
 }
 
 /// All bytes that reads of a disk give.
@@ -62,6 +80,18 @@ pub fn new_journal(alloc: Global, fails: &[u64]) -> Result<Journal<MemDisk>, Fai
     }
 }
 
+/// The disk on which no journal is made, and the fault: a disk with these bytes, whose calls of these numbers fail.
+pub fn refused_making(
+    alloc: Global,
+    bytes: &[u8],
+    fails: &[u64],
+) -> Result<(MemDisk, CreateFault), Fail> {
+    match Journal::create(alloc, disk_of(alloc, bytes, fails)?, b"site") {
+        Ok(_) => Err("a journal was made".into()),
+        Err(refusal) => Ok(refusal),
+    }
+}
+
 /// Puts a body on a journal and opens its gate.
 pub fn keep<D: Disk>(journal: &mut Journal<D>, body: &[u8]) -> Result<(), Fail>
     requires idle { journal.old.next_gate ≡ None }
@@ -76,22 +106,29 @@ pub fn keep<D: Disk>(journal: &mut Journal<D>, body: &[u8]) -> Result<(), Fail>
     Ok(())
 }
 
-#[test]
-fn a_journal_is_written_byte_by_byte(rt: HostRuntime) -> Result<(), Fail> {
-    let alloc = rt.alloc();
+/// A disk on which the bodies `one` and `three` were put, and its moment between them.
+pub fn two_bodies(alloc: Global) -> Result<(MemDisk, u64), Fail> {
     let mut journal = new_journal(alloc, &[])?;
     keep(&mut journal, b"one")?;
+    let start = journal.stand().moment;
     keep(&mut journal, b"three")?;
-    let mut disk = shared(journal).into_disk();
-    assert_eq!(rt; bytes_of(alloc, &mut disk)?.as_slice(), TWO);
-    let synced = disk.image(alloc, disk.stand().moment, Fill::Byte(b'?'))?;
-    assert_eq!(rt; synced.as_slice(), TWO);
-    Ok(())
+    Ok((shared(journal).into_disk(), start))
 }
 
-/// A journal that was recovered of a disk, with one body.
+#[test]
+fn a_journal_is_written_byte_by_byte(rt: HostRuntime) -> Result<(), Fail> {
+    let mut checks = Checks::new(&rt);
+    let alloc = rt.alloc();
+    let (mut disk, _) = two_bodies(alloc)?;
+    checks.same(bytes_of(alloc, &mut disk)?.as_slice(), TWO);
+    let synced = disk.image(alloc, disk.stand().moment, Fill::Byte(b'?'))?;
+    checks.same(synced.as_slice(), TWO);
+    Ok(checks.end()?)
+}
+
+// A journal that was recovered of a disk, with one body.
 #[tactic(auto, using(crate::proofs::Counts::count_of))]
-pub fn reopened<D: Disk + Drop>(alloc: Global, disk: D) -> Result<Journal<D>, Fail>
+fn reopened<D: Disk + Drop>(alloc: Global, disk: D) -> Result<Journal<D>, Fail>
     ensures idle { IfOk result (λ journal. journal.next_gate ≡ None) }
     ensures one { IfOk result (λ journal. journal.count ≡ 1) }
 {
@@ -105,23 +142,28 @@ pub fn reopened<D: Disk + Drop>(alloc: Global, disk: D) -> Result<Journal<D>, Fa
     Ok(journal)
 }
 
+/// The bytes of a disk after its journal with one body was recovered and `three` was put on it.
+pub fn gone_on<D: Disk + Drop>(alloc: Global, disk: D) -> Result<Vec<u8>, Fail> {
+    let mut journal = reopened(alloc, disk)?;
+    keep(&mut journal, b"three")?;
+    bytes_of(alloc, &mut journal.into_disk())
+}
+
 #[test]
 fn a_journal_is_recovered_and_goes_on(rt: HostRuntime) -> Result<(), Fail> {
+    let mut checks = Checks::new(&rt);
     let alloc = rt.alloc();
-    let mut journal = reopened(alloc, disk_of(alloc, ONE, &[])?)?;
-    keep(&mut journal, b"three")?;
-    assert_eq!(rt; bytes_of(alloc, &mut journal.into_disk())?.as_slice(), TWO);
-    Ok(())
+    let bytes = gone_on(alloc, disk_of(alloc, ONE, &[])?)?;
+    checks.same(bytes.as_slice(), TWO);
+    Ok(checks.end()?)
 }
 
 #[test]
 fn a_journal_is_made_on_an_empty_disk_alone(rt: HostRuntime) -> Result<(), Fail> {
+    let mut checks = Checks::new(&rt);
     let alloc = rt.alloc();
-    let refusal = Journal::create(alloc, disk_of(alloc, b"\0", &[])?, b"site").err();
-    let Some((mut disk, fault)) = refusal else {
-        return Err(CreateFault::NoMemory.into());
-    };
-    assert_eq!(rt; fault, CreateFault::NotEmpty);
-    assert_eq!(rt; bytes_of(alloc, &mut disk)?.as_slice(), b"\0".as_slice());
-    Ok(())
+    let (mut disk, fault) = refused_making(alloc, b"\0", &[])?;
+    checks.same(fault, CreateFault::NotEmpty);
+    checks.same(bytes_of(alloc, &mut disk)?.as_slice(), b"\0".as_slice());
+    Ok(checks.end()?)
 }

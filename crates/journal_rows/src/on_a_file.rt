@@ -1,8 +1,9 @@
 //! A journal on a file of the system.
 
-use crate::files::{ONE, TWO, bytes_of, keep, reopened};
+use crate::files::{ONE, TWO, bytes_of, gone_on, keep};
 use farm_disk::FileDisk;
 use farm_journal::{CreateFault, Journal};
+use row_checks::Checks;
 use std::fs;
 use std::test::Fail;
 
@@ -11,21 +12,24 @@ fn over<'a>(rt: &'a HostRuntime, path: &str) -> Result<FileDisk<&'a HostRuntime>
     Ok(FileDisk::new(rt, String::from_str(rt.alloc(), path)?))
 }
 
+// Makes a journal with the body `one` in the file at a path.
+fn begin(rt: &HostRuntime, path: &str) -> Result<(), Fail> {
+    let Ok(mut journal) = Journal::create(rt.alloc(), over(rt, path)?, b"site") else {
+        return Err(CreateFault::DiskFault.into());
+    };
+    keep(&mut journal, b"one")
+}
+
 #[test]
 fn a_journal_is_recovered_from_its_file(rt: HostRuntime) -> Result<(), Fail> {
+    let mut checks = Checks::new(&rt);
     let alloc = rt.alloc();
     let path = "out/journal";
     fs::create_dir_all(&rt, "out")?;
     let _ = fs::remove_file(&rt, path);
-    let Ok(mut journal) = Journal::create(alloc, over(&rt, path)?, b"site") else {
-        return Err(CreateFault::DiskFault.into());
-    };
-    keep(&mut journal, b"one")?;
-    drop(journal);
-    assert_eq!(rt; bytes_of(alloc, &mut over(&rt, path)?)?.as_slice(), ONE);
-    let mut journal = reopened(alloc, over(&rt, path)?)?;
-    keep(&mut journal, b"three")?;
-    assert_eq!(rt; bytes_of(alloc, &mut journal.into_disk())?.as_slice(), TWO);
+    begin(&rt, path)?;
+    checks.same(bytes_of(alloc, &mut over(&rt, path)?)?.as_slice(), ONE);
+    checks.same(gone_on(alloc, over(&rt, path)?)?.as_slice(), TWO);
     fs::remove_file(&rt, path)?;
-    Ok(())
+    Ok(checks.end()?)
 }

@@ -1,8 +1,9 @@
 //! `batch` on the journal of the row site.
 
-use crate::running::{batch_answer, push_rows, source_of};
+use crate::running::{batch_answer, check_answer, check_batch, source_of};
 use farm_batch::BatchEnd;
 use farm_history::{Gauged, Named, Query};
+use row_checks::{Checks, shared};
 use std::test::Fail;
 
 // Lines and their answers, in one batch: after a Stop no line is asked.
@@ -93,45 +94,37 @@ const DIPS: &[(&str, &str)] = &[
 
 #[test]
 fn rows_of_batches(rt: HostRuntime) -> Result<(), Fail> {
+    let mut checks = Checks::new(&rt);
     for rows in [FIRST_BATCH, GAUGES, DIPS] {
-        let mut lines = String::new(rt.alloc());
-        let mut answers = String::new(rt.alloc());
-        push_rows(rows, &mut lines, &mut answers)?;
-        let mut source = source_of(rt.alloc(), &[lines.as_str()])?;
-        let (status, bytes) = batch_answer(rt.alloc(), &mut source)?;
-        assert_eq!(rt; status, 0);
-        assert_eq!(rt; bytes.as_slice(), answers.as_bytes());
+        check_batch(&mut checks, rt.alloc(), &[rows])?;
     }
-    Ok(())
+    Ok(checks.end()?)
 }
 
 #[test]
 fn nothing_is_taken_after_a_stop(rt: HostRuntime) -> Result<(), Fail> {
+    let mut checks = Checks::new(&rt);
     let stop = "{\"do\":\"stop\",\"account\":1,\"key\":3}\n";
     let mut source = source_of(rt.alloc(), &["\n", stop, "\n"])?;
-    let (status, bytes) = batch_answer(rt.alloc(), &mut source)?;
-    assert_eq!(rt; status, 0);
-    assert_eq!(rt;
-        bytes.as_slice(),
-        b"{\"error\":400}\n{\"place\":1}\n".as_slice()
-    );
-    assert_eq!(rt; source.left(), b"\n".as_slice());
-    Ok(())
-}
-
-fn shared<T: Send + Sync>(value: T) -> T {
-    value
+    let answer = batch_answer(rt.alloc(), &mut source)?;
+    let text = "{\"error\":400}\n{\"place\":1}\n";
+    check_answer(&mut checks, "a batch", answer, 0, text);
+    checks.same(source.left(), b"\n".as_slice());
+    Ok(checks.end()?)
 }
 
 #[test]
-fn how_a_batch_ended_may_go_to_another_thread(rt: HostRuntime) {
-    assert_eq!(&rt; shared(BatchEnd::Long(3)), BatchEnd::Long(3));
+fn how_a_batch_ended_may_go_to_another_thread(rt: HostRuntime) -> Result<(), Fail> {
+    let mut checks = Checks::new(&rt);
+    checks.same(shared(BatchEnd::Long(3)), BatchEnd::Long(3));
+    Ok(checks.end()?)
 }
 
 #[test]
-fn what_is_looked_up_and_named_may_go_to_another_thread(rt: HostRuntime) {
+fn what_is_looked_up_and_named_may_go_to_another_thread(rt: HostRuntime) -> Result<(), Fail> {
+    let mut checks = Checks::new(&rt);
     for query in [Query::Ticket(5), Query::Stock(101), Query::Total] {
-        assert_eq!(&rt; shared(query), query);
+        checks.same(shared(query), query);
     }
     let named = Named {
         tank: 101,
@@ -140,5 +133,6 @@ fn what_is_looked_up_and_named_may_go_to_another_thread(rt: HostRuntime) {
             sample: 1,
         },
     };
-    assert_eq!(&rt; shared(named), named);
+    checks.same(shared(named), named);
+    Ok(checks.end()?)
 }

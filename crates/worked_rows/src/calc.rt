@@ -1,6 +1,7 @@
 //! `calc` on observed volumes and from levels.
 
-use crate::running::calc_answer;
+use crate::running::{calc_answer, check_answer};
+use row_checks::Checks;
 use std::test::Fail;
 
 const OBSERVED: &str = "volumes 12345000 45000 bare 25.00 33.00 15.00 112 0 850.0 0.99150 0.250\n";
@@ -21,14 +22,15 @@ const FORM: &str = "input refused at line 1: form\n";
 
 #[test]
 fn calc_observed_volumes(rt: HostRuntime) -> Result<(), Fail> {
-    let (status, bytes) = calc_answer(rt.alloc(), OBSERVED)?;
-    assert_eq!(rt; status, 0);
-    assert_eq!(rt; bytes.as_slice(), FIGURES.as_bytes());
-    Ok(())
+    let mut checks = Checks::new(&rt);
+    let answer = calc_answer(rt.alloc(), OBSERVED)?;
+    check_answer(&mut checks, OBSERVED, answer, 0, FIGURES);
+    Ok(checks.end()?)
 }
 
 #[test]
 fn calc_roof_and_refusals(rt: HostRuntime) -> Result<(), Fail> {
+    let mut checks = Checks::new(&rt);
     let cases = [
         ("12345000", "85000", 0, UNDER_ROOF),
         (
@@ -44,22 +46,17 @@ fn calc_roof_and_refusals(rt: HostRuntime) -> Result<(), Fail> {
         let input = format!(in rt.alloc();
             "volumes {tov} 45000 bare 25.00 33.00 15.00 112 {roof} 850.0 0.99150 0.250\n"
         )?;
-        let (status, bytes) = calc_answer(rt.alloc(), input.as_str())?;
-        assert_eq!(rt; status, want, "at TOV {tov} and ROOF {roof}");
-        assert_eq!(rt;
-            bytes.as_slice(),
-            text.as_bytes(),
-            "at TOV {tov} and ROOF {roof}"
-        );
+        let answer = calc_answer(rt.alloc(), input.as_str())?;
+        check_answer(&mut checks, input.as_str(), answer, want, text);
     }
-    let (status, bytes) = calc_answer(rt.alloc(), "")?;
-    assert_eq!(rt; status, 4);
-    assert_eq!(rt; bytes.as_slice(), FORM.as_bytes());
-    Ok(())
+    let answer = calc_answer(rt.alloc(), "")?;
+    check_answer(&mut checks, "no input", answer, 4, FORM);
+    Ok(checks.end()?)
 }
 
 #[test]
 fn calc_from_table(rt: HostRuntime) -> Result<(), Fail> {
+    let mut checks = Checks::new(&rt);
     let cases = [
         ("3000", "13", "15.00", 0, FROM_LEVELS),
         (
@@ -82,13 +79,8 @@ fn calc_from_table(rt: HostRuntime) -> Result<(), Fail> {
         let input = format!(in rt.alloc();
             "table 3\n0\n1000\n{row}\nfactors 1\n850.0,15.00,1.00000\nlevels {level} 0 insulated {liquid} 15.00 15.00 0 0 0 0 850.0 0.000\n"
         )?;
-        let (status, bytes) = calc_answer(rt.alloc(), input.as_str())?;
-        assert_eq!(rt; status, want, "at row {row}, level {level}, {liquid} C");
-        assert_eq!(rt;
-            bytes.as_slice(),
-            text.as_bytes(),
-            "at row {row}, level {level}, {liquid} C"
-        );
+        let answer = calc_answer(rt.alloc(), input.as_str())?;
+        check_answer(&mut checks, input.as_str(), answer, want, text);
     }
-    Ok(())
+    Ok(checks.end()?)
 }

@@ -1,6 +1,7 @@
 //! A day of `batch` on the row site: a receipt, a transfer, a delivery and a settlement, and then the stock book.
 
-use crate::running::{batch_answer, push_rows, source_of};
+use crate::running::check_batch;
+use row_checks::Checks;
 use std::test::Fail;
 
 // The ticket of the receipt at place 5.
@@ -154,15 +155,9 @@ const REVERSED: &[(&str, &str)] = &[
 
 #[test]
 fn the_day_and_its_stock_book(rt: HostRuntime) -> Result<(), Fail> {
+    let mut checks = Checks::new(&rt);
     for rows in [BOOKS, REVERSED] {
-        let mut lines = String::new(rt.alloc());
-        let mut answers = String::new(rt.alloc());
-        push_rows(DAY, &mut lines, &mut answers)?;
-        push_rows(rows, &mut lines, &mut answers)?;
-        let mut source = source_of(rt.alloc(), &[lines.as_str()])?;
-        let (status, bytes) = batch_answer(rt.alloc(), &mut source)?;
-        assert_eq!(rt; status, 0);
-        assert_eq!(rt; bytes.as_slice(), answers.as_bytes());
+        check_batch(&mut checks, rt.alloc(), &[DAY, rows])?;
     }
-    Ok(())
+    Ok(checks.end()?)
 }

@@ -1,6 +1,7 @@
 //! The bytes of the row site.
 
 use farm_site::{Site, SiteBytesFault};
+use row_checks::Checks;
 use row_site::row_site;
 use std::alloc::Global;
 use std::test::Fail;
@@ -13,9 +14,16 @@ const FIRST: usize = 193;
 
 const SECOND: usize = 6_227;
 
+// The bytes of a site.
+fn bytes_of(alloc: Global, site: Site) -> Result<Vec<u8>, Fail> {
+    let bytes = site.to_bytes(alloc);
+    drop(site);
+    Ok(bytes?)
+}
+
 // The bytes of the row site.
 fn row_bytes(alloc: Global) -> Result<Vec<u8>, Fail> {
-    Ok(row_site(alloc)?.to_bytes(alloc)?)
+    bytes_of(alloc, row_site(alloc)?)
 }
 
 // Whether bytes are no site's.
@@ -25,27 +33,32 @@ fn is_bad(alloc: Global, bytes: &[u8]) -> bool {
 
 #[test]
 fn the_row_site_is_read_from_its_bytes_and_written_again(rt: HostRuntime) -> Result<(), Fail> {
+    let mut checks = Checks::new(&rt);
     let alloc = rt.alloc();
     let bytes = row_bytes(alloc)?;
-    assert_eq!(rt; bytes.len(), LEN);
-    assert_eq!(rt; &bytes[..9], b"\x01\x07Rowsite".as_slice());
-    assert_eq!(rt; &bytes[FIRST..FIRST + 4], [0, 101, 0, 1].as_slice());
-    assert_eq!(rt; &bytes[SECOND..SECOND + 4], [0, 102, 0, 1].as_slice());
-    let again = Site::from_bytes(alloc, &bytes)?.to_bytes(alloc)?;
-    assert_eq!(rt; again, bytes);
-    Ok(())
+    checks.same(bytes.len(), LEN);
+    let name = b"\x01\x07Rowsite".as_slice();
+    checks.same(bytes.get(..9), Some(name));
+    let first = [0, 101, 0, 1].as_slice();
+    checks.same(bytes.get(FIRST..FIRST + 4), Some(first));
+    let second = [0, 102, 0, 1].as_slice();
+    checks.same(bytes.get(SECOND..SECOND + 4), Some(second));
+    let again = bytes_of(alloc, Site::from_bytes(alloc, &bytes)?)?;
+    checks.same(again, bytes);
+    Ok(checks.end()?)
 }
 
 #[test]
 fn bytes_of_the_row_site_are_neither_missing_nor_too_many(rt: HostRuntime) -> Result<(), Fail> {
+    let mut checks = Checks::new(&rt);
     let alloc = rt.alloc();
     let mut bytes = row_bytes(alloc)?;
     for len in 0..bytes.len() {
-        assert!(rt; is_bad(alloc, &bytes[..len]), "the first {len} bytes");
+        checks.same_at(len, is_bad(alloc, &bytes[..len]), true);
     }
     bytes.push(0)?;
-    assert!(rt; is_bad(alloc, &bytes), "one byte too many");
-    Ok(())
+    checks.same_at("one byte too many", is_bad(alloc, &bytes), true);
+    Ok(checks.end()?)
 }
 
 // Puts another byte at an offset.
@@ -57,14 +70,15 @@ fn put(bytes: &mut [u8], offset: usize, byte: u8) {
 
 #[test]
 fn another_format_and_tanks_in_falling_order_are_no_site(rt: HostRuntime) -> Result<(), Fail> {
+    let mut checks = Checks::new(&rt);
     let alloc = rt.alloc();
     let mut bytes = row_bytes(alloc)?;
     put(&mut bytes, 0, 2);
-    assert!(rt; is_bad(alloc, &bytes), "format 2");
+    checks.same_at("format 2", is_bad(alloc, &bytes), true);
     put(&mut bytes, 0, 1);
-    assert!(rt; !is_bad(alloc, &bytes), "format 1");
+    checks.same_at("format 1", is_bad(alloc, &bytes), false);
     put(&mut bytes, FIRST + 1, 102);
     put(&mut bytes, SECOND + 1, 101);
-    assert!(rt; is_bad(alloc, &bytes), "tank 102 before tank 101");
-    Ok(())
+    checks.same_at("tank 102 before tank 101", is_bad(alloc, &bytes), true);
+    Ok(checks.end()?)
 }

@@ -7,6 +7,7 @@ use farm_desk::{Answer, Desk};
 use farm_disk::MemDisk;
 use farm_fixed::Amount;
 use farm_history::{Ask, Command, Query, Reply, Rule};
+use row_checks::Checks;
 use std::alloc::Global;
 use std::test::Fail;
 
@@ -47,25 +48,26 @@ fn stop(key: u64) -> Ask
 }
 
 // What a desk answers to one caller at one moment.
-fn reply(desk: &mut Desk<MemDisk, 4>, ask: &Ask) -> Result<Reply, Fail>
+fn answer(desk: &mut Desk<MemDisk, 4>, ask: &Ask) -> Answer
     requires { IsWellFormedAsk ask.now }
 {
-    match desk.ask(0, 1_700_000_000, ask) {
-        Answer::Done(reply) => Ok(reply),
-        Answer::DiskFault | Answer::NoMemory => Err("no reply")?,
+    desk.ask(0, 1_700_000_000, ask)
+}
+
+// Four samples fill the history.
+fn check_four<R: Print>(checks: &mut Checks<'_, R>, desk: &mut Desk<MemDisk, 4>) {
+    for key in 1..=4 {
+        let placed = Reply::Placed(key as u32);
+        checks.same(answer(desk, &sample(key)), Answer::Done(placed));
     }
 }
 
-#[test]
-fn a_history_at_its_limit(rt: HostRuntime) -> Result<(), Fail> {
-    let mut desk = desk_of_four(rt.alloc())?;
-    for key in 1..=4 {
-        assert_eq!(rt; reply(&mut desk, &sample(key))?, Reply::Placed(key as u32));
-    }
+// A fifth is refused, a repeat and a look-up are answered, and a Stop is placed.
+fn check_limit<R: Print>(checks: &mut Checks<'_, R>, desk: &mut Desk<MemDisk, 4>) {
     let full = Reply::Refused(Rule::HistoryFull);
-    assert_eq!(rt; Rule::HistoryFull.number(), 2);
-    assert_eq!(rt; reply(&mut desk, &sample(5))?, full);
-    assert_eq!(rt; reply(&mut desk, &sample(2))?, Reply::Placed(2));
+    checks.same(Rule::HistoryFull.number(), 2);
+    checks.same(answer(desk, &sample(5)), Answer::Done(full));
+    checks.same(answer(desk, &sample(2)), Answer::Done(Reply::Placed(2)));
     let total = Reply::Total {
         entries: 4,
         amount: Amount {
@@ -73,7 +75,17 @@ fn a_history_at_its_limit(rt: HostRuntime) -> Result<(), Fail> {
             kg: 11_050_000,
         },
     };
-    assert_eq!(rt; reply(&mut desk, &Ask::Look(Query::Total))?, total);
-    assert_eq!(rt; reply(&mut desk, &stop(5))?, Reply::Placed(5));
-    Ok(())
+    let look = Ask::Look(Query::Total);
+    checks.same(answer(desk, &look), Answer::Done(total));
+    checks.same(answer(desk, &stop(5)), Answer::Done(Reply::Placed(5)));
+}
+
+#[test]
+fn a_history_at_its_limit(rt: HostRuntime) -> Result<(), Fail> {
+    let mut checks = Checks::new(&rt);
+    let mut desk = desk_of_four(rt.alloc())?;
+    check_four(&mut checks, &mut desk);
+    check_limit(&mut checks, &mut desk);
+    drop(desk);
+    Ok(checks.end()?)
 }

@@ -2,7 +2,8 @@
 
 use farm_disk::MemDisk;
 use farm_ports::{Files, Fixed, Gather, Script};
-use farm_run::run;
+use farm_run::{Done, run};
+use row_checks::Checks;
 use std::alloc::Global;
 use std::test::Fail;
 
@@ -18,15 +19,20 @@ const BATCH: &[&str] = &["batch", "--journal", "j"];
 const MOMENT: i64 = 1_700_000_000;
 
 /// What the words are answered with, over an input, a folder and an empty disk, no call on which fails.
-pub fn answer(
+pub fn answer(alloc: Global, words: &[&str], input: &str, folder: Files) -> Result<Answer, Fail> {
+    let (answer, _) = answer_over(alloc, words, input, folder)?;
+    Ok(answer)
+}
+
+// The same, and the disk that is left.
+fn answer_over(
     alloc: Global,
     words: &[&str],
     input: &str,
-    folder: &mut Files,
-) -> Result<Answer, Fail> {
+    mut folder: Files,
+) -> Result<(Answer, MemDisk), Fail> {
     let mut source = source_of(alloc, &[input])?;
-    let (answer, _) = answer_on(alloc, words, &mut source, folder, empty_disk(alloc)?)?;
-    Ok(answer)
+    answer_on(alloc, words, &mut source, &mut folder, empty_disk(alloc)?)
 }
 
 /// A source of texts, each a piece.
@@ -43,6 +49,15 @@ pub fn empty_disk(alloc: Global) -> Result<MemDisk, Fail> {
     Ok(MemDisk::new(alloc, Vec::new(alloc), Vec::new(alloc))?)
 }
 
+/// Words as a run takes them.
+pub fn words_of(alloc: Global, words: &[&str]) -> Result<Vec<String>, Fail> {
+    let mut owned = Vec::new(alloc);
+    for word in words {
+        owned.push(String::from_str(alloc, word)?)?;
+    }
+    Ok(owned)
+}
+
 // What the words are answered with, over a source, a folder and a disk, and the disk that is left.
 fn answer_on(
     alloc: Global,
@@ -51,22 +66,29 @@ fn answer_on(
     folder: &mut Files,
     disk: MemDisk,
 ) -> Result<(Answer, MemDisk), Fail> {
-    let mut owned = Vec::new(alloc);
-    for word in words {
-        owned.push(String::from_str(alloc, word)?)?;
-    }
+    let owned = words_of(alloc, words)?;
+    let (done, bytes) = done_on(alloc, &owned, source, folder, disk)?;
+    Ok(((done.status, bytes), done.disk.ok_or("no disk")?))
+}
+
+// How the run of these words ended, and the bytes that it put.
+fn done_on(
+    alloc: Global,
+    words: &[String],
+    source: &mut Script,
+    folder: &mut Files,
+    disk: MemDisk,
+) -> Result<(Done<MemDisk>, Vec<u8>), Fail> {
     let mut sink = Gather::new(alloc, Vec::new(alloc))?;
     let clock = Fixed::new(alloc, MOMENT)?;
-    let done = run(alloc, &owned, source, &mut sink, folder, disk, &clock);
+    let done = run(alloc, words, source, &mut sink, folder, disk, &clock);
     let bytes = Vec::from_slice(alloc, sink.bytes())?;
-    Ok(((done.status, bytes), done.disk.ok_or("no disk")?))
+    Ok((done, bytes))
 }
 
 // A disk with the journal of the row site, without an entry.
 fn row_journal(alloc: Global) -> Result<MemDisk, Fail> {
-    let mut folder = row_site::row_folder(alloc)?;
-    let mut source = source_of(alloc, &[])?;
-    let (answer, disk) = answer_on(alloc, INIT, &mut source, &mut folder, empty_disk(alloc)?)?;
+    let (answer, disk) = answer_over(alloc, INIT, "", row_site::row_folder(alloc)?)?;
     if answer.0 == 0 {
         Ok(disk)
     } else {
@@ -81,12 +103,8 @@ pub fn batch_answer(alloc: Global, lines: &mut Script) -> Result<Answer, Fail> {
     Ok(answer)
 }
 
-/// Appends the lines of rows to a text and their answers to another, each with its line feed.
-pub fn push_rows(
-    rows: &[(&str, &str)],
-    lines: &mut String,
-    answers: &mut String,
-) -> Result<(), Fail> {
+// Appends the lines of rows to a text and their answers to another, each with its line feed.
+fn push_rows(rows: &[(&str, &str)], lines: &mut String, answers: &mut String) -> Result<(), Fail> {
     for (line, answer) in rows {
         lines.push_str(line)?;
         lines.push('\n')?;
@@ -96,8 +114,44 @@ pub fn push_rows(
     Ok(())
 }
 
+// The lines of rows, and their answers.
+fn texts_of(alloc: Global, rows: &[&[(&str, &str)]]) -> Result<(String, String), Fail> {
+    let mut lines = String::new(alloc);
+    let mut answers = String::new(alloc);
+    for part in rows {
+        push_rows(part, &mut lines, &mut answers)?;
+    }
+    Ok((lines, answers))
+}
+
+/// An answer has this status and this text.
+pub fn check_answer<R: Print>(
+    checks: &mut Checks<'_, R>,
+    case: &str,
+    answer: Answer,
+    status: u8,
+    text: &str,
+) {
+    let (came, bytes) = answer;
+    checks.same_at(case, came, status);
+    checks.same_at(case, bytes.as_slice(), text.as_bytes());
+}
+
+/// A batch on a new journal of the row site answers each line of rows as its row says.
+pub fn check_batch<R: Print>(
+    checks: &mut Checks<'_, R>,
+    alloc: Global,
+    rows: &[&[(&str, &str)]],
+) -> Result<(), Fail> {
+    let (lines, answers) = texts_of(alloc, rows)?;
+    let mut source = source_of(alloc, &[lines.as_str()])?;
+    let answer = batch_answer(alloc, &mut source)?;
+    check_answer(checks, "a batch", answer, 0, answers.as_str());
+    Ok(())
+}
+
 /// What `calc` answers to an input.
 pub fn calc_answer(alloc: Global, input: &str) -> Result<Answer, Fail> {
-    let mut folder = Files::new(alloc, Vec::new(alloc), Vec::new(alloc))?;
-    answer(alloc, &["calc"], input, &mut folder)
+    let folder = Files::new(alloc, Vec::new(alloc), Vec::new(alloc))?;
+    answer(alloc, &["calc"], input, folder)
 }

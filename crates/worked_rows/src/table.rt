@@ -1,7 +1,8 @@
 //! `table` on the row site.
 
-use crate::running::{Answer, answer};
+use crate::running::{Answer, answer, check_answer};
 use farm_ports::Files;
+use row_checks::Checks;
 use std::alloc::{AllocError, Global};
 use std::test::Fail;
 
@@ -9,7 +10,7 @@ const ROUNDING: &str =
     "name = \"Rowsite\"\nrounding = [\"3 half\", \"5 half\", \"1 half\", \"1 half\", \"1 half\", \"1 half\", \"1 half\", \"1 half\", \"1 half\", \"1 half\", \"1 half\", \"1 half\"]";
 
 // What `table` answers over a folder.
-fn table_answer(alloc: Global, folder: &mut Files) -> Result<Answer, Fail> {
+fn table_answer(alloc: Global, folder: Files) -> Result<Answer, Fail> {
     answer(alloc, &["table", "--site", "row"], "", folder)
 }
 
@@ -38,21 +39,28 @@ fn write_table(out: &mut String, alloc: Global, tank: u16) -> Result<(), AllocEr
     Ok(())
 }
 
+// The issued tables of the row site.
+fn issued(alloc: Global) -> Result<String, AllocError> {
+    let mut tables = String::new(alloc);
+    for tank in 101..=106 {
+        write_table(&mut tables, alloc, tank)?;
+    }
+    Ok(tables)
+}
+
 #[test]
 fn tables_of_the_row_site(rt: HostRuntime) -> Result<(), Fail> {
-    let mut want = String::new(rt.alloc());
-    for tank in 101..=106 {
-        write_table(&mut want, rt.alloc(), tank)?;
-    }
-    let mut folder = row_site::row_folder(rt.alloc())?;
-    let (status, bytes) = table_answer(rt.alloc(), &mut folder)?;
-    assert_eq!(rt; status, 0);
-    assert!(rt; bytes.as_slice() == want.as_bytes());
-    Ok(())
+    let mut checks = Checks::new(&rt);
+    let want = issued(rt.alloc())?;
+    let (status, bytes) = table_answer(rt.alloc(), row_site::row_folder(rt.alloc())?)?;
+    checks.same(status, 0);
+    checks.same(bytes.as_slice() == want.as_bytes(), true);
+    Ok(checks.end()?)
 }
 
 #[test]
 fn site_refusals(rt: HostRuntime) -> Result<(), Fail> {
+    let mut checks = Checks::new(&rt);
     let cases = [
         (
             "site.toml",
@@ -91,10 +99,8 @@ fn site_refusals(rt: HostRuntime) -> Result<(), Fail> {
         ),
     ];
     for (name, old, new, want, text) in cases {
-        let mut folder = edited(rt.alloc(), name, old, new)?;
-        let (status, bytes) = table_answer(rt.alloc(), &mut folder)?;
-        assert_eq!(rt; status, want, "with {new:?}");
-        assert_eq!(rt; bytes.as_slice(), text.as_bytes(), "with {new:?}");
+        let answer = table_answer(rt.alloc(), edited(rt.alloc(), name, old, new)?)?;
+        check_answer(&mut checks, old, answer, want, text);
     }
-    Ok(())
+    Ok(checks.end()?)
 }

@@ -1,9 +1,10 @@
 //! The words after the program's name.
 
-use crate::running::answer;
+use crate::running::{answer, check_answer, words_of};
 use command_line::places;
 use farm_ports::Gather;
 use farm_run::report_no_memory;
+use row_checks::Checks;
 use std::alloc::Global;
 use std::test::Fail;
 
@@ -11,24 +12,21 @@ const USAGE: &str = "usage: farm calc|init|table|batch|serve|report|drill\n";
 
 #[test]
 fn usage_line(rt: HostRuntime) -> Result<(), Fail> {
-    let mut folder = row_site::row_folder(rt.alloc())?;
-    let (status, bytes) = answer(rt.alloc(), &[], "", &mut folder)?;
-    assert_eq!(rt; status, 1);
-    assert_eq!(rt; bytes.as_slice(), USAGE.as_bytes());
-    Ok(())
+    let mut checks = Checks::new(&rt);
+    let came = answer(rt.alloc(), &[], "", row_site::row_folder(rt.alloc())?)?;
+    check_answer(&mut checks, "no words", came, 1, USAGE);
+    Ok(checks.end()?)
 }
 
 // The site's folder and the journal's file that words name.
 fn places_of(alloc: Global, words: &[&str]) -> Result<(String, String), Fail> {
-    let mut owned = Vec::new(alloc);
-    for word in words {
-        owned.push(String::from_str(alloc, word)?)?;
-    }
+    let owned = words_of(alloc, words)?;
     Ok(places(alloc, &owned).ok_or("out of memory")?)
 }
 
 #[test]
 fn places_of_words(rt: HostRuntime) -> Result<(), Fail> {
+    let mut checks = Checks::new(&rt);
     let cases: [(&[&str], &str, &str); 8] = [
         (&["table", "--site", "d"], "d", ""),
         (&["table", "--site=d/e"], "d/e", ""),
@@ -41,19 +39,20 @@ fn places_of_words(rt: HostRuntime) -> Result<(), Fail> {
     ];
     for (words, site, journal) in cases {
         let places = places_of(rt.alloc(), words)?;
-        assert_eq!(rt; places.0.as_str(), site, "{words:?}");
-        assert_eq!(rt; places.1.as_str(), journal, "{words:?}");
+        checks.same((words, places.0.as_str()), (words, site));
+        checks.same((words, places.1.as_str()), (words, journal));
     }
-    Ok(())
+    Ok(checks.end()?)
 }
 
 #[test]
 fn out_of_memory_is_reported(rt: HostRuntime) -> Result<(), Fail> {
+    let mut checks = Checks::new(&rt);
     for (failing, want, text) in [(0, 7, "no memory\n"), (1, 6, "port fault\n")] {
         let fails = Vec::from_slice(rt.alloc(), &[failing])?;
         let mut sink = Gather::new(rt.alloc(), fails)?;
-        assert_eq!(rt; report_no_memory(&mut sink), want);
-        assert_eq!(rt; sink.bytes(), text.as_bytes());
+        checks.same(report_no_memory(&mut sink), want);
+        checks.same(sink.bytes(), text.as_bytes());
     }
-    Ok(())
+    Ok(checks.end()?)
 }
