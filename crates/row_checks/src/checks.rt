@@ -1,6 +1,6 @@
 //! The comparisons of a test.
 
-ghost use Rattle.std.specs.Prelude.{◌≡◌, ◌↔◌, ℕ, IsOk};
+ghost use Rattle.std.specs.Prelude.{◌≡◌, ◌↔◌, ℕ, IfErr, IsOk};
 ghost use Rattle.row_checks.specs.Counting.{counted};
 
 use crate::differing::Differing;
@@ -53,6 +53,7 @@ impl<'a, R: Print> Checks<'a, R> {
     /// Whether each comparison held.
     pub fn end(self) -> Result<(), Differing>
         ensures held { IsOk result ↔ (self.entry ≡ 0) }
+        ensures differing { IfErr result (λ why. why.0 ≡ self.entry) }
     {
         match self.differing {
             0 => Ok(()),
