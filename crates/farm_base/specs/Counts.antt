@@ -1,5 +1,5 @@
 -- Counts of faults. An object of the outside counts its faults; the count never falls and stands still at the last u64.
-use Rattle.std.specs.Prelude.{◌≡◌, ℕ, ◌+◌, ◌-◌, ◌^◌, ◌≤◌, min, Result, OnErr}
+use Rattle.std.specs.Prelude.{◌≡◌, ℕ, ◌+◌, ◌-◌, ◌^◌, ◌≤◌, min, zero, suc, Result, OnErr}
 
 -- the count is greater by at least n, or stands at its last value
 abbrev pub RoseBy : ℕ → ℕ → ℕ → Type 0
@@ -8,6 +8,11 @@ RoseBy n before now = min (before + n) (2 ^ 64 - 1) ≤ now
 -- the count is greater, or stands at its last value
 abbrev pub Rose : ℕ → ℕ → Type 0
 Rose before now = RoseBy 1 before now
+
+-- a count after n faults more, each counted once; it stands still at its last value
+abbrev pub raised : ℕ → ℕ → ℕ
+raised zero before = before
+raised (suc n) before = min (raised n before + 1) (2 ^ 64 - 1)
 
 -- the count hasn't fallen, and the call failed only where it rose
 pub record HasCause {T E : Type 0} (before now : ℕ) (result : Result T E) : Type 0 where

@@ -7,10 +7,6 @@ pub record FileState : Type 0 where
   pub moment : ℕ
   pub faults : ℕ
 
--- a count of faults with one more; it stands still at the last u64
-abbrev pub one_fault_more : ℕ → ℕ
-one_fault_more faults = min (faults + 1) (2 ^ 64 - 1)
-
 -- the moment at which a write or a sync that began at this one is over; it stands still at the last u64
 abbrev pub two_moments_more : ℕ → ℕ
 two_moments_more moment = min (moment + 2) (2 ^ 64 - 1)

@@ -1,10 +1,10 @@
 //! A disk over a file of the system.
 
 ghost use Rattle.std.specs.Prelude.{◌≡◌, ◌≤◌, ◌+◌, length, string_bytes, IfOk, None, OnErr, OnOk};
-ghost use Rattle.farm_base.specs.Counts.{HasCause, Rose};
+ghost use Rattle.farm_base.specs.Counts.{HasCause, Rose, raised};
 ghost use Rattle.farm_base.specs.Known.{WhereKnown};
 ghost use Rattle.farm_disk.specs.Calls.{Measures, Passes, Reads, Syncs, Writes};
-ghost use Rattle.farm_disk.specs.Files.{one_fault_more, two_moments_more};
+ghost use Rattle.farm_disk.specs.Files.{two_moments_more};
 ghost use Rattle.farm_disk.specs.Images.{IsCrashImage, present};
 
 use crate::late_file::LateFile;
@@ -54,7 +54,7 @@ impl<R: Files<File = File> + AllocGlobal> FileDisk<R> {
     fn fault(&mut self) -> Failed
         ensures rose { Rose self.old.faults self.new.faults }
         ensures never_falls { self.old.faults ≤ self.new.faults }
-        ensures once { self.new.faults ≡ one_fault_more self.old.faults }
+        ensures once { self.new.faults ≡ raised 1 self.old.faults }
         ensures moment { self.new.moment ≡ self.old.moment }
         ensures path { self.new.path ≡ self.old.path }
     {
@@ -66,7 +66,7 @@ impl<R: Files<File = File> + AllocGlobal> FileDisk<R> {
     fn counted<T>(&mut self, answer: io::Result<T>) -> Result<T, Failed>
         ensures value { IfOk result (λ value. answer ≡ Ok value) }
         ensures cause { HasCause self.old.faults self.new.faults result }
-        ensures once { OnErr result (self.new.faults ≡ one_fault_more self.old.faults) }
+        ensures once { OnErr result (self.new.faults ≡ raised 1 self.old.faults) }
         ensures quiet { OnOk result (self.new.faults ≡ self.old.faults) }
         ensures moment { self.new.moment ≡ self.old.moment }
         ensures path { self.new.path ≡ self.old.path }
@@ -80,7 +80,7 @@ impl<R: Files<File = File> + AllocGlobal> FileDisk<R> {
     // The same of a write or a sync, which takes two moments.
     fn passed(&mut self, answer: io::Result<()>) -> Result<(), Failed>
         ensures cause { HasCause self.old.faults self.new.faults result }
-        ensures once { OnErr result (self.new.faults ≡ one_fault_more self.old.faults) }
+        ensures once { OnErr result (self.new.faults ≡ raised 1 self.old.faults) }
         ensures quiet { OnOk result (self.new.faults ≡ self.old.faults) }
         ensures moment { self.new.moment ≡ two_moments_more self.old.moment }
         ensures never_falls { self.old.moment ≤ self.new.moment }
@@ -103,9 +103,9 @@ impl<R: Files<File = File> + AllocGlobal> Disk for FileDisk<R> {
         ensures moment { Passes (⟦<FileDisk<R> as Disk>⟧.trace self.old) (⟦<FileDisk<R> as Disk>⟧.trace self.new) (⟦<FileDisk<R> as Disk>⟧.moment self.old) (⟦<FileDisk<R> as Disk>⟧.moment self.new) }
         ensures cause { HasCause (⟦<FileDisk<R> as Disk>⟧.faults self.old) (⟦<FileDisk<R> as Disk>⟧.faults self.new) result }
         ensures quiet { OnOk result (⟦<FileDisk<R> as Disk>⟧.faults self.new ≡ ⟦<FileDisk<R> as Disk>⟧.faults self.old) }
+        ensures once { OnErr result (⟦<FileDisk<R> as Disk>⟧.faults self.new ≡ raised 1 (⟦<FileDisk<R> as Disk>⟧.faults self.old)) }
 
-        // A failed call is counted once, be it the opening that failed, and a measuring takes no moment.
-        ensures once { OnErr result (self.new.faults ≡ one_fault_more self.old.faults) }
+        // The opening of the file that failed is a failed call too, and a measuring takes no moment.
         ensures no_moment { self.new.moment ≡ self.old.moment }
         ensures path { self.new.path ≡ self.old.path }
     {
@@ -118,7 +118,7 @@ impl<R: Files<File = File> + AllocGlobal> Disk for FileDisk<R> {
         ensures moment { Passes (⟦<FileDisk<R> as Disk>⟧.trace self.old) (⟦<FileDisk<R> as Disk>⟧.trace self.new) (⟦<FileDisk<R> as Disk>⟧.moment self.old) (⟦<FileDisk<R> as Disk>⟧.moment self.new) }
         ensures cause { HasCause (⟦<FileDisk<R> as Disk>⟧.faults self.old) (⟦<FileDisk<R> as Disk>⟧.faults self.new) result }
         ensures quiet { OnOk result (⟦<FileDisk<R> as Disk>⟧.faults self.new ≡ ⟦<FileDisk<R> as Disk>⟧.faults self.old) }
-        ensures once { OnErr result (self.new.faults ≡ one_fault_more self.old.faults) }
+        ensures once { OnErr result (⟦<FileDisk<R> as Disk>⟧.faults self.new ≡ raised 1 (⟦<FileDisk<R> as Disk>⟧.faults self.old)) }
         ensures no_moment { self.new.moment ≡ self.old.moment }
         ensures path { self.new.path ≡ self.old.path }
     {
@@ -131,9 +131,9 @@ impl<R: Files<File = File> + AllocGlobal> Disk for FileDisk<R> {
         ensures moment { Passes (⟦<FileDisk<R> as Disk>⟧.trace self.old) (⟦<FileDisk<R> as Disk>⟧.trace self.new) (⟦<FileDisk<R> as Disk>⟧.moment self.old) (⟦<FileDisk<R> as Disk>⟧.moment self.new) }
         ensures cause { HasCause (⟦<FileDisk<R> as Disk>⟧.faults self.old) (⟦<FileDisk<R> as Disk>⟧.faults self.new) result }
         ensures quiet { OnOk result (⟦<FileDisk<R> as Disk>⟧.faults self.new ≡ ⟦<FileDisk<R> as Disk>⟧.faults self.old) }
+        ensures once { OnErr result (⟦<FileDisk<R> as Disk>⟧.faults self.new ≡ raised 1 (⟦<FileDisk<R> as Disk>⟧.faults self.old)) }
 
         // A write takes its two moments also where it failed.
-        ensures once { OnErr result (self.new.faults ≡ one_fault_more self.old.faults) }
         ensures two_moments { self.new.moment ≡ two_moments_more self.old.moment }
         ensures path { self.new.path ≡ self.old.path }
     {
@@ -146,7 +146,7 @@ impl<R: Files<File = File> + AllocGlobal> Disk for FileDisk<R> {
         ensures moment { Passes (⟦<FileDisk<R> as Disk>⟧.trace self.old) (⟦<FileDisk<R> as Disk>⟧.trace self.new) (⟦<FileDisk<R> as Disk>⟧.moment self.old) (⟦<FileDisk<R> as Disk>⟧.moment self.new) }
         ensures cause { HasCause (⟦<FileDisk<R> as Disk>⟧.faults self.old) (⟦<FileDisk<R> as Disk>⟧.faults self.new) result }
         ensures quiet { OnOk result (⟦<FileDisk<R> as Disk>⟧.faults self.new ≡ ⟦<FileDisk<R> as Disk>⟧.faults self.old) }
-        ensures once { OnErr result (self.new.faults ≡ one_fault_more self.old.faults) }
+        ensures once { OnErr result (⟦<FileDisk<R> as Disk>⟧.faults self.new ≡ raised 1 (⟦<FileDisk<R> as Disk>⟧.faults self.old)) }
         ensures two_moments { self.new.moment ≡ two_moments_more self.old.moment }
         ensures path { self.new.path ≡ self.old.path }
     {

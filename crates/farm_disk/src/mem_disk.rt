@@ -1,7 +1,7 @@
 //! A disk in memory.
 
-ghost use Rattle.std.specs.Prelude.{◌≡◌, ◌≤◌, ◌+◌, ◌-◌, ◌*◌, [], ◌∷◌, IfOk, IsErr, OnOk, Some, length, min};
-ghost use Rattle.farm_base.specs.Counts.{HasCause};
+ghost use Rattle.std.specs.Prelude.{◌≡◌, ◌≤◌, ◌+◌, ◌-◌, ◌*◌, [], ◌∷◌, IfOk, IsErr, OnErr, OnOk, Some, length, min};
+ghost use Rattle.farm_base.specs.Counts.{HasCause, raised};
 ghost use Rattle.farm_base.specs.Known.{WhereKnown};
 ghost use Rattle.farm_disk.specs.Calls.{Measures, Passes, Reads, Syncs, Writes};
 ghost use Rattle.farm_disk.specs.Images.{IsCrashImage, at_rest, present, state_at};
@@ -79,6 +79,7 @@ impl Disk for MemDisk {
         ensures moment { Passes (⟦<MemDisk as Disk>⟧.trace self.old) (⟦<MemDisk as Disk>⟧.trace self.new) (⟦<MemDisk as Disk>⟧.moment self.old) (⟦<MemDisk as Disk>⟧.moment self.new) }
         ensures cause { HasCause (⟦<MemDisk as Disk>⟧.faults self.old) (⟦<MemDisk as Disk>⟧.faults self.new) result }
         ensures quiet { OnOk result (⟦<MemDisk as Disk>⟧.faults self.new ≡ ⟦<MemDisk as Disk>⟧.faults self.old) }
+        ensures once { OnErr result (⟦<MemDisk as Disk>⟧.faults self.new ≡ raised 1 (⟦<MemDisk as Disk>⟧.faults self.old)) }
 
         // A listed measuring fails.
         ensures listed { FailsNext self.old.counted → IsErr result }
@@ -95,6 +96,7 @@ impl Disk for MemDisk {
         ensures moment { Passes (⟦<MemDisk as Disk>⟧.trace self.old) (⟦<MemDisk as Disk>⟧.trace self.new) (⟦<MemDisk as Disk>⟧.moment self.old) (⟦<MemDisk as Disk>⟧.moment self.new) }
         ensures cause { HasCause (⟦<MemDisk as Disk>⟧.faults self.old) (⟦<MemDisk as Disk>⟧.faults self.new) result }
         ensures quiet { OnOk result (⟦<MemDisk as Disk>⟧.faults self.new ≡ ⟦<MemDisk as Disk>⟧.faults self.old) }
+        ensures once { OnErr result (⟦<MemDisk as Disk>⟧.faults self.new ≡ raised 1 (⟦<MemDisk as Disk>⟧.faults self.old)) }
 
         // A listed read fails; any other gives as much as there is room for.
         ensures listed { FailsNext self.old.counted → IsErr result }
@@ -112,6 +114,7 @@ impl Disk for MemDisk {
         ensures moment { Passes (⟦<MemDisk as Disk>⟧.trace self.old) (⟦<MemDisk as Disk>⟧.trace self.new) (⟦<MemDisk as Disk>⟧.moment self.old) (⟦<MemDisk as Disk>⟧.moment self.new) }
         ensures cause { HasCause (⟦<MemDisk as Disk>⟧.faults self.old) (⟦<MemDisk as Disk>⟧.faults self.new) result }
         ensures quiet { OnOk result (⟦<MemDisk as Disk>⟧.faults self.new ≡ ⟦<MemDisk as Disk>⟧.faults self.old) }
+        ensures once { OnErr result (⟦<MemDisk as Disk>⟧.faults self.new ≡ raised 1 (⟦<MemDisk as Disk>⟧.faults self.old)) }
 
         // A listed write fails, and one that finds no memory, which changes nothing but the count.
         ensures listed { FailsNext self.old.counted → IsErr result }
@@ -134,6 +137,7 @@ impl Disk for MemDisk {
         ensures moment { Passes (⟦<MemDisk as Disk>⟧.trace self.old) (⟦<MemDisk as Disk>⟧.trace self.new) (⟦<MemDisk as Disk>⟧.moment self.old) (⟦<MemDisk as Disk>⟧.moment self.new) }
         ensures cause { HasCause (⟦<MemDisk as Disk>⟧.faults self.old) (⟦<MemDisk as Disk>⟧.faults self.new) result }
         ensures quiet { OnOk result (⟦<MemDisk as Disk>⟧.faults self.new ≡ ⟦<MemDisk as Disk>⟧.faults self.old) }
+        ensures once { OnErr result (⟦<MemDisk as Disk>⟧.faults self.new ≡ raised 1 (⟦<MemDisk as Disk>⟧.faults self.old)) }
 
         // A listed sync fails, and one that finds no memory, which changes nothing but the count.
         ensures listed { FailsNext self.old.counted → IsErr result }

@@ -1,7 +1,7 @@
 //! Which calls of an object in memory are to fail, and how many have.
 
-ghost use Rattle.std.specs.Prelude.{◌≡◌, ◌↔◌, ◌≤◌, IsErr, OnOk};
-ghost use Rattle.farm_base.specs.Counts.{HasCause, Rose};
+ghost use Rattle.std.specs.Prelude.{◌≡◌, ◌↔◌, ◌≤◌, IsErr, OnErr, OnOk};
+ghost use Rattle.farm_base.specs.Counts.{HasCause, Rose, raised};
 ghost use Rattle.farm_ports.specs.Objects.{CountsCall, FailsNext, no_calls};
 
 use crate::Failed;
@@ -40,6 +40,7 @@ impl FailingCalls {
         ensures listed { IsErr result ↔ FailsNext self.old }
         ensures cause { HasCause self.old.faults self.new.faults result }
         ensures quiet { OnOk result (self.new.faults ≡ self.old.faults) }
+        ensures once { OnErr result (self.new.faults ≡ raised 1 self.old.faults) }
         ensures counted { CountsCall self.old self.new }
     {
         self.made = self.made.saturating_add(1);
@@ -53,6 +54,7 @@ impl FailingCalls {
     pub fn fault(&mut self) -> Failed
         ensures rose { Rose self.old.faults self.new.faults }
         ensures never_falls { self.old.faults ≤ self.new.faults }
+        ensures once { self.new.faults ≡ raised 1 self.old.faults }
         ensures made { self.new.made ≡ self.old.made }
         ensures failing { self.new.failing ≡ self.old.failing }
     {

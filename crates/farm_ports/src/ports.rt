@@ -1,5 +1,5 @@
 ghost use Rattle.std.specs.Prelude.{◌≡◌, ◌≤◌, ℕ, List, OnOk, Option};
-ghost use Rattle.farm_base.specs.Counts.{HasCause, Rose};
+ghost use Rattle.farm_base.specs.Counts.{HasCause, Rose, raised};
 ghost use Rattle.farm_base.specs.Known.{Stream};
 ghost use Rattle.farm_ports.specs.Ports.{PutGives, TakeGives};
 
@@ -15,6 +15,7 @@ impl Failed {
     pub fn counted_in(faults: &mut u64) -> Self
         ensures rose { Rose faults.old faults.new }
         ensures never_falls { faults.old ≤ faults.new }
+        ensures once { faults.new ≡ raised 1 faults.old }
     {
         *faults = faults.saturating_add(1);
         Failed
