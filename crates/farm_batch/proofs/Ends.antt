@@ -33,7 +33,7 @@ ends {D} {faults} {may_give} {limit} {before} {after} {from} {between} {to} in_h
       asks = record { answered = so_far.answered; lines = taken.takes; few = omega (arith, few, so_far.next); short = taken.short };
       left = so_far.left;
       counted = so_far.counted;
-      disk_quiet = so_far.disk_quiet;
+      disk_counted = so_far.disk_counted;
       acknowledged = so_far.acknowledged;
       untouched = so_far.untouched;
       put = inl so_far.put;
@@ -64,7 +64,7 @@ ends_with {D} {faults} {may_give} {limit} {before} {middle} {after} {from} {betw
       };
       left = more.left;
       counted = more.counted;
-      disk_quiet = more.disk_quiet;
+      disk_counted = more.disk_counted;
       acknowledged = more.acknowledged;
       untouched = more.untouched;
       put = put;

@@ -1,13 +1,14 @@
 -- Steps, and one step more after them.
-use Rattle.std.proofs.Common.{◌≡◌, ◌≢◌, inl, inr, ℕ, suc, ◌+◌, ◌≤◌, All, false, List, [], ◌∷◌, ◌++◌, length, Some, ℤ, refl, ap, ◌∙◌, append-nil, arith, length-append}
+use Rattle.std.proofs.Common.{◌≡◌, inl, inr, ℕ, suc, ◌+◌, ◌≤◌, All, false, List, [], ◌∷◌, ◌++◌, length, Some, ℤ, refl, sym, ap, ◌∙◌, append-nil, arith, length-append}
 use Rattle.std.proofs.lemmas.List.{map-append}
 use Rattle.std.proofs.lemmas.Grind.{flat_map-append}
 use Rattle.std.proofs.lemmas.List.Elements.{All-append, All-cons, All-nil, All-pop, All-push, All-weaker}
 use Rattle.batch_lines.specs.declared.limits.TheConstants.{LINE_FEED}
 use Rattle.batch_lines.specs.Lines.{ended}
-use Rattle.farm_base.specs.Counts.{RoseBy}
+use Rattle.farm_base.proofs.Rises.{faults_add_up}
+use Rattle.farm_base.specs.Counts.{raised}
 use Rattle.farm_history.specs.History.{History, last_place}
-use Rattle.farm_batch.specs.Answers.{AnswersEach, AnswersLine, AreAcknowledged, AsksNothing, HaveNoFault, IsReply, Step, answer_text, answers_text, disk_fault, faults_in, faults_of, history_after}
+use Rattle.farm_batch.specs.Answers.{AnswersEach, AnswersLine, AreAcknowledged, AsksNothing, IsReply, Step, answer_text, answers_text, faults_in, faults_of, history_after}
 use Rattle.farm_batch.specs.Batches.{GoesOn, lines_of}
 
 -- the lines of steps and of one more
@@ -52,9 +53,11 @@ faults_in-more [] step = omega arith
 faults_in-more (first ∷ steps) step = omega (arith, faults_in-more steps step)
 
 -- a count that rose by the faults in steps, and then by those of one more step, rose by those in all of them
-pub counted_more : (steps : List Step) (step : Step) (before middle after : ℕ) → RoseBy (faults_in steps) before middle →
-    RoseBy (faults_of step.page) middle after → RoseBy (faults_in (steps ++ step ∷ [])) before after
-counted_more steps step before middle after first second = omega (arith, first, second, faults_in-more steps step)
+pub counted_more : (steps : List Step) (step : Step) (before middle after : ℕ) → middle ≡ raised (faults_in steps) before →
+    after ≡ raised (faults_of step.page) middle → after ≡ raised (faults_in (steps ++ step ∷ [])) before
+counted_more steps step before middle after first second =
+    second ∙ ap (λ count. raised (faults_of step.page) count) first ∙ sym (faults_add_up (faults_in steps) (faults_of step.page) before)
+    ∙ ap (λ count. raised count before) (sym (faults_in-more steps step))
 
 -- steps whose replies rest on as many entries, and one more, where there may be more entries
 pub acknowledged_more : (most more : ℕ) (steps : List Step) (step : Step) → most ≤ more → AreAcknowledged most steps →
@@ -68,7 +71,3 @@ acknowledged_more most more steps step fewer each last =
 pub ask_nothing_more : (steps : List Step) (step : Step) → All AsksNothing (lines_of (steps ++ step ∷ [])) → All AsksNothing (lines_of steps) × AsksNothing step.line
 ask_nothing_more steps step nothing =
     All-pop AsksNothing (lines_of (steps ++ step ∷ [])) (lines_of steps) (Some step.line) (lines_of-more steps step) nothing
-
--- where none of these lines was answered with a fault of the disk, neither were those before nor the last one
-pub no_fault_more : (steps : List Step) (step : Step) → HaveNoFault (steps ++ step ∷ []) → HaveNoFault steps × (step.page ≢ disk_fault)
-no_fault_more steps step none = All-pop (λ (step : Step). step.page ≢ disk_fault) (steps ++ step ∷ []) steps (Some step) refl none

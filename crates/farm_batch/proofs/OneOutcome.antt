@@ -50,7 +50,7 @@ long_after : (limit : ℕ) (history : History) (lines : List (List ℕ)) (text m
 long_after limit history lines text more (inl many) = long_after_lines limit history (length lines) (length (ended lines)) text more many.0 many.1
 long_after limit history lines text more (inr many) = long_after_bytes limit history (length lines) (length (ended lines)) text more many
 
--- no byte is too many where there is none
+-- where there are no bytes, no byte is one too many
 no_byte : (before : ℕ) → ¬ (HasByteTooMany before [])
 no_byte before many =
     let none : length {A = ℕ} [] ≡ length (many.front ++ many.byte ∷ many.back) = ap length many.split in

@@ -1,11 +1,14 @@
 -- What is put of the answer to a line.
-use Rattle.std.proofs.Common.{◌≡◌, ◌≢◌, inl, inr, ℕ, ◌≤◌, Bool, true, false, List, take, Option, None, Some, Result, Ok, Err, ℤ, refl, subst, arith, IsErr}
-use Rattle.farm_base.specs.Counts.{Count, HasRisen, RoseBy}
+use Rattle.std.proofs.Common.{◌≡◌, ◌≢◌, inl, inr, ℕ, ◌≤◌, ◌==◌, Bool, true, false, List, take, Option, None, Some, Result, Ok, Err, ℤ, refl, ap, subst, ◌∙◌, IsErr}
+use Rattle.std.proofs.lemmas.Bool.{eqb-true}
+use Rattle.farm_base.proofs.BoolTests.{cases_Bool}
+use Rattle.farm_base.specs.Counts.{Count, HasRisen, raised}
 use Rattle.farm_base.specs.Known.{Adds}
 use Rattle.farm_desk.specs.Histories.{certain}
 use Rattle.farm_desk.specs.States.{DeskState}
 use Rattle.farm_history.specs.History.{History, last_place}
 use Rattle.farm_http.specs.declared.page.Page.{Page}
+use Rattle.farm_http.specs.declared.page.Page.TheVariants as pages
 use Rattle.farm_batch.specs.declared.batch.BatchEnd.{BatchEnd}
 use Rattle.farm_batch.specs.declared.batch.BatchEnd.TheVariants.{Done, Failed}
 use Rattle.farm_batch.specs.Answers.{AsksNothing, IsReply, LineAnswer, MeetsLine, Step, answer_text, disk_fault, faults_of, line_answer, out_of_memory}
@@ -26,30 +29,39 @@ lacking before after meant page stops meets line = elim (meets line) [
   ]
 ]
 
--- a count that rose by some has risen by none
-counted_none : (some before now : ℕ) → RoseBy some before now → RoseBy 0 before now
-counted_none some before now rose = omega (arith, rose)
+-- a page that isn't a fault of the disk counts none
+no_fault : (page : Page) → page ≢ disk_fault → faults_of page ≡ 0
+no_fault (pages.Reply reply) other = refl
+no_fault (pages.Status status (Some allow)) other = refl
+no_fault (pages.Status status None) other = elim (cases_Bool (status == 503)) [
+  | inl is ↦ absurd (other (ap (λ status. pages.Status status None) (eqb-true status 503 is)))
+  | inr other ↦ rw other refl
+]
+
+-- a count that rose by the faults of such a page stands as it was
+not_counted : (page : Page) (before now : ℕ) → page ≢ disk_fault → now ≡ raised (faults_of page) before → now ≡ before
+not_counted page before now other is = is ∙ ap (λ count. raised count before) (no_fault page other)
 
 module _ {D : Type 0} (faults : D → ℕ) (may_give : ℤ → Type 0) (limit : ℕ) (before after : DeskState D) (line : List ℕ) (now : ℤ) (given : may_give now)
     (surer : certain before.doubt before.history ≤ certain after.doubt after.history) (untouched : AsksNothing line → after ≡ before)
     (old new : Option (List ℕ)) (sink : Count) where
-  -- the disk counted no fault, unless a page is a fault of the disk
-  abbrev DiskQuiet : Page → Type 0
-  DiskQuiet page = page ≢ disk_fault → faults after.disk ≡ faults before.disk
+  -- the disk counted the faults of a page
+  abbrev DiskCounted : Page → Type 0
+  DiskCounted page = faults after.disk ≡ raised (faults_of page) (faults before.disk)
 
   -- a line whose answer meets what is meant, and of which this was put
   answers : (page : Page) (stops : Bool) → MeetsLine before.history after.history (line_answer limit before.history now line) page stops →
-      RoseBy (faults_of page) before.failed after.failed → DiskQuiet page →
+      after.failed ≡ raised (faults_of page) before.failed → DiskCounted page →
       (IsReply page → last_place after.history ≤ certain after.doubt after.history) →
       (end : Option BatchEnd) → PutsStep (step_of line page after.history stops) old new sink end →
       Answers faults may_give limit before after line old new sink end
-  answers page stops meets counted disk_quiet acknowledged end puts = record {
+  answers page stops meets counted disk_counted acknowledged end puts = record {
     step = step_of line page after.history stops;
     line_is = refl;
     history_is = refl;
     answered = record { now = now; given = given; meets = meets line };
     counted = counted;
-    disk_quiet = disk_quiet;
+    disk_counted = disk_counted;
     acknowledged = acknowledged;
     surer = surer;
     untouched = untouched;
@@ -57,22 +69,23 @@ module _ {D : Type 0} (faults : D → ℕ) (may_give : ℤ → Type 0) (limit : 
   }
 
   module _ (page : Page) (stops : Bool) (meets : MeetsLine before.history after.history (line_answer limit before.history now line) page stops)
-      (counted : RoseBy (faults_of page) before.failed after.failed) (disk_quiet : DiskQuiet page)
+      (counted : after.failed ≡ raised (faults_of page) before.failed) (disk_counted : DiskCounted page)
       (acknowledged : IsReply page → last_place after.history ≤ certain after.doubt after.history) where
     -- an answer that was put whole ends the batch
     pub ends : Adds old new (answer_text page) → stops ≡ true → Answers faults may_give limit before after line old new sink (Some Done)
-    ends added is = answers page stops meets counted disk_quiet acknowledged (Some Done) (is, added)
+    ends added is = answers page stops meets counted disk_counted acknowledged (Some Done) (is, added)
 
     -- or the batch goes on after it
     pub goes_on : Adds old new (answer_text page) → stops ≡ false → Answers faults may_give limit before after line old new sink None
-    goes_on added is = answers page stops meets counted disk_quiet acknowledged None (is, added)
+    goes_on added is = answers page stops meets counted disk_counted acknowledged None (is, added)
 
     -- what out of memory in place of an answer is, whatever was put
     lacks : page ≢ disk_fault → (end : Option BatchEnd) → PutsStep (step_of line out_of_memory after.history false) old new sink end →
         Answers faults may_give limit before after line old new sink end
     lacks other end puts =
         answers out_of_memory false (lacking before.history after.history _ page stops meets)
-        (counted_none (faults_of page) before.failed after.failed counted) (λ memory. disk_quiet other) (λ reply. absurd reply) end puts
+        (not_counted page before.failed after.failed other counted) (not_counted page (faults before.disk) (faults after.disk) other disk_counted)
+        (λ reply. absurd reply) end puts
 
     -- the batch goes on after out of memory was put in place of an answer
     pub lacks_memory : page ≢ disk_fault → Adds old new (answer_text out_of_memory) → Answers faults may_give limit before after line old new sink None
@@ -84,7 +97,7 @@ module _ {D : Type 0} (faults : D → ℕ) (may_give : ℤ → Type 0) (limit : 
     fails shown which count added risen =
         let Puts : Page → Type 0 = λ page. Adds old new (take count (answer_text page)) in
         elim which [
-          | inl same ↦ answers page stops meets counted disk_quiet acknowledged (Some Failed) (risen, count, subst Puts same added)
+          | inl same ↦ answers page stops meets counted disk_counted acknowledged (Some Failed) (risen, count, subst Puts same added)
           | inr lacking ↦ lacks lacking.1 (Some Failed) (risen, count, subst Puts lacking.0 added)
         ]
 

@@ -1,7 +1,7 @@
 -- A batch so far, and how it goes on.
 use Rattle.std.proofs.Common.{◌≡◌, ℕ, ◌+◌, ◌≤◌, All, false, List, [], ◌∷◌, ◌++◌, length, Option, None, Some, ℤ, refl, sym, ap, subst, ◌∙◌, append-nil, arith}
 use Rattle.std.proofs.lemmas.List.Elements.{All-nil}
-use Rattle.farm_base.specs.Counts.{Count, IsQuiet, Rose, RoseBy}
+use Rattle.farm_base.specs.Counts.{Count, IsQuiet, Rose, raised}
 use Rattle.farm_base.specs.Known.{Adds, Stream}
 use Rattle.farm_base.proofs.Additions.{additions_add_up}
 use Rattle.batch_lines.specs.Reader.{Reading, ReadsLine}
@@ -9,9 +9,9 @@ use Rattle.farm_desk.specs.Histories.{certain}
 use Rattle.farm_desk.specs.States.{DeskState}
 use Rattle.farm_history.specs.History.{History, last_place}
 use Rattle.farm_batch.specs.declared.batch.BatchEnd.{BatchEnd}
-use Rattle.farm_batch.specs.Answers.{AnswersEach, AnswersLine, AreAcknowledged, AsksNothing, HaveNoFault, IsReply, Step, answer_text, answers_text, faults_in, history_after}
+use Rattle.farm_batch.specs.Answers.{AnswersEach, AnswersLine, AreAcknowledged, AsksNothing, IsReply, Step, answer_text, answers_text, faults_in, history_after}
 use Rattle.farm_batch.specs.Batches.{Answers, GoesOn, lines_of}
-use Rattle.farm_batch.proofs.MoreSteps.{acknowledged_more, answers_more, answers_text-more, ask_nothing_more, counted_more, goes_on-more, history_after-more, length-more, lines_of-more, no_fault_more}
+use Rattle.farm_batch.proofs.MoreSteps.{acknowledged_more, answers_more, answers_text-more, ask_nothing_more, counted_more, goes_on-more, history_after-more, length-more, lines_of-more}
 use Rattle.farm_batch.proofs.Taken.{IsRead, read_line, read_none}
 
 -- The batch so far: the lines that were asked, of which none ended it, what was read and what was put. The line of this number is next.
@@ -21,8 +21,8 @@ pub record SoFar {D : Type 0} (faults : D → ℕ) (may_give : ℤ → Type 0) (
   pub answered : AnswersEach may_give limit before.history steps
   pub goes_on : GoesOn steps
   pub left : after.history ≡ history_after before.history steps
-  pub counted : RoseBy (faults_in steps) before.failed after.failed
-  pub disk_quiet : HaveNoFault steps → faults after.disk ≡ faults before.disk
+  pub counted : after.failed ≡ raised (faults_in steps) before.failed
+  pub disk_counted : faults after.disk ≡ raised (faults_in steps) (faults before.disk)
   pub acknowledged : AreAcknowledged (certain after.doubt after.history) steps
   pub untouched : All AsksNothing (lines_of steps) → after ≡ before
   pub read : IsRead from to (lines_of steps) reading
@@ -40,10 +40,6 @@ adds_none : (held : Option (List ℕ)) → Adds held held []
 adds_none None = tt
 adds_none (Some held) = sym (append-nil held)
 
--- a count that stands still rose by none
-rose_by_none : (count : ℕ) → RoseBy 0 count count
-rose_by_none count = omega arith
-
 -- the batch before its first line
 pub at_start : {D : Type 0} (faults : D → ℕ) (may_give : ℤ → Type 0) (limit : ℕ) (desk : DeskState D) (from : Option Stream) (source_faults : ℕ) (old : Option (List ℕ))
     (sink_faults : ℕ) (reading : Reading) → reading.in_hand ≡ [] → reading.passed ≡ 0 →
@@ -54,8 +50,8 @@ at_start faults may_give limit desk from source_faults old sink_faults reading i
       answered = tt;
       goes_on = All-nil (λ (step : Step). step.stops ≡ false);
       left = refl;
-      counted = rose_by_none desk.failed;
-      disk_quiet = λ none. refl;
+      counted = refl;
+      disk_counted = refl;
       acknowledged = All-nil (λ (step : Step). IsReply step.page → last_place step.history ≤ certain desk.doubt desk.history);
       untouched = λ nothing. refl;
       read = read_none from reading in_hand passed;
@@ -69,8 +65,8 @@ at_start faults may_give limit desk from source_faults old sink_faults reading i
 pub record WithStep {D : Type 0} (faults : D → ℕ) (may_give : ℤ → Type 0) (limit : ℕ) (before after : DeskState D) (front : List Step) (step : Step) (line : List ℕ) : Type 0 where
   pub answered : AnswersEach may_give limit before.history (front ++ step ∷ [])
   pub left : after.history ≡ history_after before.history (front ++ step ∷ [])
-  pub counted : RoseBy (faults_in (front ++ step ∷ [])) before.failed after.failed
-  pub disk_quiet : HaveNoFault (front ++ step ∷ []) → faults after.disk ≡ faults before.disk
+  pub counted : after.failed ≡ raised (faults_in (front ++ step ∷ [])) before.failed
+  pub disk_counted : faults after.disk ≡ raised (faults_in (front ++ step ∷ [])) (faults before.disk)
   pub acknowledged : AreAcknowledged (certain after.doubt after.history) (front ++ step ∷ [])
   pub untouched : All AsksNothing (lines_of (front ++ step ∷ [])) → after ≡ before
   pub lines : lines_of front ++ line ∷ [] ≡ lines_of (front ++ step ∷ [])
@@ -92,7 +88,7 @@ with_step {D} {faults} {may_give} {limit} {before} {middle} {after} {from} {betw
       answered = answers_more may_give limit before.history front step so_far.answered so_far.goes_on (subst After so_far.left answers.answered);
       left = sym answers.history_is ∙ sym (history_after-more before.history front step);
       counted = counted_more front step before.failed middle.failed after.failed so_far.counted answers.counted;
-      disk_quiet = λ none. let each = no_fault_more front step none in answers.disk_quiet each.1 ∙ so_far.disk_quiet each.0;
+      disk_counted = counted_more front step (faults before.disk) (faults middle.disk) (faults after.disk) so_far.disk_counted answers.disk_counted;
       acknowledged = acknowledged_more (certain middle.doubt middle.history) (certain after.doubt after.history) front step answers.surer so_far.acknowledged rests;
       untouched = λ nothing.
           let each = ask_nothing_more front step nothing in
@@ -128,7 +124,7 @@ goes_on {D} {faults} {may_give} {limit} {before} {middle} {after} {from} {betwee
       goes_on = goes_on-more so_far.steps step so_far.goes_on answers.puts.0;
       left = more.left;
       counted = more.counted;
-      disk_quiet = more.disk_quiet;
+      disk_counted = more.disk_counted;
       acknowledged = more.acknowledged;
       untouched = more.untouched;
       read = subst (λ (lines : List (List ℕ)). IsRead from to lines next_reading) more.lines (read_line so_far.read reads);

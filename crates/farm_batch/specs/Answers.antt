@@ -1,5 +1,5 @@
 -- What a line of a batch is answered with, and what lines are answered with one after another.
-use Rattle.std.specs.Prelude.{◌≡◌, ◌≢◌, ◌⊎◌, ℕ, ◌+◌, ◌≤◌, ◌==◌, nat_lt, All, Bool, true, false, if◌then◌else◌, List, [], ◌∷◌, ◌++◌, flat_map, length, take, Option, None, Some, ℤ}
+use Rattle.std.specs.Prelude.{◌≡◌, ◌⊎◌, ℕ, ◌+◌, ◌≤◌, ◌==◌, nat_lt, All, Bool, true, false, if◌then◌else◌, List, [], ◌∷◌, ◌++◌, flat_map, length, take, Option, None, Some, ℤ}
 use Rattle.farm_history.specs.declared.ask.Ask.{Ask}
 use Rattle.farm_history.specs.declared.ask.Ask.TheVariants.{Do, Look}
 use Rattle.farm_history.specs.Commands.{is_stop}
@@ -103,19 +103,16 @@ AnswersEach may_give limit before [] = Unit {0}
 AnswersEach may_give limit before (step ∷ steps) =
     AnswersLine may_give limit before step × ((step.stops ≡ false) ⊎ (steps ≡ [])) × AnswersEach may_give limit step.history steps
 
--- how many faults of the disk a page is: one for that status, and none for any other page
+-- how many faults of the disk a page is: 1 where it is that answer, and 0 for any other
 abbrev pub faults_of : Page → ℕ
 faults_of (pages.Reply reply) = 0
-faults_of (pages.Status status allow) = if status == 503 then 1 else 0
+faults_of (pages.Status status None) = if status == 503 then 1 else 0
+faults_of (pages.Status status (Some allow)) = 0
 
 -- how many lines were answered with a fault of the disk
 abbrev pub faults_in : List Step → ℕ
 faults_in [] = 0
 faults_in (step ∷ steps) = faults_of step.page + faults_in steps
-
--- no line was answered with a fault of the disk
-abbrev pub HaveNoFault : List Step → Type 0
-HaveNoFault steps = All (λ step. step.page ≢ disk_fault) steps
 
 -- a page is a reply of the desk
 abbrev pub IsReply : Page → Type 0

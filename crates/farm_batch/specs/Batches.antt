@@ -1,6 +1,6 @@
 -- What a batch does over its ports.
 use Rattle.std.specs.Prelude.{◌≡◌, ◌≢◌, ◌⊎◌, ℕ, ◌+◌, ◌≤◌, All, true, false, Bool, List, [], length, take, map, Option, None, Some, Result, Ok, Err, ℤ}
-use Rattle.farm_base.specs.Counts.{Count, HasRisen, IsQuiet, RoseBy}
+use Rattle.farm_base.specs.Counts.{Count, HasRisen, IsQuiet, raised}
 use Rattle.farm_base.specs.Known.{Adds, Stream, Takes}
 use Rattle.farm_desk.specs.Histories.{certain}
 use Rattle.farm_desk.specs.States.{DeskState}
@@ -9,7 +9,7 @@ use Rattle.farm_batch.specs.declared.batch.BatchEnd.{BatchEnd}
 use Rattle.farm_batch.specs.declared.batch.BatchEnd.TheVariants.{Done, Long, Failed}
 use Rattle.farm_batch.specs.declared.limits.TheConstants.{MOST_LINES}
 use Rattle.farm_http.specs.declared.page.Page.{Page}
-use Rattle.farm_batch.specs.Answers.{AnswersEach, AnswersLine, AreAcknowledged, AsksNothing, EndsInStop, HaveNoFault, IsCutAtLast, IsReply, Step, answer_text, answers_text, disk_fault, faults_in, faults_of, history_after, out_of_memory}
+use Rattle.farm_batch.specs.Answers.{AnswersEach, AnswersLine, AreAcknowledged, AsksNothing, EndsInStop, IsCutAtLast, IsReply, Step, answer_text, answers_text, disk_fault, faults_in, faults_of, history_after, out_of_memory}
 use Rattle.batch_lines.specs.declared.limits.TheConstants.{MOST_BYTES}
 use Rattle.batch_lines.specs.Lines.{BeginsWith, EndsWithin, HasByteTooMany, ended}
 use Rattle.batch_lines.specs.Reader.{AtEnd}
@@ -58,10 +58,9 @@ pub record Batch {D : Type 0} (faults : D → ℕ) (may_give : ℤ → Type 0) (
   pub moved : Takes from to taken
   pub asks : Asks may_give limit before.history taken in_hand to steps
   pub left : after.history ≡ history_after before.history steps
-  -- the desk counted no fewer faults than were answered
-  pub counted : RoseBy (faults_in steps) before.failed after.failed
-  -- where no line was answered with a fault of the disk, it counted none
-  pub disk_quiet : HaveNoFault steps → faults after.disk ≡ faults before.disk
+  -- the desk, and its disk, counted just as many faults as lines were answered with one: none is answered otherwise
+  pub counted : after.failed ≡ raised (faults_in steps) before.failed
+  pub disk_counted : faults after.disk ≡ raised (faults_in steps) (faults before.disk)
   -- no reply rests on an entry that is in doubt at the end
   pub acknowledged : AreAcknowledged (certain after.doubt after.history) steps
   -- where no line asks anything, the desk stays as it was
@@ -95,8 +94,8 @@ pub record Answers {D : Type 0} (faults : D → ℕ) (may_give : ℤ → Type 0)
   pub line_is : step.line ≡ line
   pub history_is : step.history ≡ after.history
   pub answered : AnswersLine may_give limit before.history step
-  pub counted : RoseBy (faults_of step.page) before.failed after.failed
-  pub disk_quiet : step.page ≢ disk_fault → faults after.disk ≡ faults before.disk
+  pub counted : after.failed ≡ raised (faults_of step.page) before.failed
+  pub disk_counted : faults after.disk ≡ raised (faults_of step.page) (faults before.disk)
   pub acknowledged : IsReply step.page → last_place after.history ≤ certain after.doubt after.history
   pub surer : certain before.doubt before.history ≤ certain after.doubt after.history
   pub untouched : AsksNothing line → after ≡ before

@@ -23,7 +23,7 @@ cause_of (Ok reply) answer P is follows fault = absurd cc
 cause_of (Err unanswered.DiskFault) answer P is follows fault = follows refl
 cause_of (Err unanswered.NoMemory) answer P is follows fault = absurd cc
 
--- what follows where there was none follows where the answer is none
+-- what follows where there was no fault follows where the answer isn't one
 pub quiet_of : (replied : Result Reply Unanswered) (answer : Answer) (P : Type 0) → answer ≡ answer_of replied → (replied ≢ Err unanswered.DiskFault → P) →
     answer ≢ DiskFault → P
 quiet_of (Ok reply) answer P is follows none = follows (λ fault. absurd cc)
@@ -37,7 +37,7 @@ counted_on (Done reply) failed after before between now counted is rose later = 
 counted_on DiskFault failed after before between now counted is rose later = omega (arith, counted, is, rose refl)
 counted_on NoMemory failed after before between now counted is rose later = omega (arith, counted, is, later)
 
--- and where the answer is none the count stays
+-- and where the answer isn't a fault the count stays
 pub not_counted : (answer : Answer) (failed after : ℕ) → after ≡ min (failed + faults_of answer) (2 ^ 64 - 1) → failed < 2 ^ 64 → answer ≢ DiskFault →
     after ≡ failed
 not_counted (Done reply) failed after is fits none = omega (arith, is, fits)

@@ -1,6 +1,6 @@
 -- What holds of the disk that a desk hands out.
 use Rattle.std.proofs.Common.{◌≡◌, ◌∙◌, ℕ, ◌+◌, Bool, true, false, List, Option, Result, Ok, Err, OnErr, OnOk, inl, is_err, refl, sym, ap, subst}
-use Rattle.farm_base.specs.Counts.{Rose, RoseBy}
+use Rattle.farm_base.specs.Counts.{Rose, RoseBy, raised}
 use Rattle.farm_disk.specs.Images.{State}
 use Rattle.farm_disk.specs.Runs.{EachNow, EachSince, Extends}
 use Rattle.farm_history.specs.History.{History}
@@ -55,6 +55,10 @@ module _ {D : Type 0} (trace : D → Option (List State)) (limit : ℕ) (view de
   -- and stayed where it did
   pub finished_quiet : (faults : D → ℕ) → faults settled ≡ faults view.disk → faults out ≡ faults desk.disk
   finished_quiet faults quiet = ap faults is ∙ quiet ∙ ap (λ (d : DeskState D). faults d.disk) same
+
+  -- and counted one fault where it did
+  pub finished_once : (faults : D → ℕ) → faults settled ≡ raised 1 (faults view.disk) → faults out ≡ raised 1 (faults desk.disk)
+  finished_once faults once = ap faults is ∙ once ∙ ap (λ (d : DeskState D). raised 1 (faults d.disk)) same
 
   -- where it rose, the disk counted one fault more than were answered
   pub finished_counted : (faults : D → ℕ) → RoseBy view.failed view.opened.faults (faults view.disk) → Rose (faults view.disk) (faults settled) →

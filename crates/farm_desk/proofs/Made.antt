@@ -75,7 +75,7 @@ where_recovered limit recovered history (Some states) is recordable taken =
     let both = subst (λ recovered. IsRecovered (accepted_next limit) (taken_of recovered) (present states).seen) (sym is) taken in
     record { journal = both.0; recordable = recordable }
 
--- what a crash leaves of a journal that is made is none, or stands for the history of its site without an entry
+-- what a crash leaves of a journal that is made is no journal, or stands for the history of its site without an entry
 pub crash_safe : (limit : ℕ) (site : Described) (header : List ℕ) (old new : Option (List State)) → header ≡ site_encoding site → IsSite site →
     IsJournalCrashSafe header old new → IsCrashSafe limit site old new
 crash_safe limit site header old new header_is sound safe = λ short.

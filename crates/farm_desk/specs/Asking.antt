@@ -22,7 +22,7 @@ IsAnswered old new doubt answered (Done reply) = (reply ≡ answered.reply) × (
 IsAnswered old new doubt answered DiskFault = (new ≡ old) ⊎ ((new ≡ answered.history) × (doubt ≡ true))
 IsAnswered old new doubt answered NoMemory = new ≡ old
 
--- the answer of a reply, or of why there is none
+-- the answer of a reply, or of the reason why there is no reply
 abbrev pub answer_of : Result Reply Unanswered → Answer
 answer_of (Ok reply) = Done reply
 answer_of (Err unanswered.DiskFault) = DiskFault

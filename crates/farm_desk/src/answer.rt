@@ -58,7 +58,7 @@ impl From<NoMemory> for Unanswered {
     }
 }
 
-// The answer of a reply, or of why there is none.
+// The answer of a reply, or of the reason why there is no reply.
 pub(crate) fn answer_of(replied: Result<Reply, Unanswered>) -> Answer
     ensures answer { result ≡ answer_of replied }
 {

@@ -2,7 +2,7 @@
 //! entered.
 
 ghost use Rattle.std.specs.Prelude.{◌≡◌, ◌≢◌, ◌≤◌, ◌≤ℤ◌, Err, false, IfOk, OnOk, is_err};
-ghost use Rattle.farm_base.specs.Counts.{Rose};
+ghost use Rattle.farm_base.specs.Counts.{Rose, raised};
 ghost use Rattle.farm_disk.specs.Runs.{EachSince, Extends};
 ghost use Rattle.farm_history.specs.Commands.{IsWellFormedCommand};
 ghost use Rattle.farm_history.specs.Desk.{IsWellFormedAsk, answered_on, brought_into_range, desk_answer, later_of, stamped};
@@ -37,6 +37,7 @@ impl<D: Disk, const LIMIT: usize> Records<D, LIMIT> {
         ensures never_falls { D.faults self.old.journal.disk ≤ D.faults self.new.journal.disk }
         ensures cause { result ≡ Err Unanswered.DiskFault → Rose (D.faults self.old.journal.disk) (D.faults self.new.journal.disk) }
         ensures quiet { result ≢ Err Unanswered.DiskFault → D.faults self.new.journal.disk ≡ D.faults self.old.journal.disk }
+        ensures once { result ≡ Err Unanswered.DiskFault → D.faults self.new.journal.disk ≡ raised 1 (D.faults self.old.journal.disk) }
     {
         self.settle()?;
         match ask {
@@ -85,6 +86,7 @@ impl<D: Disk, const LIMIT: usize> Records<D, LIMIT> {
         ensures never_falls { D.faults self.old.journal.disk ≤ D.faults self.new.journal.disk }
         ensures cause { result ≡ Err Unanswered.DiskFault → Rose (D.faults self.old.journal.disk) (D.faults self.new.journal.disk) }
         ensures quiet { result ≢ Err Unanswered.DiskFault → D.faults self.new.journal.disk ≡ D.faults self.old.journal.disk }
+        ensures once { result ≡ Err Unanswered.DiskFault → D.faults self.new.journal.disk ≡ raised 1 (D.faults self.old.journal.disk) }
     {
         match self.book.judge(&entry) {
             Verdict::Repeat(place) => Ok(self.book.reply_at(place)),

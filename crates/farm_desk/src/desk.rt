@@ -1,7 +1,7 @@
 //! The desk.
 
 ghost use Rattle.std.specs.Prelude.{◌≡◌, ◌≢◌, ◌+◌, ◌≤◌, false, true};
-ghost use Rattle.farm_base.specs.Counts.{Rose, RoseBy};
+ghost use Rattle.farm_base.specs.Counts.{Rose, RoseBy, raised};
 ghost use Rattle.farm_disk.specs.Runs.{EachNow, Extends};
 ghost use Rattle.farm_history.specs.Desk.{IsWellFormedAsk, desk_answer};
 ghost use Rattle.farm_history.specs.History.{last_place};
@@ -90,6 +90,7 @@ impl<D: Disk, const LIMIT: usize> Desk<D, LIMIT> {
         ensures never_falls { D.faults self.old.disk ≤ D.faults self.new.disk }
         ensures cause { result ≡ Answer.DiskFault → Rose (D.faults self.old.disk) (D.faults self.new.disk) }
         ensures quiet { result ≢ Answer.DiskFault → D.faults self.new.disk ≡ D.faults self.old.disk }
+        ensures once { result ≡ Answer.DiskFault → D.faults self.new.disk ≡ raised 1 (D.faults self.old.disk) }
         ensures failed { result ≡ Answer.DiskFault → self.new.failed ≡ one_more self.old.failed }
         ensures not_failed { result ≢ Answer.DiskFault → self.new.failed ≡ self.old.failed }
         ensures opened { self.new.opened ≡ self.old.opened }
@@ -143,6 +144,7 @@ impl<D: Disk, const LIMIT: usize> Desk<D, LIMIT> {
         ensures never_falls { D.faults self.disk ≤ D.faults result.0 }
         ensures cause { result.1 ≡ true → Rose (D.faults self.disk) (D.faults result.0) }
         ensures quiet { result.1 ≡ false → D.faults result.0 ≡ D.faults self.disk }
+        ensures once { result.1 ≡ true → D.faults result.0 ≡ raised 1 (D.faults self.disk) }
         ensures counted { RoseBy self.failed self.opened.faults (D.faults result.0) }
         ensures counted_once_more { result.1 ≡ true → RoseBy (self.failed + 1) self.opened.faults (D.faults result.0) }
     {

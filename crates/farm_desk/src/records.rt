@@ -1,7 +1,7 @@
 //! A book and its journal, and the steps in which a command is entered in both.
 
 ghost use Rattle.std.specs.Prelude.{◌≡◌, ◌≢◌, ◌+◌, ◌≤◌, ◌≤ℤ◌, false, true, None, Some, IfOk, OnErr, OnOk, is_err, length};
-ghost use Rattle.farm_base.specs.Counts.{HasCause};
+ghost use Rattle.farm_base.specs.Counts.{HasCause, raised};
 ghost use Rattle.farm_disk.specs.Runs.{EachSince, Extends};
 ghost use Rattle.farm_history.specs.Desk.{reply_at};
 ghost use Rattle.farm_history.specs.Encoding.{IsTyped, entry_encoding};
@@ -42,6 +42,7 @@ impl<D: Disk, const LIMIT: usize> Records<D, LIMIT> {
         ensures moment { D.moment self.old.journal.disk ≤ D.moment self.new.journal.disk }
         ensures cause { HasCause (D.faults self.old.journal.disk) (D.faults self.new.journal.disk) result }
         ensures quiet { OnOk result (D.faults self.new.journal.disk ≡ D.faults self.old.journal.disk) }
+        ensures once { OnErr result (D.faults self.new.journal.disk ≡ raised 1 (D.faults self.old.journal.disk)) }
     {
         if self.doubt {
             self.journal.open_gate()?;
@@ -80,6 +81,7 @@ impl<D: Disk, const LIMIT: usize> Records<D, LIMIT> {
         ensures moment { D.moment self.old.journal.disk ≤ D.moment self.new.journal.disk }
         ensures cause { HasCause (D.faults self.old.journal.disk) (D.faults self.new.journal.disk) result }
         ensures quiet { OnOk result (D.faults self.new.journal.disk ≡ D.faults self.old.journal.disk) }
+        ensures once { OnErr result (D.faults self.new.journal.disk ≡ raised 1 (D.faults self.old.journal.disk)) }
     {
         self.journal.put_body(&self.bytes)
     }
@@ -102,6 +104,7 @@ impl<D: Disk, const LIMIT: usize> Records<D, LIMIT> {
         ensures moment { D.moment self.old.journal.disk ≤ D.moment self.new.journal.disk }
         ensures cause { HasCause (D.faults self.old.journal.disk) (D.faults self.new.journal.disk) result }
         ensures quiet { OnOk result (D.faults self.new.journal.disk ≡ D.faults self.old.journal.disk) }
+        ensures once { OnErr result (D.faults self.new.journal.disk ≡ raised 1 (D.faults self.old.journal.disk)) }
     {
         let reply = self.book.commit(entry);
         self.doubt = true;

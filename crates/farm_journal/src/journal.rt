@@ -1,7 +1,7 @@
 //! An open journal, and the two steps in which it takes a body.
 
 ghost use Rattle.std.specs.Prelude.{◌≡◌, ◌<◌, ◌≤◌, ◌+◌, ◌++◌, [], ◌∷◌, ℕ, List, IsSome, MatchResult, None, OnErr, OnOk, Some, is_err, is_ok, is_some, length, max};
-ghost use Rattle.farm_base.specs.Counts.{HasCause};
+ghost use Rattle.farm_base.specs.Counts.{HasCause, raised};
 ghost use Rattle.farm_base.specs.Known.{WhereKnown};
 ghost use Rattle.farm_disk.specs.Runs.{EachSince, Extends};
 ghost use Rattle.farm_journal.specs.Layout.{IsJournalOf};
@@ -86,6 +86,7 @@ impl<D: Disk> Journal<D> {
         ensures moment { D.moment self.old.disk ≤ D.moment self.new.disk }
         ensures cause { HasCause (D.faults self.old.disk) (D.faults self.new.disk) result }
         ensures quiet { OnOk result (D.faults self.new.disk ≡ D.faults self.old.disk) }
+        ensures once { OnErr result (D.faults self.new.disk ≡ raised 1 (D.faults self.old.disk)) }
         ensures pending { is_some self.new.next_gate ≡ is_ok result }
         ensures count { self.new.count ≡ self.old.count }
         ensures room { self.new.room ≡ self.old.room }
@@ -108,6 +109,7 @@ impl<D: Disk> Journal<D> {
         ensures moment { D.moment self.old.disk ≤ D.moment self.new.disk }
         ensures cause { HasCause (D.faults self.old.disk) (D.faults self.new.disk) result }
         ensures quiet { OnOk result (D.faults self.new.disk ≡ D.faults self.old.disk) }
+        ensures once { OnErr result (D.faults self.new.disk ≡ raised 1 (D.faults self.old.disk)) }
         ensures pending { is_some self.new.next_gate ≡ is_err result }
         ensures counted { OnOk result (self.new.count ≡ self.old.count + 1) }
         ensures uncounted { OnErr result (self.new.count ≡ self.old.count) }

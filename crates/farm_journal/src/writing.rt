@@ -1,7 +1,7 @@
 //! A write that is synced at once.
 
-ghost use Rattle.std.specs.Prelude.{◌≡◌, ◌≤◌, OnOk};
-ghost use Rattle.farm_base.specs.Counts.{HasCause};
+ghost use Rattle.std.specs.Prelude.{◌≡◌, ◌≤◌, OnErr, OnOk};
+ghost use Rattle.farm_base.specs.Counts.{HasCause, raised};
 ghost use Rattle.farm_journal.specs.Steps.{WritesSynced};
 
 use crate::DiskFault;
@@ -13,6 +13,7 @@ pub fn write_synced<D: Disk>(disk: &mut D, at: u64, bytes: &[u8]) -> Result<(), 
     ensures moment { D.moment disk.old ≤ D.moment disk.new }
     ensures cause { HasCause (D.faults disk.old) (D.faults disk.new) result }
     ensures quiet { OnOk result (D.faults disk.new ≡ D.faults disk.old) }
+    ensures once { OnErr result (D.faults disk.new ≡ raised 1 (D.faults disk.old)) }
 {
     disk.write_at(at, bytes)?;
     disk.sync()?;

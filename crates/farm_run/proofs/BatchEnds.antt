@@ -1,11 +1,11 @@
 -- A run of `batch` on a desk, by how its batch ended.
 use Rattle.std.proofs.Common.{◌≡◌, ℕ, ◌≤◌, Bool, true, false, List, [], Option, Result, Ok, Err, IfOk, OnErr, refl, sym, ap, subst, ◌∙◌, arith, ℤ}
 use Rattle.std.proofs.lemmas.List.Elements.{All-nil}
-use Rattle.farm_base.specs.Counts.{Count, IsQuiet, RoseBy}
+use Rattle.farm_base.specs.Counts.{Count, IsQuiet, raised}
 use Rattle.farm_base.specs.Known.{Stream}
 use Rattle.farm_batch.specs.declared.batch.BatchEnd.{BatchEnd}
 use Rattle.farm_batch.specs.declared.batch.BatchEnd.TheVariants.{Done, Long, Failed}
-use Rattle.farm_batch.specs.Answers.{AreAcknowledged, HaveNoFault, IsReply, Step, faults_in, history_after}
+use Rattle.farm_batch.specs.Answers.{AreAcknowledged, IsReply, Step, faults_in, history_after}
 use Rattle.farm_batch.specs.Batches.{Batch}
 use Rattle.farm_batch.specs.Outcomes.{OutcomesAreOne}
 use Rattle.farm_desk.specs.Histories.{certain}
@@ -33,8 +33,8 @@ on_err_all (Err e) P Q R S p q r follows = follows p q r
 
 module _ {D : Type 0} (faults : D → ℕ) (may_give : ℤ → Type 0) (desk after : DeskState D) (moment : ℕ) (trace : Option (List State)) (disk : Count)
     (from to : Option Stream) (source : Count) (doubt : Bool) (one : OutcomesAreOne may_give)
-    (left : (steps : List Step) → after.history ≡ history_after desk.history steps → RoseBy (faults_in steps) desk.failed after.failed →
-    (HaveNoFault steps → faults after.disk ≡ faults desk.disk) → AreAcknowledged (certain after.doubt after.history) steps → LeavesOnDisk desk.history steps doubt moment trace disk) where
+    (left : (steps : List Step) → after.history ≡ history_after desk.history steps →
+    faults after.disk ≡ raised (faults_in steps) (faults desk.disk) → AreAcknowledged (certain after.doubt after.history) steps → LeavesOnDisk desk.history steps doubt moment trace disk) where
   -- nothing was asked, since there was no memory
   unbegun : (old middle new : Option (List ℕ)) (before between now status : ℕ) → IsUntouched desk after from to source old middle before between →
       desk.doubt ≡ false → (after.doubt ≡ false → doubt ≡ false) → between ≤ now →
@@ -42,9 +42,8 @@ module _ {D : Type 0} (faults : D → ℕ) (may_give : ℤ → Type 0) (desk aft
       DeskBatch may_give desk.history moment trace disk from to source (output_with old new before now) status
   unbegun old middle new before between now status untouched sure settled later lacks =
       let certain_now : doubt ≡ false = settled (ap (λ (d : DeskState D). d.doubt) untouched.desk_kept ∙ sure) in
-      let failed : after.failed ≡ desk.failed = ap (λ (d : DeskState D). d.failed) untouched.desk_kept in
-      let stands = left [] (ap (λ (d : DeskState D). d.history) untouched.desk_kept) (omega (arith, failed))
-      (λ none. ap (λ (d : DeskState D). faults d.disk) untouched.desk_kept)
+      let stands = left [] (ap (λ (d : DeskState D). d.history) untouched.desk_kept)
+      (ap (λ (d : DeskState D). faults d.disk) untouched.desk_kept)
       (All-nil (λ (step : Step). IsReply step.page → last_place step.history ≤ certain after.doubt after.history)) in
       let Ends : Option Stream → Type 0 = λ to. DeskBatch may_give desk.history moment trace disk from to source (output_with old new before now) status in
       subst Ends (sym untouched.input_kept)
@@ -61,11 +60,11 @@ module _ {D : Type 0} (faults : D → ℕ) (may_give : ℤ → Type 0) (desk aft
       unbegun old middle new before between now status untouched sure settled later lacks
   batch_ended (Ok (Long number)) old middle new before between now status batch untouched sure settled earlier later refuses =
       batch_long faults may_give desk after moment trace disk from to source doubt old middle new before between now status number one batch
-      (left batch.steps batch.left batch.counted batch.disk_quiet batch.acknowledged) later refuses
+      (left batch.steps batch.left batch.disk_counted batch.acknowledged) later refuses
   batch_ended (Ok Done) old middle new before between now status batch untouched sure settled earlier later reported = ends_done doubt refl reported
     where
       stands : LeavesOnDisk desk.history batch.steps doubt moment trace disk
-      stands = left batch.steps batch.left batch.counted batch.disk_quiet batch.acknowledged
+      stands = left batch.steps batch.left batch.disk_counted batch.acknowledged
 
       ends_done : (still : Bool) → doubt ≡ still → EndReported {E = Unit {0}} (Ok Done) still (output_with middle new between now) status →
           DeskBatch may_give desk.history moment trace disk from to source (output_with old new before now) status
@@ -79,7 +78,7 @@ module _ {D : Type 0} (faults : D → ℕ) (may_give : ℤ → Type 0) (desk aft
   batch_ended (Ok Failed) old middle new before between now status batch untouched sure settled earlier later reported = ends_failed doubt refl reported
     where
       stands : LeavesOnDisk desk.history batch.steps doubt moment trace disk
-      stands = left batch.steps batch.left batch.counted batch.disk_quiet batch.acknowledged
+      stands = left batch.steps batch.left batch.disk_counted batch.acknowledged
 
       ends_failed : (still : Bool) → doubt ≡ still → EndReported {E = Unit {0}} (Ok Failed) still (output_with middle new between now) status →
           DeskBatch may_give desk.history moment trace disk from to source (output_with old new before now) status

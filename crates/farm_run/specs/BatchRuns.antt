@@ -1,11 +1,11 @@
 -- What a run of `batch` does.
 use Rattle.std.specs.Prelude.{◌≡◌, ◌≢◌, ◌⊎◌, ℕ, ◌+◌, ◌<◌, Bool, true, false, List, [], ◌∷◌, ◌++◌, length, Option, Result, Ok, Err, ℤ}
-use Rattle.farm_base.specs.Counts.{Count, HasRisen, IsQuiet, RoseBy}
+use Rattle.farm_base.specs.Counts.{Count, HasRisen, IsQuiet, raised}
 use Rattle.farm_base.specs.Known.{Adds, Fronts, Stream, Takes, WhereKnown}
 use Rattle.batch_lines.specs.Reader.{count_of}
 use Rattle.farm_batch.specs.declared.batch.BatchEnd.{BatchEnd}
 use Rattle.farm_batch.specs.declared.batch.BatchEnd.TheVariants.{Done, Long, Failed}
-use Rattle.farm_batch.specs.Answers.{AreAcknowledged, HaveNoFault, IsCutAtLast, Step, answers_text, faults_in, history_after}
+use Rattle.farm_batch.specs.Answers.{AreAcknowledged, IsCutAtLast, Step, answers_text, faults_in, history_after}
 use Rattle.farm_batch.specs.Batches.{AskedAll, Asks, GoesOn, IsTooMuch, lines_of}
 use Rattle.farm_batch.specs.Outcomes.{Outcome, WereAnswered, outcome}
 use Rattle.farm_desk.specs.Histories.{Recovers, RecoversFront, RecoversNow, certain}
@@ -42,6 +42,11 @@ last_text Failed = port_fault
 abbrev pub printed : Outcome → List ℕ
 printed batch = batch.text ++ last_text batch.end
 
+-- the gate of an entry that is still in doubt at the end failed to open once more
+abbrev pub faults_at_end : Bool → ℕ
+faults_at_end true = 1
+faults_at_end false = 0
+
 -- What a batch on a recovered history left on the disk, with its last entry in doubt or not.
 pub record LeavesOnDisk (found : History) (steps : List Step) (doubt : Bool) (moment : ℕ) (trace : Option (List State)) (disk : Count) : Type 0 where
   -- each image at a moment since the recovery stands for a front of the history, with all that was recovered
@@ -50,11 +55,8 @@ pub record LeavesOnDisk (found : History) (steps : List Step) (doubt : Bool) (mo
   pub now : EachNow trace (RecoversNow BOOK_LIMIT doubt (history_after found steps))
   -- no reply rests on an entry in doubt
   pub acknowledged : AreAcknowledged (certain doubt (history_after found steps)) steps
-  -- the disk counted no fewer faults than were answered, and one more where an entry is in doubt
-  pub counted : RoseBy (faults_in steps) disk.before disk.now
-  pub counted_once_more : doubt ≡ true → RoseBy (faults_in steps + 1) disk.before disk.now
-  -- and none where no line was answered with a fault of the disk and nothing is in doubt
-  pub quiet : HaveNoFault steps → doubt ≡ false → IsQuiet disk
+  -- the disk counted just as many faults as lines were answered with one, and one more where an entry is in doubt
+  pub counted : disk.now ≡ raised (faults_in steps + faults_at_end doubt) disk.before
 
 -- A batch on a desk that was recovered: the lines that it asked, one after another, whether an entry is in doubt at the end, what is left on
 -- the disk, and what was printed, by its status.

@@ -12,10 +12,10 @@ returns-clause-desk_batch g c =
     let settled : c.answer_lines-end.new.desk.doubt ≡ false → c.finish-disk.result.1 ≡ false = λ sure. (finish.untouched sure).1 in
     rw c.into_inner.ensures.disk
     (batch_ended (λ boxed. g.D.Disk.faults boxed.disk.value) _ c.args.desk c.answer_lines-end.new.desk _ _ _ _ _ _ c.finish-disk.result.1 c.laws.ensures.outcomes_are_one
-    (λ steps left counted disk_quiet acknowledged.
+    (λ steps left disk_counted acknowledged.
     leaves (λ boxed. g.D.Disk.trace boxed.disk.value) (λ boxed. g.D.Disk.moment boxed.disk.value) (λ boxed. g.D.Disk.faults boxed.disk.value)
-    c.args.desk c.answer_lines-end.new.desk c.finish-disk.result.0 c.finish-disk.result.1 steps c.requires.new answers.keeps.opened left counted disk_quiet acknowledged
-    settled finish.since finish.now finish.counted finish.counted_once_more finish.quiet)
+    c.args.desk c.answer_lines-end.new.desk c.finish-disk.result.0 c.finish-disk.result.1 steps c.requires.new answers.keeps.opened left disk_counted acknowledged
+    settled finish.since finish.now finish.once finish.quiet)
     c.answer_lines-end.result _ _ _ _ _ _ _ answers.batch
     (on_err_all c.answer_lines-end.result _ _ _ _ answers.desk_kept answers.input_kept answers.output_kept (λ desk_kept input_kept output_kept. record {
       desk_kept = desk_kept;

@@ -1,6 +1,6 @@
 use Rattle.std.proofs.Common.{◌≡◌, ◌∙◌, ◌+◌, ◌-◌, ◌^◌, min, false, ap, refl, sym, subst, w64, ℤ}
 use Rattle.std.proofs.lemmas.Int.{to_z-of_z}
-use Rattle.farm_base.specs.Counts.{Rose}
+use Rattle.farm_base.specs.Counts.{Rose, raised}
 use Rattle.farm_history.specs.Desk.{desk_answer}
 use Rattle.farm_desk.specs.Asking.{IsAnswered, answer_of}
 use Rattle.farm_desk.specs.States.{DeskState}
@@ -74,6 +74,11 @@ pub returns-clause-quiet : goal.returns-clause-quiet
 returns-clause-quiet g c = λ none.
     quiet_of c.answer.result c.answer_of-answer.result _ c.answer_of-answer.ensures.answer c.answer.ensures.quiet none
     ∙ ap (λ (desk : DeskState _). g.D.Disk.faults desk.disk) c.self.view_is
+
+pub returns-clause-once : goal.returns-clause-once
+returns-clause-once g c = λ is.
+    cause_of c.answer.result c.answer_of-answer.result _ c.answer_of-answer.ensures.answer c.answer.ensures.once is
+    ∙ ap (λ (desk : DeskState _). raised 1 (g.D.Disk.faults desk.disk)) c.self.view_is
 
 pub returns-clause-not_failed : goal.returns-clause-not_failed
 returns-clause-not_failed g c = λ none.

@@ -1,7 +1,7 @@
 use Rattle.std.proofs.Common.{◌∙◌, ap, refl, sym}
 use Rattle.farm_book.specs.Kept.{Kept}
 use Rattle.farm_desk.specs.Histories.{certain}
-use Rattle.farm_desk.proofs.Finishing.{at_err, at_ok, finished_counted, finished_extends, finished_images, finished_now, finished_quiet, finished_rose, finished_since}
+use Rattle.farm_desk.proofs.Finishing.{at_err, at_ok, finished_counted, finished_extends, finished_images, finished_now, finished_once, finished_quiet, finished_rose, finished_since}
 use Rattle.farm_desk.proofs.Keeping.{acknowledged_since}
 use Rattle.farm_desk.proofs.desk.Desk.finish.Goals as goal
 
@@ -37,6 +37,11 @@ pub returns-clause-quiet : goal.returns-clause-quiet
 returns-clause-quiet g c = λ is.
     finished_quiet g.D.Disk.trace g.row.LIMIT _ c.args.self c.self.view_is c.settle.new.self.journal.disk c.into_disk.result c.into_disk.ensures g.D.Disk.faults
     (at_ok c.settle.result _ (sym c.is_err-doubt.ensures.value ∙ is) c.settle.ensures.quiet)
+
+pub returns-clause-once : goal.returns-clause-once
+returns-clause-once g c = λ is.
+    finished_once g.D.Disk.trace g.row.LIMIT _ c.args.self c.self.view_is c.settle.new.self.journal.disk c.into_disk.result c.into_disk.ensures g.D.Disk.faults
+    (at_err c.settle.result _ (sym c.is_err-doubt.ensures.value ∙ is) c.settle.ensures.once)
 
 pub returns-clause-counted_once_more : goal.returns-clause-counted_once_more
 returns-clause-counted_once_more g c = λ is.

@@ -1,6 +1,6 @@
 use Rattle.std.proofs.Common.{◌∙◌, ap, sym, subst, arith, w64, ℤ}
 use Rattle.std.proofs.lemmas.Int.{to_z-of_z}
-use Rattle.farm_base.specs.Counts.{Rose}
+use Rattle.farm_base.specs.Counts.{Rose, raised}
 use Rattle.farm_book.specs.Kept.{Kept}
 use Rattle.farm_history.specs.Desk.{Answered, stamped}
 use Rattle.farm_journal.proofs.MakingSteps.{extends_more}
@@ -70,3 +70,7 @@ returns-in-Do-clause-cause g c = λ is.
 -- src/asking.rt:22:5
 pub returns-in-Do-clause-quiet : goal.returns-in-Do-clause-quiet
 returns-in-Do-clause-quiet g c = λ isnt. c.judge.ensures.quiet isnt ∙ c.in_ok-settle.ensures.quiet
+
+-- src/asking.rt:22:5
+pub returns-in-Do-clause-once : goal.returns-in-Do-clause-once
+returns-in-Do-clause-once g c = λ is. c.judge.ensures.once is ∙ ap (λ count. raised 1 count) c.in_ok-settle.ensures.quiet
