@@ -9,6 +9,3 @@ mod reader;
 
 pub use limits::{LINE_FEED, LONGEST_LINE, MOST_BYTES};
 pub use reader::{Cut, LineReader};
-
-#[cfg(test)]
-mod tests;

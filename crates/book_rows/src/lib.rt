@@ -1,5 +1,5 @@
-//! Tests of tickets, movements, stocks, entries, the book and requests: what no clause of `farm_ticket`, `farm_movement`,
-//! `farm_stock`, `farm_history`, `farm_book` and `farm_http` says.
+//! Tests of texts of pieces, tickets, movements, stocks, entries, the book and requests: what no clause of `text_pieces`, `farm_ticket`,
+//! `farm_movement`, `farm_stock`, `farm_history`, `farm_book` and `farm_http` says.
 #![tactic(auto)]
 
 #[cfg(test)]
@@ -8,6 +8,8 @@ mod book;
 mod entries;
 #[cfg(test)]
 mod movements;
+#[cfg(test)]
+mod pieces;
 #[cfg(test)]
 mod requests;
 #[cfg(test)]

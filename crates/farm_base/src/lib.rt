@@ -13,6 +13,3 @@ pub use bytes::{is_all_digits, is_blank, is_digit};
 pub use items::Items;
 pub use memory::NoMemory;
 pub use shared_laws::laws;
-
-#[cfg(test)]
-mod tests;

@@ -18,6 +18,3 @@ pub use table::{
     NET_STANDARD, ROOF_ADJUSTMENT, RoundTable, SHELL_CORRECTION, STRAPPED_ROW, TABLE_VOLUME,
     TAPE_MEAN,
 };
-
-#[cfg(test)]
-mod tests;

@@ -16,6 +16,3 @@ pub use expect::{
 pub use frame::{Frame, Registers};
 pub use request::write_request;
 pub use response::read_response;
-
-#[cfg(test)]
-mod tests;

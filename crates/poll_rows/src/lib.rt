@@ -1,4 +1,5 @@
-//! Tests of the polling of gauges over a link in memory: what no clause of `modbus_poll` says.
+//! Tests of the frames of Modbus TCP, and of the polling of gauges over a link in memory: what no clause of `modbus_frame` and
+//! `modbus_poll` says.
 #![tactic(auto)]
 
 #[cfg(test)]
@@ -7,6 +8,8 @@ mod conversations;
 mod deadbands;
 #[cfg(test)]
 mod decoding;
+#[cfg(test)]
+mod frames;
 #[cfg(test)]
 mod gauges;
 #[cfg(test)]

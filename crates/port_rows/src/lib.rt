@@ -1,4 +1,4 @@
-//! Tests of the ports and of disks: what no clause of `farm_ports` and `farm_disk` says.
+//! Tests of the shared words, the ports and disks: what no clause of `farm_base`, `farm_ports` and `farm_disk` says.
 #![tactic(auto)]
 
 #[cfg(test)]
@@ -9,3 +9,5 @@ mod file_disks;
 mod links;
 #[cfg(test)]
 mod ports;
+#[cfg(test)]
+mod shared_words;

@@ -1,5 +1,5 @@
-//! Tests of quantities, manual gauging, factors, the custody calculation, capacity tables and strapped tanks: what no clause of
-//! `farm_fixed`, `farm_readings`, `farm_vcf`, `farm_chain`, `strap_table` and `strap_courses` says.
+//! Tests of rounding, quantities, manual gauging, factors, the custody calculation, capacity tables and strapped tanks: what no clause
+//! of `farm_rounding`, `farm_fixed`, `farm_readings`, `farm_vcf`, `farm_chain`, `strap_table` and `strap_courses` says.
 #![tactic(auto)]
 
 #[cfg(test)]
@@ -14,5 +14,7 @@ mod quantities;
 mod readings;
 #[cfg(test)]
 mod roofs;
+#[cfg(test)]
+mod rounding;
 #[cfg(test)]
 mod strapping;

@@ -10,6 +10,3 @@ mod pieces;
 
 pub use appending::append;
 pub use pieces::Piece;
-
-#[cfg(test)]
-mod tests;

@@ -19,6 +19,8 @@ mod encoding;
 #[cfg(test)]
 mod limit;
 #[cfg(test)]
+mod lines;
+#[cfg(test)]
 mod running;
 #[cfg(test)]
 mod stocks;

@@ -1,0 +1,109 @@
+//! The lines of a source in pieces.
+
+use batch_lines::{Cut, LineReader};
+use farm_base::NoMemory;
+use farm_ports::{Failed, Script};
+use row_checks::{Checks, shared};
+use std::alloc::Global;
+use std::test::Fail;
+
+// A source of these pieces, whose takes of these numbers fail.
+fn source(alloc: Global, pieces: &[&[u8]], fails: Vec<u64>) -> Result<Script, NoMemory> {
+    let mut copies = Vec::new(alloc);
+    for piece in pieces {
+        copies.push(piece.to_vec(alloc)?)?;
+    }
+    Script::new(alloc, copies, fails)
+}
+
+// The place of the first read that finds another cut, or another line where it finds one.
+fn first_other(
+    alloc: Global,
+    input: &mut Script,
+    wants: &[(Cut, Option<&[u8]>)],
+) -> Result<Option<usize>, NoMemory> {
+    let mut reader = shared(LineReader::new(alloc)?);
+    for (place, (cut, line)) in wants.iter().enumerate() {
+        let found = reader.read(input);
+        let keeps = matches!(found, Cut::Line | Cut::Last);
+        if found != *cut || keeps && reader.line() != *line {
+            return Ok(Some(place));
+        }
+    }
+    Ok(None)
+}
+
+#[test]
+fn lines_go_on_across_pieces(rt: HostRuntime) -> Result<(), Fail> {
+    let mut checks = Checks::new(&rt);
+    let alloc = rt.alloc();
+    let mut input = source(alloc, &[b"ab", b"c\n\nd", b"e\nf"], Vec::new(alloc))?;
+    let wants = [
+        (Cut::Line, Some(b"abc".as_slice())),
+        (Cut::Line, Some(b"")),
+        (Cut::Line, Some(b"de")),
+        (Cut::Last, Some(b"f")),
+        (Cut::End, None),
+    ];
+    checks.same(first_other(alloc, &mut input, &wants)?, None);
+    Ok(checks.end()?)
+}
+
+#[test]
+fn no_line_is_after_the_last_line_feed(rt: HostRuntime) -> Result<(), Fail> {
+    let mut checks = Checks::new(&rt);
+    let alloc = rt.alloc();
+    let mut input = source(alloc, &[b"a\n"], Vec::new(alloc))?;
+    let wants = [(Cut::Line, Some(b"a".as_slice())), (Cut::End, None)];
+    checks.same(first_other(alloc, &mut input, &wants)?, None);
+    Ok(checks.end()?)
+}
+
+#[test]
+fn a_line_of_65_537_bytes_is_passed_over(rt: HostRuntime) -> Result<(), Fail> {
+    let mut checks = Checks::new(&rt);
+    let alloc = rt.alloc();
+    let longest = vec![in alloc; b'x'; 65_536]?;
+    let mut input = source(
+        alloc,
+        &[&longest, b"\n", &longest, b"x\ny\n"],
+        Vec::new(alloc),
+    )?;
+    let wants = [
+        (Cut::Line, Some(longest.as_slice())),
+        (Cut::Line, None),
+        (Cut::Line, Some(b"y")),
+    ];
+    checks.same(first_other(alloc, &mut input, &wants)?, None);
+    Ok(checks.end()?)
+}
+
+#[test]
+fn no_take_runs_ahead_of_a_line(rt: HostRuntime) -> Result<(), Fail> {
+    let mut checks = Checks::new(&rt);
+    let alloc = rt.alloc();
+    let mut input = source(alloc, &[b"a\n", b"b"], vec![in alloc; 2]?)?;
+    let wants = [(Cut::Line, Some(b"a".as_slice())), (Cut::Failed, None)];
+    checks.same(first_other(alloc, &mut input, &wants)?, None);
+    Ok(checks.end()?)
+}
+
+// A look that fails, two that find the byte, the line of that byte, and a look at the end.
+fn check_looks<R: Print>(checks: &mut Checks<'_, R>, input: &mut Script, reader: &mut LineReader) {
+    for want in [Err(Failed), Ok(true), Ok(true)] {
+        checks.same(reader.has_more(input), want);
+    }
+    checks.same(reader.read(input), Cut::Last);
+    checks.same(reader.line(), Some(b"a".as_slice()));
+    checks.same(reader.has_more(input), Ok(false));
+}
+
+#[test]
+fn a_look_keeps_the_byte_that_it_finds(rt: HostRuntime) -> Result<(), Fail> {
+    let mut checks = Checks::new(&rt);
+    let alloc = rt.alloc();
+    let mut input = source(alloc, &[b"a"], vec![in alloc; 1]?)?;
+    let mut reader = LineReader::new(alloc)?;
+    check_looks(&mut checks, &mut input, &mut reader);
+    Ok(checks.end()?)
+}
