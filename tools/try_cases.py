@@ -51,9 +51,8 @@ def main():
         with open(path, "rb") as file:
             cases = tomllib.load(file).get("case", [])
         for case in cases:
-            fails = any(key.endswith("_fails") for key in case)
             refused = str(case.get("output", "")).startswith(("site refused", "port fault"))
-            if refused and not fails and case["words"][:1] in (["table"], ["init"]):
+            if refused and "fails" not in case and case["words"][:1] in (["table"], ["init"]):
                 tried += 1
                 if not is_found(case):
                     missed.append(f"{os.path.basename(path)}: {case['name']}")

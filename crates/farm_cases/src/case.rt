@@ -2,7 +2,9 @@
 
 use crate::text::Text;
 use serde::Deserialize;
+use std::alloc::Global;
 use std::collections::BTreeMap;
+use std::default::MadeWith;
 
 /// The files that each site has, by the site's name.
 pub type Sites = BTreeMap<String, Vec<String>>;
@@ -53,35 +55,74 @@ pub struct Case {
     /// The moment that the clock gives, in seconds since 1970-01-01 00:00:00 UTC; 0 where it isn't given.
     #[serde(default)]
     pub clock: i64,
-    /// The numbers of the takes of the input that fail, from 1.
+    /// The calls that fail in the run.
     #[serde(default)]
-    pub input_fails: Vec<u64>,
-    /// The numbers of the puts to the output that fail, from 1.
+    pub fails: FailingCalls,
+    /// The disk before and after the run.
     #[serde(default)]
-    pub output_fails: Vec<u64>,
-    /// The numbers of the reads of the folder that fail, from 1.
-    #[serde(default)]
-    pub folder_fails: Vec<u64>,
-    /// The bytes of the disk; none where they aren't given.
-    pub disk: Option<Text>,
-    /// The site of which the disk has the journal, made by `init` before the other runs.
-    pub journal: Option<String>,
-    /// The runs on the disk before this one, one after another.
-    #[serde(default)]
-    pub before: Vec<Run>,
-    /// What a crash leaves of the disk; what reads give where it isn't given.
-    pub image: Option<Image>,
-    /// How many bytes the disk keeps of that, from its front; all where it isn't given.
-    pub cut: Option<u32>,
-    /// The numbers of the calls of the disk in the run that fail, from 1.
-    #[serde(default)]
-    pub disk_fails: Vec<u64>,
+    pub disk: CaseDisk,
     /// The status that is wanted.
     pub status: u8,
     /// The output that is wanted; nothing where it isn't given.
     pub output: Option<Text>,
-    /// What reads of the disk have to give after the run; it isn't looked at where this isn't given.
-    pub disk_after: Option<Text>,
+}
+
+/// The calls that fail in a run, by their numbers from 1.
+#[derive(Drop, Deserialize)]
+#[serde(deny_unknown_fields, default)]
+pub struct FailingCalls {
+    /// The takes of the input.
+    pub input: Vec<u64>,
+    /// The puts to the output.
+    pub output: Vec<u64>,
+    /// The reads of the folder.
+    pub folder: Vec<u64>,
+    /// The calls of the disk.
+    pub disk: Vec<u64>,
+}
+
+// No call fails.
+impl MadeWith<Global> for FailingCalls {
+    fn made_with(alloc: Global) -> Self {
+        FailingCalls {
+            input: Vec::new(alloc),
+            output: Vec::new(alloc),
+            folder: Vec::new(alloc),
+            disk: Vec::new(alloc),
+        }
+    }
+}
+
+/// The disk of a case, before and after the case's run.
+#[derive(Drop, Deserialize)]
+#[serde(deny_unknown_fields, default)]
+pub struct CaseDisk {
+    /// Its first bytes; none where they aren't given.
+    pub bytes: Option<Text>,
+    /// The site of which it has the journal, made by `init` before the other runs.
+    pub journal: Option<String>,
+    /// The runs on it before the case's own, one after another.
+    pub before: Vec<Run>,
+    /// What a crash leaves of it; what reads give where it isn't given.
+    pub image: Option<Image>,
+    /// How many bytes it keeps of that, from its front; all where it isn't given.
+    pub cut: Option<u32>,
+    /// What reads of it have to give after the case's run; it isn't looked at where this isn't given.
+    pub after: Option<Text>,
+}
+
+// An empty disk, which isn't looked at after the run.
+impl MadeWith<Global> for CaseDisk {
+    fn made_with(alloc: Global) -> Self {
+        CaseDisk {
+            bytes: None,
+            journal: None,
+            before: Vec::new(alloc),
+            image: None,
+            cut: None,
+            after: None,
+        }
+    }
 }
 
 /// A run on the disk of a case before the case's own.
@@ -97,9 +138,9 @@ pub struct Run {
     /// The moment that the clock gives; 0 where it isn't given.
     #[serde(default)]
     pub clock: i64,
-    /// The numbers of the calls of the disk in the run that fail, from 1.
+    /// The calls that fail in it.
     #[serde(default)]
-    pub disk_fails: Vec<u64>,
+    pub fails: FailingCalls,
     /// The status that is wanted; 0 where it isn't given.
     #[serde(default)]
     pub status: u8,

@@ -4,13 +4,14 @@ ghost use Rattle.std.specs.Prelude.{◌≡◌, ℕ, IfOk, Some, take};
 ghost use Rattle.farm_base.specs.Known.{WhereKnown};
 ghost use Rattle.farm_disk.specs.Images.{IsCrashImage, state_at};
 
-use crate::case::{Case, Image, Run, Sites};
+use crate::case::{Case, CaseDisk, FailingCalls, Image, Run, Sites};
 use crate::fault::CaseFault;
 use crate::text::given_bytes;
 use crate::trial::Trial;
 use farm_disk::{Disk, Fill, MemDisk};
 use farm_ports::Folder;
 use std::alloc::{AllocError, Global};
+use std::default::MadeWith;
 
 /// The disk of a case, before the case runs.
 pub fn disk_of<F: Folder>(
@@ -19,10 +20,10 @@ pub fn disk_of<F: Folder>(
     sites: &Sites,
     case: &Case,
 ) -> Result<MemDisk, CaseFault> {
-    let disk = first_disk(alloc, data, sites, case)?;
-    let disk = disk_after(alloc, data, sites, &case.before, disk)?;
-    let bytes = front(left(alloc, disk, &case.image)?, case.cut)?;
-    Ok(MemDisk::new(alloc, bytes, case.disk_fails.clone()?)?)
+    let disk = first_disk(alloc, data, sites, &case.disk)?;
+    let disk = disk_after(alloc, data, sites, &case.disk.before, disk)?;
+    let bytes = front(left(alloc, disk, &case.disk.image)?, case.disk.cut)?;
+    Ok(MemDisk::new(alloc, bytes, case.fails.disk.clone()?)?)
 }
 
 /// The bytes that reads of a disk give.
@@ -38,11 +39,11 @@ fn first_disk<F: Folder>(
     alloc: Global,
     data: &mut F,
     sites: &Sites,
-    case: &Case,
+    given: &CaseDisk,
 ) -> Result<MemDisk, CaseFault> {
-    let bytes = given_bytes(alloc, data, &case.disk)?;
+    let bytes = given_bytes(alloc, data, &given.bytes)?;
     let disk = MemDisk::new(alloc, bytes, Vec::new(alloc))?;
-    match &case.journal {
+    match &given.journal {
         Some(site) => disk_after_run(alloc, data, sites, 0, &making_of(alloc, site)?, disk),
         None => Ok(disk),
     }
@@ -55,7 +56,7 @@ fn making_of(alloc: Global, site: &str) -> Result<Run, AllocError> {
         input: None,
         site: Some(String::from_str(alloc, site)?),
         clock: 0,
-        disk_fails: Vec::new(alloc),
+        fails: FailingCalls::made_with(alloc),
         status: 0,
         output: None,
     })

@@ -25,15 +25,16 @@ pub fn folder_of<F: Folder>(
     add_site(&mut files, alloc, data, sites, case)?;
     add_files(&mut files, alloc, data, case)?;
     replace_texts(&mut files, alloc, case)?;
-    Ok(Files::new(alloc, files, case.folder_fails.clone()?)?)
+    Ok(Files::new(alloc, files, case.fails.folder.clone()?)?)
 }
 
-/// The folder of a site, as its files stand; an empty one where no site is given.
+/// The folder of a site, as its files stand, whose reads of these numbers fail; an empty one where no site is given.
 pub fn site_folder<F: Folder>(
     alloc: Global,
     data: &mut F,
     sites: &Sites,
     site: &Option<String>,
+    fails: &Vec<u64>,
 ) -> Result<Files, CaseFault> {
     let mut files = Vec::new(alloc);
     if let Some(site) = site {
@@ -41,7 +42,7 @@ pub fn site_folder<F: Folder>(
             add_site_file(&mut files, alloc, data, site, name)?;
         }
     }
-    Ok(Files::new(alloc, files, Vec::new(alloc))?)
+    Ok(Files::new(alloc, files, fails.clone()?)?)
 }
 
 // The names of the files of a site.

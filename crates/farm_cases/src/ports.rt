@@ -26,19 +26,19 @@ pub fn ports_of_case<F: Folder>(
 ) -> Result<Ports, CaseFault> {
     Ok(Ports {
         clock: Fixed::new(alloc, case.clock)?,
-        output: Gather::new(alloc, case.output_fails.clone()?)?,
+        output: Gather::new(alloc, case.fails.output.clone()?)?,
         input: input_of(
             alloc,
             data,
             &case.input,
             case.piece_bytes,
-            &case.input_fails,
+            &case.fails.input,
         )?,
         folder: folder_of(alloc, data, sites, case)?,
     })
 }
 
-/// The ports of a run before a case, no call of which fails.
+/// The ports of a run before a case.
 pub fn ports_of_run<F: Folder>(
     alloc: Global,
     data: &mut F,
@@ -47,9 +47,9 @@ pub fn ports_of_run<F: Folder>(
 ) -> Result<Ports, CaseFault> {
     Ok(Ports {
         clock: Fixed::new(alloc, run.clock)?,
-        output: Gather::new(alloc, Vec::new(alloc))?,
-        input: input_of(alloc, data, &run.input, None, &Vec::new(alloc))?,
-        folder: site_folder(alloc, data, sites, &run.site)?,
+        output: Gather::new(alloc, run.fails.output.clone()?)?,
+        input: input_of(alloc, data, &run.input, None, &run.fails.input)?,
+        folder: site_folder(alloc, data, sites, &run.site, &run.fails.folder)?,
     })
 }
 

@@ -34,7 +34,7 @@ impl Trial {
             wanted: Answer {
                 status: case.status,
                 output: given_bytes(alloc, data, &case.output)?,
-                disk: given_bytes(alloc, data, &case.disk_after)?,
+                disk: given_bytes(alloc, data, &case.disk.after)?,
             },
         })
     }
@@ -47,7 +47,7 @@ impl Trial {
         run: &Run,
         disk: MemDisk,
     ) -> Result<(Self, MemDisk), CaseFault> {
-        let disk = MemDisk::new(alloc, read_disk(alloc, disk)?, run.disk_fails.clone()?)?;
+        let disk = MemDisk::new(alloc, read_disk(alloc, disk)?, run.fails.disk.clone()?)?;
         let ports = ports_of_run(alloc, data, sites, run)?;
         let (came, disk) = answer_over(alloc, &run.words, ports, disk)?;
         let wanted = Answer {
@@ -88,7 +88,7 @@ fn answer_of<F: Folder>(
     let disk = disk_of(alloc, data, sites, case)?;
     let ports = ports_of_case(alloc, data, sites, case)?;
     let (answer, disk) = answer_over(alloc, &case.words, ports, disk)?;
-    if case.disk_after.is_none() {
+    if case.disk.after.is_none() {
         return Ok(answer);
     }
     Ok(Answer {
