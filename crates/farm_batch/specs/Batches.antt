@@ -58,7 +58,7 @@ pub record Batch {D : Type 0} (faults : D → ℕ) (may_give : ℤ → Type 0) (
   pub moved : Takes from to taken
   pub asks : Asks may_give limit before.history taken in_hand to steps
   pub left : after.history ≡ history_after before.history steps
-  -- the desk, and its disk, counted just as many faults as lines were answered with one: none is answered otherwise
+  -- the desk, and its disk, counted just as many faults as lines were answered with one
   pub counted : after.failed ≡ raised (faults_in steps) before.failed
   pub disk_counted : faults after.disk ≡ raised (faults_in steps) (faults before.disk)
   -- no reply rests on an entry that is in doubt at the end
