@@ -69,15 +69,19 @@ pub struct Case {
 
 /// The calls that fail in a run, by their numbers from 1.
 #[derive(Drop, Deserialize)]
-#[serde(deny_unknown_fields, default)]
+#[serde(deny_unknown_fields)]
 pub struct FailingCalls {
     /// The takes of the input.
+    #[serde(default)]
     pub input: Vec<u64>,
     /// The puts to the output.
+    #[serde(default)]
     pub output: Vec<u64>,
     /// The reads of the folder.
+    #[serde(default)]
     pub folder: Vec<u64>,
     /// The calls of the disk.
+    #[serde(default)]
     pub disk: Vec<u64>,
 }
 
@@ -95,13 +99,14 @@ impl MadeWith<Global> for FailingCalls {
 
 /// The disk of a case, before and after the case's run.
 #[derive(Drop, Deserialize)]
-#[serde(deny_unknown_fields, default)]
+#[serde(deny_unknown_fields)]
 pub struct CaseDisk {
     /// Its first bytes; none where they aren't given.
     pub bytes: Option<Text>,
     /// The site of which it has the journal, made by `init` before the other runs.
     pub journal: Option<String>,
     /// The runs on it before the case's own, one after another.
+    #[serde(default)]
     pub before: Vec<Run>,
     /// What a crash leaves of it; what reads give where it isn't given.
     pub image: Option<Image>,
