@@ -17,7 +17,7 @@ use std::rt::Files;
 
 /// A disk over a file of the system. Nothing is known of its bytes.
 ///
-/// It opens its file at its first call, makes an empty one where there is none, and follows a link. A call that can't open it
+/// It opens its file at its first call, creates it empty where it is missing, and follows a link. A call that can't open it
 /// fails, and the next one tries again. It takes no file but a regular one. From then on until it is dropped it has the file's
 /// lock (`flock`): a second disk over the file gets none, in another process or in this one, and its calls fail. An offset above
 /// 2^63 - 1 is a fault.

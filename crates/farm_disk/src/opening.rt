@@ -8,7 +8,7 @@ use std::rt::Files;
 /// The greatest descriptor of a standard stream.
 const STANDARD_ERROR: i32 = 2;
 
-/// Opens the file at a path for reads and writes, and makes an empty one where there is none. A link is followed.
+/// Opens the file at a path for reads and writes, and creates it empty where it is missing. A link is followed.
 ///
 /// Until it is dropped no other open of the file gets the lock, be it of this process or another. What the file holds is on the
 /// disk as it reads, and its name is in its folder.

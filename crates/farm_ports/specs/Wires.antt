@@ -22,7 +22,7 @@ pub record ResponsesState : Type 0 where
   pub coming : List (List ℕ)
   pub left : List ℕ
 
--- the first response, without a byte where there is none
+-- the first response, and no byte where no response is left
 abbrev pub first_response : List (List ℕ) → List ℕ
 first_response [] = []
 first_response (response ∷ responses) = response

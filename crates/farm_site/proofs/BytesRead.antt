@@ -9,7 +9,8 @@ use Rattle.farm_rounding.specs.Table.{Row}
 use Rattle.modbus_poll.specs.declared.map.LineMap.{LineMap}
 use Rattle.site_reading.specs.declared.fault.SiteBytesFault.{SiteBytesFault}
 use Rattle.site_reading.specs.declared.fault.SiteBytesFault.TheVariants.{BadSite, NoMemory}
-use Rattle.site_reading.specs.Decoding.{Gives, head_at, lines_at, parties_at, products_at, tanks_at}
+use Rattle.site_reading.specs.ByteReaders.{Gives}
+use Rattle.site_reading.specs.Decoding.{head_at, lines_at, parties_at, products_at, tanks_at}
 use Rattle.site_bytes.specs.Encoding.{line_bytes, list_bytes, party_bytes, product_bytes, row_bytes, short_list_bytes, tank_bytes, text_bytes}
 use Rattle.site_reading.specs.Parts.{HeadsAreRead, LinesAreRead, PartiesAreRead, ProductsAreRead, TanksAreRead, head_bytes}
 use Rattle.site_reading.specs.Readers.{IsBytes, IsReader}

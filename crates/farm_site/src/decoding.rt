@@ -1,7 +1,7 @@
 //! How a site is read from its bytes. docs/formats.md has the format.
 
 ghost use Rattle.std.specs.Prelude.{◌≡◌, IfOk, MatchResult};
-ghost use Rattle.site_reading.specs.Decoding.{Gives};
+ghost use Rattle.site_reading.specs.ByteReaders.{Gives};
 ghost use Rattle.site_reading.specs.declared.fault.SiteBytesFault.TheVariants.{NoMemory};
 ghost use Rattle.farm_site.specs.Decoding.{whole_site};
 ghost use Rattle.farm_site.specs.Described.{Described};

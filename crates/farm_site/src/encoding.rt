@@ -18,7 +18,7 @@ use std::alloc::Global;
 pub const MOST_SITE_BYTES: usize = 16_777_216;
 
 impl Site {
-    /// The site's bytes. Their room is taken once; `NoMemory` where there is none.
+    /// The site's bytes. Their room is taken once; `NoMemory` where it can't be had.
     pub fn to_bytes(&self, alloc: Global) -> Result<Vec<u8>, NoMemory>
         ensures bytes { IfOk result (λ bytes. bytes.items ≡ site_encoding (described self.now)) }
         ensures short { length (site_encoding (described self.now)) < MOST_SITE_BYTES }

@@ -3,7 +3,7 @@ use Rattle.std.proofs.Common.{◌≡◌, ℕ, suc, ◌+◌, ◌-◌, ◌<◌, �
 use Rattle.farm_base.specs.Steps.{◌>>=◌, IsRefusedAs}
 use Rattle.site_reading.specs.declared.fault.SiteBytesFault.{SiteBytesFault}
 use Rattle.site_reading.specs.declared.fault.SiteBytesFault.TheVariants.{BadSite, NoMemory}
-use Rattle.site_reading.specs.Decoding.{Reader, counted_at, reported}
+use Rattle.site_reading.specs.ByteReaders.{Reader, counted_at, reported}
 
 -- what a reader of lists gives
 abbrev pub Listed : Type 0 → Type 0

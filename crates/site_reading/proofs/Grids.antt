@@ -81,7 +81,7 @@ is_grid-from grid h =
 pub grid_taken : (grid : Grid) → IsGrid grid → (if is_grid grid then Ok grid else Err BadSite) ≡ Ok grid
 grid_taken grid h = rw (is_grid-from grid h) refl
 
--- and what is none isn't
+-- and a grid that isn't in form is refused
 pub grid_refused : (grid : Grid) → ¬ (IsGrid grid) → (if is_grid grid then Ok grid else Err BadSite) ≡ Err BadSite
 grid_refused grid none = by (is_grid grid) refl
   where

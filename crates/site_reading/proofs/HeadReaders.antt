@@ -13,7 +13,8 @@ use Rattle.farm_rounding.specs.Table.{IsTable, Row, first_bad_row, row_at}
 use Rattle.farm_rounding.proofs.Rows.{first_bad_of, table_from_rows}
 use Rattle.modbus_poll.specs.Maps.{is_between}
 use Rattle.site_items.specs.Names.{is_name}
-use Rattle.site_reading.specs.Decoding.{are_good, head_at, made_at, flag_at, mode_of, name_at, round_at, rounds_at}
+use Rattle.site_reading.specs.ByteReaders.{made_at, flag_at}
+use Rattle.site_reading.specs.Decoding.{are_good, head_at, mode_of, name_at, round_at, rounds_at}
 use Rattle.site_bytes.specs.Encoding.{flag_byte, mode_byte, row_bytes, text_bytes}
 use Rattle.site_reading.specs.Parts.{IsHead, head_bytes}
 use Rattle.site_reading.specs.Readers.{IsReader}

@@ -4,7 +4,7 @@ use Rattle.std.specs.Prelude.{All, IfSome}
 use Rattle.std.specs.Int.{Width}
 use Rattle.std.specs.List.{flat_map}
 use Rattle.farm_base.specs.Steps.{◌>>=◌}
-use Rattle.site_reading.specs.Decoding.{Reader, ◌▸◌, counted_at, list_at, option_after, option_at, short_list_at}
+use Rattle.site_reading.specs.ByteReaders.{Reader, ◌▸◌, counted_at, list_at, option_after, option_at, short_list_at}
 use Rattle.site_bytes.specs.Encoding.{flag_byte, list_bytes, option_bytes, short_list_bytes}
 use Rattle.site_reading.specs.Readers.{IsBytes, IsReader, Takes}
 use Rattle.site_reading.proofs.NumberReaders.{IsWide, byte_reader, flag_reader, number_reader}

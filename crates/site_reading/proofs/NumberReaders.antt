@@ -9,7 +9,8 @@ use Rattle.std.proofs.lemmas.Nat.{be_bytes_2, be_bytes_4, be_bytes_8, from_be_by
 use Rattle.farm_fixed.specs.Range.{IsWithin, is_within}
 use Rattle.farm_fixed.proofs.ParsingLaws.{is_within-from, is_within-true}
 use Rattle.site_reading.specs.declared.fault.SiteBytesFault.TheVariants.{BadSite}
-use Rattle.site_reading.specs.Decoding.{Reader, byte_at, byte_up_to, bytes_at, density_at, factor_at, flag_at, height_at, natural_at, number_at, signed_at, temperature_at, tested_at, text_at}
+use Rattle.site_reading.specs.ByteReaders.{Reader, byte_at, byte_up_to, bytes_at, flag_at, natural_at, number_at, signed_at, tested_at, text_at}
+use Rattle.site_reading.specs.Decoding.{density_at, factor_at, height_at, temperature_at}
 use Rattle.site_bytes.specs.Encoding.{flag_byte, natural_bytes, signed_bytes, text_bytes}
 use Rattle.site_reading.specs.Readers.{IsBytes, IsReader, Takes}
 use Rattle.site_reading.proofs.Readers.{IsBytes-drop, IsBytes-take, after_reader, made_reader, ok_is, reader_as, tested_reader}

@@ -5,7 +5,7 @@ use Rattle.std.proofs.lemmas.List.{get_or-drop, get_or-take, get_or_past, length
 use Rattle.farm_base.specs.Steps.{◌>>=◌}
 use Rattle.site_reading.specs.declared.fault.SiteBytesFault.{SiteBytesFault}
 use Rattle.site_reading.specs.declared.fault.SiteBytesFault.TheVariants.{BadSite}
-use Rattle.site_reading.specs.Decoding.{Reader, after_at, made_at, tested_at, then_at}
+use Rattle.site_reading.specs.ByteReaders.{Reader, after_at, made_at, tested_at, then_at}
 use Rattle.site_reading.specs.Readers.{IsBytes, IsReader, Takes}
 
 -- what is left after some bytes is bytes

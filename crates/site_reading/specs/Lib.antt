@@ -1,3 +1,4 @@
+pub mod ByteReaders
 pub mod Decoding
 pub mod Readers
 pub mod Parts

@@ -2,7 +2,8 @@
 //! the part and the bytes after it, `BadSite` exactly where the bytes begin with no such part.
 
 ghost use Rattle.std.specs.Prelude.{◌≡◌};
-ghost use Rattle.site_reading.specs.Decoding.{Gives, head_at, lines_at, parties_at, products_at, tanks_at};
+ghost use Rattle.site_reading.specs.ByteReaders.{Gives};
+ghost use Rattle.site_reading.specs.Decoding.{head_at, lines_at, parties_at, products_at, tanks_at};
 
 mod gauges;
 mod heads;

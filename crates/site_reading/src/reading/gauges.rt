@@ -1,7 +1,8 @@
 //! Gauge lines at the front of bytes.
 
 ghost use Rattle.std.specs.Prelude.{◌≡◌};
-ghost use Rattle.site_reading.specs.Decoding.{Gives, fields_at, flags_at, request_at};
+ghost use Rattle.site_reading.specs.ByteReaders.{Gives};
+ghost use Rattle.site_reading.specs.Decoding.{fields_at, flags_at, request_at};
 
 use super::lists::{Piece, option_at, short_list_at};
 use super::numbers::{byte_at, byte_up_to, signed16_at, text_at, u16_at, u32_at};

@@ -2,7 +2,8 @@
 
 ghost use Rattle.std.specs.Prelude.{◌≡◌, ◌==◌, Ok, Err, if◌then◌else◌};
 ghost use Rattle.farm_rounding.specs.Table.{first_bad_row};
-ghost use Rattle.site_reading.specs.Decoding.{Gives, are_good, byte_at, counted_at, mode_of, name_at, round_at, rounds_at, tested_at};
+ghost use Rattle.site_reading.specs.ByteReaders.{Gives, byte_at, counted_at, tested_at};
+ghost use Rattle.site_reading.specs.Decoding.{are_good, mode_of, name_at, round_at, rounds_at};
 ghost use Rattle.site_bytes.specs.declared.TheConstants.{FORMAT};
 
 use super::numbers::{byte_at, flag_at, text_at};

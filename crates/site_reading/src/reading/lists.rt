@@ -2,7 +2,7 @@
 
 ghost use Rattle.std.specs.Prelude.{◌≡◌, ◌<◌, ◌^◌, List, ℕ, IfOk, Result, length};
 ghost use Rattle.std.specs.Int.{w16, w32};
-ghost use Rattle.site_reading.specs.Decoding.{Gives, counted_at, list_at, option_at, short_list_at};
+ghost use Rattle.site_reading.specs.ByteReaders.{Gives, counted_at, list_at, option_at, short_list_at};
 
 use super::numbers::{byte_at, flag_at, u16_at, u32_at};
 use crate::SiteBytesFault;

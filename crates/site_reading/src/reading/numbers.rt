@@ -3,7 +3,8 @@
 ghost use Rattle.std.specs.Prelude.{◌≡◌, Ok, Err, if◌then◌else◌};
 ghost use Rattle.std.specs.Int.{w16, w32, w64};
 ghost use Rattle.farm_fixed.specs.Range.{is_within};
-ghost use Rattle.site_reading.specs.Decoding.{Gives, byte_at, byte_up_to, bytes_at, density_at, factor_at, flag_at, height_at, natural_at, number_at, signed_at, temperature_at, text_at};
+ghost use Rattle.site_reading.specs.ByteReaders.{Gives, byte_at, byte_up_to, bytes_at, flag_at, natural_at, number_at, signed_at, text_at};
+ghost use Rattle.site_reading.specs.Decoding.{density_at, factor_at, height_at, temperature_at};
 
 use crate::SiteBytesFault;
 use crate::SiteBytesFault::BadSite;
@@ -22,7 +23,7 @@ pub fn byte_at(bytes: &[u8]) -> Result<(u8, &[u8]), SiteBytesFault>
 }
 
 /// A byte that is at most this.
-#[tactic(auto, unfolding(crate::specs::Decoding::byte_up_to))]
+#[tactic(auto, unfolding(crate::specs::ByteReaders::byte_up_to))]
 pub fn byte_up_to(most: u8, bytes: &[u8]) -> Result<(u8, &[u8]), SiteBytesFault>
     ensures reads { Gives (λ x. (x.0, x.1.now)) result (byte_up_to most bytes.now) }
 {
@@ -34,7 +35,7 @@ pub fn byte_up_to(most: u8, bytes: &[u8]) -> Result<(u8, &[u8]), SiteBytesFault>
 }
 
 /// Yes or no.
-#[tactic(auto, unfolding(crate::specs::Decoding::flag_at))]
+#[tactic(auto, unfolding(crate::specs::ByteReaders::flag_at))]
 pub fn flag_at(bytes: &[u8]) -> Result<(bool, &[u8]), SiteBytesFault>
     ensures reads { Gives (λ x. (x.0, x.1.now)) result (flag_at bytes.now) }
 {
@@ -80,7 +81,7 @@ fn u64_at(bytes: &[u8]) -> Result<(u64, &[u8]), SiteBytesFault>
 }
 
 /// A number of 16 bits that isn't below 0.
-#[tactic(auto, unfolding(crate::specs::Decoding::natural_at))]
+#[tactic(auto, unfolding(crate::specs::ByteReaders::natural_at))]
 pub fn natural16_at(bytes: &[u8]) -> Result<(i64, &[u8]), SiteBytesFault>
     ensures reads { Gives (λ x. (x.0, x.1.now)) result (natural_at w16 bytes.now) }
 {
@@ -89,7 +90,7 @@ pub fn natural16_at(bytes: &[u8]) -> Result<(i64, &[u8]), SiteBytesFault>
 }
 
 /// A number of 32 bits that isn't below 0.
-#[tactic(auto, unfolding(crate::specs::Decoding::natural_at))]
+#[tactic(auto, unfolding(crate::specs::ByteReaders::natural_at))]
 pub fn natural32_at(bytes: &[u8]) -> Result<(i64, &[u8]), SiteBytesFault>
     ensures reads { Gives (λ x. (x.0, x.1.now)) result (natural_at w32 bytes.now) }
 {
@@ -98,7 +99,7 @@ pub fn natural32_at(bytes: &[u8]) -> Result<(i64, &[u8]), SiteBytesFault>
 }
 
 /// A signed number of 16 bits.
-#[tactic(auto, unfolding(crate::specs::Decoding::signed_at))]
+#[tactic(auto, unfolding(crate::specs::ByteReaders::signed_at))]
 pub fn signed16_at(bytes: &[u8]) -> Result<(i64, &[u8]), SiteBytesFault>
     ensures reads { Gives (λ x. (x.0, x.1.now)) result (signed_at w16 bytes.now) }
 {
@@ -107,7 +108,7 @@ pub fn signed16_at(bytes: &[u8]) -> Result<(i64, &[u8]), SiteBytesFault>
 }
 
 /// A signed number of 64 bits.
-#[tactic(auto, unfolding(crate::specs::Decoding::signed_at))]
+#[tactic(auto, unfolding(crate::specs::ByteReaders::signed_at))]
 pub fn signed64_at(bytes: &[u8]) -> Result<(i64, &[u8]), SiteBytesFault>
     ensures reads { Gives (λ x. (x.0, x.1.now)) result (signed_at w64 bytes.now) }
 {
@@ -162,7 +163,7 @@ pub fn height_at(bytes: &[u8]) -> Result<(Mm, &[u8]), SiteBytesFault>
 }
 
 /// A text.
-#[tactic(auto, unfolding(crate::specs::Decoding::text_at))]
+#[tactic(auto, unfolding(crate::specs::ByteReaders::text_at))]
 pub fn text_at(alloc: Global, bytes: &[u8]) -> Result<(Items<u8>, &[u8]), SiteBytesFault>
     ensures reads { Gives (λ x. (x.0, x.1.now)) result (text_at bytes.now) }
 {

@@ -2,7 +2,8 @@
 
 ghost use Rattle.std.specs.Prelude.{◌≡◌, Ok, Err, if◌then◌else◌};
 ghost use Rattle.farm_vcf.specs.Grid.{grid_from};
-ghost use Rattle.site_reading.specs.Decoding.{Gives, grid_at, is_grid, party_at, product_at};
+ghost use Rattle.site_reading.specs.ByteReaders.{Gives};
+ghost use Rattle.site_reading.specs.Decoding.{grid_at, is_grid, party_at, product_at};
 
 use super::lists::{Piece, counted_at, list32_at};
 use super::numbers::{density_at, factor_at, temperature_at, text_at, u16_at};

@@ -2,7 +2,8 @@
 
 ghost use Rattle.std.specs.Prelude.{◌≡◌, Ok, Err, if◌then◌else◌};
 ghost use Rattle.strap_table.specs.Faults.{first_fault};
-ghost use Rattle.site_reading.specs.Decoding.{Gives, amount_at, have_none, shell_at, spec_at, table_at};
+ghost use Rattle.site_reading.specs.ByteReaders.{Gives};
+ghost use Rattle.site_reading.specs.Decoding.{amount_at, have_none, shell_at, spec_at, table_at};
 
 use super::lists::{Piece, list16_at, option_at};
 use super::numbers::{
@@ -92,7 +93,7 @@ impl Piece for Roof {
 
     ghost reads = { roof_at };
 
-    #[tactic(auto, unfolding(crate::specs::Decoding::roof_at, crate::specs::Decoding::natural_at))]
+    #[tactic(auto, unfolding(crate::specs::Decoding::roof_at, crate::specs::ByteReaders::natural_at))]
     fn read_at(_: Global, bytes: &[u8]) -> Result<(Roof, &[u8]), SiteBytesFault> {
         let (mass, rest) = u32_at(bytes)?;
         let mass = Kg::new(i64::from(mass)).unwrap();
@@ -110,7 +111,7 @@ impl Piece for Roof {
 // A row of a capacity table, in litres.
 impl Piece for i64 {
     ghost use Rattle.std.specs.Int.{w32};
-    ghost use Rattle.site_reading.specs.Decoding.{natural_at};
+    ghost use Rattle.site_reading.specs.ByteReaders.{natural_at};
 
     ghost reads = { natural_at w32 };
 

@@ -1,7 +1,8 @@
 use Rattle.std.proofs.Common.{◌<◌, length, take, arith}
 use Rattle.std.proofs.lemmas.List.{length-set, take_more_set}
 use Rattle.std.proofs.lemmas.Result.{err_from_is_err_and}
-use Rattle.site_reading.specs.Decoding.{counted_at, round_at}
+use Rattle.site_reading.specs.ByteReaders.{counted_at}
+use Rattle.site_reading.specs.Decoding.{round_at}
 use Rattle.site_reading.proofs.Counted.{goes_on, refused}
 use Rattle.site_reading.proofs.reading.heads.rows_at.Goals as goal
 

@@ -1,5 +1,6 @@
 use Rattle.std.proofs.Common.{◌≡◌, ◌-◌, length, take}
-use Rattle.site_reading.specs.Decoding.{counted_at, round_at}
+use Rattle.site_reading.specs.ByteReaders.{counted_at}
+use Rattle.site_reading.specs.Decoding.{round_at}
 use Rattle.site_reading.proofs.Counted.{with_front}
 use Rattle.site_reading.proofs.reading.heads.rows_at.Given as goal
 

@@ -1,6 +1,6 @@
 use Rattle.std.proofs.Common.{◌≡◌, [], ◌∷◌, ◌++◌, length-append, arith, rules}
 use Rattle.std.proofs.lemmas.Result.{err_from_is_err_and}
-use Rattle.site_reading.specs.Decoding.{counted_at}
+use Rattle.site_reading.specs.ByteReaders.{counted_at}
 use Rattle.site_reading.proofs.Counted.{goes_on, refused}
 use Rattle.site_reading.proofs.reading.lists.counted_at.Goals as goal
 

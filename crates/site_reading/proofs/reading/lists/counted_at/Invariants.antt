@@ -1,5 +1,5 @@
 use Rattle.std.proofs.Common.{◌≡◌, ◌-◌, length}
-use Rattle.site_reading.specs.Decoding.{counted_at}
+use Rattle.site_reading.specs.ByteReaders.{counted_at}
 use Rattle.site_reading.proofs.Counted.{with_front}
 use Rattle.site_reading.proofs.reading.lists.counted_at.Given as goal
 
