@@ -9,7 +9,7 @@ use std::alloc::Global;
 /// What a run ends with: its status, the bytes that it put, and those of its disk where they are looked at, and else none.
 #[derive(Debug, Drop)]
 pub struct Answer {
-    pub status: u8,
+    pub status: u64,
     pub output: Vec<u8>,
     pub disk: Vec<u8>,
 }
@@ -32,7 +32,7 @@ pub fn answer_over(
         &ports.clock,
     );
     let answer = Answer {
-        status: done.status,
+        status: u64::from(done.status),
         output: Vec::from_slice(alloc, ports.output.bytes())?,
         disk: Vec::new(alloc),
     };

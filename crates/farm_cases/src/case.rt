@@ -1,164 +1,228 @@
 //! What the files of cases have.
 
-use crate::text::Text;
-use serde::Deserialize;
+use crate::fault::CaseFault;
+use crate::keys::{Keys, wrong_type};
+use crate::text::{Text, text_at};
 use std::alloc::Global;
-use std::collections::BTreeMap;
-use std::default::MadeWith;
+use toml::{Table, Value};
 
-/// The files that each site has, by the site's name.
-pub type Sites = BTreeMap<String, Vec<String>>;
+/// The files that each site has: a list of names at the site's name.
+pub type Sites = Table;
 
 /// What is run.
-#[derive(Drop, Deserialize)]
-#[serde(deny_unknown_fields)]
-pub struct Listing {
+#[derive(Clone, Copy)]
+pub struct Listing<'a> {
     /// The files of cases, in the order in which they are run.
-    pub files: Vec<String>,
+    pub files: &'a [Value],
     /// The sites that a case can name.
-    pub sites: Sites,
+    pub sites: &'a Sites,
 }
 
-/// The cases of a file.
-#[derive(Drop, Deserialize)]
-#[serde(deny_unknown_fields)]
-pub struct CaseFile {
-    /// Its tables `[[case]]`.
-    #[serde(rename = "case")]
-    pub cases: Vec<Case>,
+impl<'a> Listing<'a> {
+    /// What the table of the listing has.
+    pub fn of(alloc: Global, table: &'a Table) -> Result<Self, CaseFault> {
+        let keys = Keys::of(alloc, table, &["files", "sites"], &[])?;
+        match keys.table("sites")? {
+            Some(sites) => Ok(Listing {
+                files: keys.list("files")?,
+                sites,
+            }),
+            None => Err(wrong_type(alloc, "sites")),
+        }
+    }
 }
 
 /// A case.
-#[derive(Drop, Deserialize)]
-#[serde(deny_unknown_fields)]
-pub struct Case {
+#[derive(Clone, Copy)]
+pub struct Case<'a> {
     /// The fact that it shows.
-    pub name: String,
-    /// The words after the program's name.
-    #[serde(default)]
-    pub words: Vec<String>,
-    /// What standard input has; nothing where it isn't given.
-    pub input: Option<Text>,
+    pub name: &'a str,
+    /// Its run.
+    pub run: Run<'a>,
     /// In pieces of how many bytes the input comes; in one piece where it isn't given.
-    pub piece_bytes: Option<u32>,
-    /// The site whose files the folder has.
-    pub site: Option<String>,
-    /// Files that the folder has besides, or in place of the site's.
-    #[serde(default)]
-    pub files: BTreeMap<String, Text>,
-    /// Files of the site that the folder hasn't.
-    #[serde(default)]
-    pub drop: Vec<String>,
-    /// Texts in files, each standing once, and what stands in their place: file, old text, new text.
-    #[serde(default)]
-    pub replace: Vec<(String, String, String)>,
-    /// The moment that the clock gives, in seconds since 1970-01-01 00:00:00 UTC; 0 where it isn't given.
-    #[serde(default)]
-    pub clock: i64,
-    /// The calls that fail in the run.
-    #[serde(default)]
-    pub fails: FailingCalls,
+    pub piece_bytes: Option<u64>,
+    /// How the folder differs from the files of its site.
+    pub changes: Changes<'a>,
     /// The disk before and after the run.
-    #[serde(default)]
-    pub disk: CaseDisk,
-    /// The status that is wanted.
-    pub status: u8,
+    pub disk: CaseDisk<'a>,
+}
+
+impl<'a> Case<'a> {
+    /// What a table `[[case]]` has.
+    pub fn of(alloc: Global, value: &'a Value) -> Result<Self, CaseFault> {
+        let needed = ["name", "status"];
+        let optional = [
+            "words",
+            "input",
+            "piece_bytes",
+            "site",
+            "files",
+            "drop",
+            "replace",
+            "clock",
+            "fails",
+            "disk",
+            "output",
+        ];
+        let keys = Keys::of_value(alloc, "case", value, &needed, &optional)?;
+        Ok(Case {
+            name: keys.text("name")?.unwrap_or(""),
+            run: Run::read(&keys)?,
+            piece_bytes: keys.natural("piece_bytes")?,
+            changes: Changes {
+                files: keys.table("files")?,
+                drop: keys.list("drop")?,
+                replace: keys.list("replace")?,
+            },
+            disk: CaseDisk::read(&keys)?,
+        })
+    }
+}
+
+/// A run, and what is wanted of it.
+#[derive(Clone, Copy)]
+pub struct Run<'a> {
+    /// The words after the program's name.
+    pub words: &'a [Value],
+    /// What standard input has; nothing where it isn't given.
+    pub input: Option<Text<'a>>,
+    /// The site whose files the folder has.
+    pub site: Option<&'a str>,
+    /// The moment that the clock gives, in seconds since 1970-01-01 00:00:00 UTC; 0 where it isn't given.
+    pub clock: i64,
+    /// The calls that fail in it.
+    pub fails: FailingCalls<'a>,
+    /// The status that is wanted; 0 where it isn't given.
+    pub status: u64,
     /// The output that is wanted; nothing where it isn't given.
-    pub output: Option<Text>,
+    pub output: Option<Text<'a>>,
+}
+
+impl<'a> Run<'a> {
+    /// What a table of `disk.before` has.
+    pub fn of(alloc: Global, value: &'a Value) -> Result<Self, CaseFault> {
+        let optional = ["input", "site", "clock", "fails", "status", "output"];
+        Run::read(&Keys::of_value(alloc, "before", value, &["words"], &optional)?)
+    }
+
+    /// What a table has at the keys of a run.
+    pub fn read(keys: &Keys<'a>) -> Result<Self, CaseFault> {
+        Ok(Run {
+            words: keys.list("words")?,
+            input: text_at(keys, "input")?,
+            site: keys.text("site")?,
+            clock: keys.integer("clock")?.unwrap_or(0),
+            fails: FailingCalls::read(keys)?,
+            status: keys.natural("status")?.unwrap_or(0),
+            output: text_at(keys, "output")?,
+        })
+    }
 }
 
 /// The calls that fail in a run, by their numbers from 1.
-#[derive(Drop, Deserialize)]
-#[serde(deny_unknown_fields)]
-pub struct FailingCalls {
+#[derive(Clone, Copy)]
+pub struct FailingCalls<'a> {
     /// The takes of the input.
-    #[serde(default)]
-    pub input: Vec<u64>,
+    pub input: &'a [Value],
     /// The puts to the output.
-    #[serde(default)]
-    pub output: Vec<u64>,
+    pub output: &'a [Value],
     /// The reads of the folder.
-    #[serde(default)]
-    pub folder: Vec<u64>,
+    pub folder: &'a [Value],
     /// The calls of the disk.
-    #[serde(default)]
-    pub disk: Vec<u64>,
+    pub disk: &'a [Value],
 }
 
-// No call fails.
-impl MadeWith<Global> for FailingCalls {
-    fn made_with(alloc: Global) -> Self {
-        FailingCalls {
-            input: Vec::new(alloc),
-            output: Vec::new(alloc),
-            folder: Vec::new(alloc),
-            disk: Vec::new(alloc),
+impl<'a> FailingCalls<'a> {
+    // What the key `fails` has.
+    fn read(keys: &Keys<'a>) -> Result<Self, CaseFault> {
+        let fails = keys.below("fails", &[], &["input", "output", "folder", "disk"])?;
+        Ok(FailingCalls {
+            input: fails.list("input")?,
+            output: fails.list("output")?,
+            folder: fails.list("folder")?,
+            disk: fails.list("disk")?,
+        })
+    }
+}
+
+/// How the folder of a case differs from the files of its site.
+#[derive(Clone, Copy)]
+pub struct Changes<'a> {
+    /// Files that the folder has besides, or in place of the site's: a text at each name.
+    pub files: Option<&'a Table>,
+    /// Files of the site that the folder hasn't.
+    pub drop: &'a [Value],
+    /// Texts in files, each standing once, and what stands in their place: file, old text, new text.
+    pub replace: &'a [Value],
+}
+
+impl<'a> Changes<'a> {
+    /// A folder that has the files of its site.
+    pub fn none() -> Self {
+        Changes {
+            files: None,
+            drop: &[],
+            replace: &[],
         }
+    }
+
+    /// Whether the site's file with a name is dropped, or another has its place.
+    pub fn covers(&self, name: &str) -> bool {
+        let is_dropped = self.drop.iter().any(|value| value.as_str() == Some(name));
+        let is_replaced = self.files.is_some_and(|files| files.contains_key(name));
+        is_dropped || is_replaced
     }
 }
 
 /// The disk of a case, before and after the case's run.
-#[derive(Drop, Deserialize)]
-#[serde(deny_unknown_fields)]
-pub struct CaseDisk {
+#[derive(Clone, Copy)]
+pub struct CaseDisk<'a> {
     /// Its first bytes; none where they aren't given.
-    pub bytes: Option<Text>,
+    pub bytes: Option<Text<'a>>,
     /// The site of which it has the journal, made by `init` before the other runs.
-    pub journal: Option<String>,
+    pub journal: Option<&'a str>,
     /// The runs on it before the case's own, one after another.
-    #[serde(default)]
-    pub before: Vec<Run>,
+    pub before: &'a [Value],
     /// What a crash leaves of it; what reads give where it isn't given.
-    pub image: Option<Image>,
+    pub image: Option<Image<'a>>,
     /// How many bytes it keeps of that, from its front; all where it isn't given.
-    pub cut: Option<u32>,
+    pub cut: Option<u64>,
     /// What reads of it have to give after the case's run; it isn't looked at where this isn't given.
-    pub after: Option<Text>,
+    pub after: Option<Text<'a>>,
 }
 
-// An empty disk, which isn't looked at after the run.
-impl MadeWith<Global> for CaseDisk {
-    fn made_with(alloc: Global) -> Self {
-        CaseDisk {
-            bytes: None,
-            journal: None,
-            before: Vec::new(alloc),
-            image: None,
-            cut: None,
-            after: None,
-        }
+impl<'a> CaseDisk<'a> {
+    // What the key `disk` has.
+    fn read(keys: &Keys<'a>) -> Result<Self, CaseFault> {
+        let optional = ["bytes", "journal", "before", "image", "cut", "after"];
+        let disk = keys.below("disk", &[], &optional)?;
+        Ok(CaseDisk {
+            bytes: text_at(&disk, "bytes")?,
+            journal: disk.text("journal")?,
+            before: disk.list("before")?,
+            image: Image::read(&disk)?,
+            cut: disk.natural("cut")?,
+            after: text_at(&disk, "after")?,
+        })
     }
 }
 
-/// A run on the disk of a case before the case's own.
-#[derive(Drop, Deserialize)]
-#[serde(deny_unknown_fields)]
-pub struct Run {
-    /// The words after the program's name.
-    pub words: Vec<String>,
-    /// What standard input has; nothing where it isn't given.
-    pub input: Option<Text>,
-    /// The site whose files the folder has.
-    pub site: Option<String>,
-    /// The moment that the clock gives; 0 where it isn't given.
-    #[serde(default)]
-    pub clock: i64,
-    /// The calls that fail in it.
-    #[serde(default)]
-    pub fails: FailingCalls,
-    /// The status that is wanted; 0 where it isn't given.
-    #[serde(default)]
-    pub status: u8,
-    /// The output that is wanted; nothing where it isn't given.
-    pub output: Option<Text>,
-}
-
 /// What a crash leaves of a disk.
-#[derive(Drop, Deserialize)]
-#[serde(deny_unknown_fields)]
-pub struct Image {
+#[derive(Clone, Copy)]
+pub struct Image<'a> {
     /// The moment of the crash, from the start of the last run before the case.
     pub moment: u64,
     /// What stands where any byte may be left: `old`, `new`, or the number of a byte.
-    pub fill: String,
+    pub fill: &'a str,
+}
+
+impl<'a> Image<'a> {
+    // What the key `image` has.
+    fn read(disk: &Keys<'a>) -> Result<Option<Self>, CaseFault> {
+        let image = disk.below("image", &["moment", "fill"], &[])?;
+        match (image.natural("moment")?, image.text("fill")?) {
+            (Some(moment), Some(fill)) => Ok(Some(Image { moment, fill })),
+            _ => Ok(None),
+        }
+    }
 }

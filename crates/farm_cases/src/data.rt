@@ -2,8 +2,8 @@
 
 use crate::fault::CaseFault;
 use farm_ports::{Folder, PortFault};
-use serde::de::DeserializeOwned;
 use std::alloc::Global;
+use toml::Table;
 
 /// A file of the folder of the cases has at most this many bytes that are read.
 const LONGEST_FILE: usize = 16_777_216;
@@ -17,12 +17,8 @@ pub fn read_file<F: Folder>(alloc: Global, data: &mut F, name: &str) -> Result<V
     }
 }
 
-/// What a TOML file has, in the form of a type.
-pub fn read_form<T: DeserializeOwned, F: Folder>(
-    alloc: Global,
-    data: &mut F,
-    name: &str,
-) -> Result<T, CaseFault> {
+/// The table that a TOML file is.
+pub fn read_table<F: Folder>(alloc: Global, data: &mut F, name: &str) -> Result<Table, CaseFault> {
     let bytes = read_file(alloc, data, name)?;
-    toml::from_slice(alloc, &bytes).map_err(CaseFault::Form)
+    toml::table_from_slice(alloc, &bytes).map_err(CaseFault::Form)
 }

@@ -4,26 +4,30 @@ ghost use Rattle.std.specs.Prelude.{◌≡◌, ℕ, IfOk, Some, take};
 ghost use Rattle.farm_base.specs.Known.{WhereKnown};
 ghost use Rattle.farm_disk.specs.Images.{IsCrashImage, state_at};
 
-use crate::case::{Case, CaseDisk, FailingCalls, Image, Run, Sites};
+use crate::case::{Case, CaseDisk, Image, Run, Sites};
 use crate::fault::CaseFault;
+use crate::keys::{Keys, numbers_of};
 use crate::text::given_bytes;
 use crate::trial::Trial;
 use farm_disk::{Disk, Fill, MemDisk};
 use farm_ports::Folder;
-use std::alloc::{AllocError, Global};
-use std::default::MadeWith;
+use std::alloc::Global;
+use toml::{Table, Value};
+
+/// The words of the run that makes the journal of a site.
+const MAKING: &str = "words = ['init', '--site=s', '--journal=j']";
 
 /// The disk of a case, before the case runs.
 pub fn disk_of<F: Folder>(
     alloc: Global,
     data: &mut F,
     sites: &Sites,
-    case: &Case,
+    case: &Case<'_>,
 ) -> Result<MemDisk, CaseFault> {
     let disk = first_disk(alloc, data, sites, &case.disk)?;
-    let disk = disk_after(alloc, data, sites, &case.disk.before, disk)?;
+    let disk = disk_after(alloc, data, sites, case.disk.before, disk)?;
     let bytes = front(left(alloc, disk, &case.disk.image)?, case.disk.cut)?;
-    Ok(MemDisk::new(alloc, bytes, case.fails.disk.clone()?)?)
+    disk_with(alloc, bytes, &case.run)
 }
 
 /// The bytes that reads of a disk give.
@@ -34,40 +38,47 @@ pub fn read_disk(alloc: Global, disk: MemDisk) -> Result<Vec<u8>, CaseFault> {
     Ok(bytes)
 }
 
+// A disk with these bytes, on which the calls of a run fail that are to fail.
+fn disk_with(alloc: Global, bytes: Vec<u8>, run: &Run<'_>) -> Result<MemDisk, CaseFault> {
+    let fails = numbers_of(alloc, "disk", run.fails.disk)?;
+    Ok(MemDisk::new(alloc, bytes, fails)?)
+}
+
 // The disk before the runs: with the bytes that the case gives, or the journal of its site.
 fn first_disk<F: Folder>(
     alloc: Global,
     data: &mut F,
     sites: &Sites,
-    given: &CaseDisk,
+    given: &CaseDisk<'_>,
 ) -> Result<MemDisk, CaseFault> {
-    let bytes = given_bytes(alloc, data, &given.bytes)?;
+    let bytes = given_bytes(alloc, data, given.bytes)?;
     let disk = MemDisk::new(alloc, bytes, Vec::new(alloc))?;
-    match &given.journal {
-        Some(site) => disk_after_run(alloc, data, sites, 0, &making_of(alloc, site)?, disk),
+    match given.journal {
+        Some(site) => journal_of(alloc, data, sites, site, disk),
         None => Ok(disk),
     }
 }
 
-// The run that makes the journal of a site.
-fn making_of(alloc: Global, site: &str) -> Result<Run, AllocError> {
-    Ok(Run {
-        words: making_words(alloc)?,
-        input: None,
-        site: Some(String::from_str(alloc, site)?),
-        clock: 0,
-        fails: FailingCalls::made_with(alloc),
-        status: 0,
-        output: None,
-    })
+// A disk on which the journal of a site was made.
+fn journal_of<F: Folder>(
+    alloc: Global,
+    data: &mut F,
+    sites: &Sites,
+    site: &str,
+    disk: MemDisk,
+) -> Result<MemDisk, CaseFault> {
+    let table = toml::table_from_str(alloc, MAKING).map_err(CaseFault::Form)?;
+    let run = making_of(alloc, &table, site)?;
+    disk_after_run(alloc, data, sites, 0, &run, disk)
 }
 
-fn making_words(alloc: Global) -> Result<Vec<String>, AllocError> {
-    let mut words = Vec::new(alloc);
-    for word in ["init", "--site=s", "--journal=j"] {
-        words.push(String::from_str(alloc, word)?)?;
-    }
-    Ok(words)
+// The run that makes the journal of a site, by the table of its words.
+fn making_of<'a>(alloc: Global, table: &'a Table, site: &'a str) -> Result<Run<'a>, CaseFault> {
+    let run = Run::read(&Keys::of(alloc, table, &["words"], &[])?)?;
+    Ok(Run {
+        site: Some(site),
+        ..run
+    })
 }
 
 // The disk after runs on it, one after another.
@@ -75,14 +86,14 @@ fn disk_after<F: Folder>(
     alloc: Global,
     data: &mut F,
     sites: &Sites,
-    runs: &[Run],
+    runs: &[Value],
     disk: MemDisk,
 ) -> Result<MemDisk, CaseFault> {
     let mut disk = disk;
     let mut number: u64 = 0;
     for run in runs {
         number = number.saturating_add(1);
-        disk = disk_after_run(alloc, data, sites, number, run, disk)?;
+        disk = disk_after_run(alloc, data, sites, number, &Run::of(alloc, run)?, disk)?;
     }
     Ok(disk)
 }
@@ -93,9 +104,10 @@ fn disk_after_run<F: Folder>(
     data: &mut F,
     sites: &Sites,
     number: u64,
-    run: &Run,
+    run: &Run<'_>,
     disk: MemDisk,
 ) -> Result<MemDisk, CaseFault> {
+    let disk = disk_with(alloc, read_disk(alloc, disk)?, run)?;
     let (trial, disk) = Trial::of_run(alloc, data, sites, run, disk)?;
     if trial.agrees() {
         Ok(disk)
@@ -105,7 +117,7 @@ fn disk_after_run<F: Folder>(
 }
 
 // What is left of a disk: what a crash leaves where there is one, and else what reads give.
-fn left(alloc: Global, disk: MemDisk, image: &Option<Image>) -> Result<Vec<u8>, CaseFault> {
+fn left(alloc: Global, disk: MemDisk, image: &Option<Image<'_>>) -> Result<Vec<u8>, CaseFault> {
     match image {
         Some(image) => crash_image(alloc, &disk, image),
         None => read_disk(alloc, disk),
@@ -113,14 +125,14 @@ fn left(alloc: Global, disk: MemDisk, image: &Option<Image>) -> Result<Vec<u8>, 
 }
 
 // What a crash leaves of a disk.
-fn crash_image(alloc: Global, disk: &MemDisk, image: &Image) -> Result<Vec<u8>, CaseFault>
+fn crash_image(alloc: Global, disk: &MemDisk, image: &Image<'_>) -> Result<Vec<u8>, CaseFault>
     ensures image { IfOk result (λ bytes. WhereKnown (⟦<MemDisk as Disk>⟧.trace disk.now) (λ states. IsCrashImage (state_at states image.now.moment) bytes.items)) }
 {
     let last = disk.stand().moment;
     if image.moment > last {
         return Err(CaseFault::NoMoment(last));
     }
-    let fill = fill_of(alloc, &image.fill)?;
+    let fill = fill_of(alloc, image.fill)?;
     Ok(disk.image(alloc, image.moment, fill)?)
 }
 
@@ -135,7 +147,7 @@ fn fill_of(alloc: Global, word: &str) -> Result<Fill, CaseFault> {
 }
 
 // The front of bytes of this length, or all of them.
-fn front(bytes: Vec<u8>, cut: Option<u32>) -> Result<Vec<u8>, CaseFault>
+fn front(bytes: Vec<u8>, cut: Option<u64>) -> Result<Vec<u8>, CaseFault>
     ensures front { IfOk result (λ kept. (size : ℕ) → cut ≡ Some size → kept.items ≡ take size bytes.items) }
 {
     let mut bytes = bytes;

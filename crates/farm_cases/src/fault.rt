@@ -12,9 +12,18 @@ pub enum CaseFault {
     /// A file of the folder of the cases can't be read.
     #[error("the file {0} can't be read")]
     Unread(String),
-    /// The file isn't TOML in the form of cases.
+    /// The file isn't TOML.
     #[error("{0}")]
     Form(toml::de::Error),
+    /// The table lacks a key that is needed.
+    #[error("there is no key {0}")]
+    KeyMissing(String),
+    /// The table has a key that it can't have.
+    #[error("the key {0} is unknown")]
+    KeyUnknown(String),
+    /// What stands at a key, or in its list, has another type, or is a number outside the key's range.
+    #[error("the value of {0} has the wrong type")]
+    WrongType(String),
     /// The case names a site that the list of sites hasn't.
     #[error("there is no site {0}")]
     NoSite(String),

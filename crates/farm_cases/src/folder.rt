@@ -4,91 +4,68 @@
 ghost use Rattle.std.specs.Prelude.{◌≡◌, ◌++◌, IfOk, IfSome};
 ghost use Rattle.farm_cases.specs.Texts.{IsReplaced};
 
-use crate::case::{Case, Sites};
+use crate::case::{Changes, Run, Sites};
 use crate::data::read_file;
 use crate::fault::CaseFault;
-use crate::text::text_bytes;
+use crate::keys::{list_of, numbers_of, texts_of, wrong_type};
+use crate::text::{Text, text_bytes};
 use farm_ports::{Files, Folder};
 use std::alloc::Global;
+use toml::Value;
 
 /// A file by its name.
 type NamedFile = (String, Vec<u8>);
 
-/// The folder of a case.
+/// The folder of a run: the files of its site with these changes, whose reads fail that are to fail; without a site it begins empty.
 pub fn folder_of<F: Folder>(
     alloc: Global,
     data: &mut F,
     sites: &Sites,
-    case: &Case,
+    run: &Run<'_>,
+    changes: &Changes<'_>,
 ) -> Result<Files, CaseFault> {
+    let fails = numbers_of(alloc, "folder", run.fails.folder)?;
     let mut files = Vec::new(alloc);
-    add_site(&mut files, alloc, data, sites, case)?;
-    add_files(&mut files, alloc, data, case)?;
-    replace_texts(&mut files, alloc, case)?;
-    Ok(Files::new(alloc, files, case.fails.folder.clone()?)?)
+    add_site(&mut files, alloc, data, sites, run.site, changes)?;
+    add_files(&mut files, alloc, data, changes)?;
+    replace_texts(&mut files, alloc, changes.replace)?;
+    Ok(Files::new(alloc, files, fails)?)
 }
 
-/// The folder of a site, as its files stand, whose reads of these numbers fail; an empty one where no site is given.
-pub fn site_folder<F: Folder>(
-    alloc: Global,
-    data: &mut F,
-    sites: &Sites,
-    site: &Option<String>,
-    fails: &Vec<u64>,
-) -> Result<Files, CaseFault> {
-    let mut files = Vec::new(alloc);
-    if let Some(site) = site {
-        for name in site_files(alloc, sites, site)? {
-            add_site_file(&mut files, alloc, data, site, name)?;
-        }
-    }
-    Ok(Files::new(alloc, files, fails.clone()?)?)
-}
-
-// The names of the files of a site.
-fn site_files<'a>(alloc: Global, sites: &'a Sites, site: &str) -> Result<&'a [String], CaseFault> {
-    match sites.get(site) {
-        Some(names) => Ok(names),
-        None => Err(CaseFault::NoSite(String::from_str(alloc, site)?)),
-    }
-}
-
-// Adds a file of a site.
-fn add_site_file<F: Folder>(
-    files: &mut Vec<NamedFile>,
-    alloc: Global,
-    data: &mut F,
-    site: &str,
-    name: &str,
-) -> Result<(), CaseFault> {
-    let path = format!(in alloc; "{site}/{name}")?;
-    add_file(files, alloc, name, read_file(alloc, data, &path)?)
-}
-
-// Adds the files of the case's site.
+// Adds the files of a site that aren't dropped and have none in their place.
 fn add_site<F: Folder>(
     files: &mut Vec<NamedFile>,
     alloc: Global,
     data: &mut F,
     sites: &Sites,
-    case: &Case,
+    site: Option<&str>,
+    changes: &Changes<'_>,
 ) -> Result<(), CaseFault> {
-    let Some(site) = &case.site else {
-        return no_drop(alloc, &[], &case.drop);
+    let Some(site) = site else {
+        return check_dropped(alloc, &[], changes.drop);
     };
-    let names = site_files(alloc, sites, site)?;
-    no_drop(alloc, names, &case.drop)?;
-    for name in names {
-        if !case.drop.contains(name) && !case.files.contains_key(name.as_str()) {
-            add_site_file(files, alloc, data, site, name)?;
+    let names = texts_of(alloc, site, site_files(alloc, sites, site)?)?;
+    check_dropped(alloc, &names, changes.drop)?;
+    for name in &names {
+        if !changes.covers(name) {
+            let path = format!(in alloc; "{site}/{name}")?;
+            add_file(files, alloc, name, read_file(alloc, data, &path)?)?;
         }
     }
     Ok(())
 }
 
+// The names of the files of a site.
+fn site_files<'a>(alloc: Global, sites: &'a Sites, site: &str) -> Result<&'a [Value], CaseFault> {
+    match sites.get(site) {
+        Some(names) => list_of(alloc, site, names),
+        None => Err(CaseFault::NoSite(String::from_str(alloc, site)?)),
+    }
+}
+
 // Refuses a dropped file that the site hasn't.
-fn no_drop(alloc: Global, names: &[String], dropped: &[String]) -> Result<(), CaseFault> {
-    for name in dropped {
+fn check_dropped(alloc: Global, names: &[String], dropped: &[Value]) -> Result<(), CaseFault> {
+    for name in &texts_of(alloc, "drop", dropped)? {
         if !names.contains(name) {
             return Err(CaseFault::NoFile(String::from_str(alloc, name)?));
         }
@@ -96,16 +73,18 @@ fn no_drop(alloc: Global, names: &[String], dropped: &[String]) -> Result<(), Ca
     Ok(())
 }
 
-// Adds the case's own files.
+// Adds the files that the folder has besides.
 fn add_files<F: Folder>(
     files: &mut Vec<NamedFile>,
     alloc: Global,
     data: &mut F,
-    case: &Case,
+    changes: &Changes<'_>,
 ) -> Result<(), CaseFault> {
-    for (name, text) in &case.files {
-        let bytes = text_bytes(alloc, data, text)?;
-        add_file(files, alloc, name, bytes)?;
+    if let Some(table) = changes.files {
+        for (name, value) in table {
+            let bytes = text_bytes(alloc, data, Text::of(alloc, name, value)?)?;
+            add_file(files, alloc, name, bytes)?;
+        }
     }
     Ok(())
 }
@@ -120,10 +99,18 @@ fn add_file(
     Ok(())
 }
 
-// Replaces the case's texts, one after another.
-fn replace_texts(files: &mut [NamedFile], alloc: Global, case: &Case) -> Result<(), CaseFault> {
-    for (name, old, new) in &case.replace {
-        replace_text(files, alloc, name, old, new)?;
+// Replaces texts, one after another.
+fn replace_texts(
+    files: &mut [NamedFile],
+    alloc: Global,
+    replace: &[Value],
+) -> Result<(), CaseFault> {
+    for value in replace {
+        let texts = texts_of(alloc, "replace", list_of(alloc, "replace", value)?)?;
+        match texts.as_slice() {
+            [name, old, new] => replace_text(files, alloc, name, old, new)?,
+            _ => return Err(wrong_type(alloc, "replace")),
+        }
     }
     Ok(())
 }

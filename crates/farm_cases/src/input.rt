@@ -10,14 +10,14 @@ use std::alloc::{AllocError, Global};
 pub fn source_of(
     alloc: Global,
     bytes: &[u8],
-    piece_bytes: Option<u32>,
-    fails: &Vec<u64>,
+    piece_bytes: Option<u64>,
+    fails: Vec<u64>,
 ) -> Result<Script, NoMemory>
     ensures left { IfOk result (λ source. ⟦<Script as Port>⟧.stream source ≡ Some (record { taken = []; left = bytes.now })) }
 {
     let size = piece_bytes.map_or(bytes.len(), |size| size as usize);
     let pieces = pieces_of(alloc, bytes, size.max(1))?;
-    Script::new(alloc, pieces, fails.clone()?)
+    Script::new(alloc, pieces, fails)
 }
 
 // The bytes in pieces of a number of bytes; the last may be shorter.

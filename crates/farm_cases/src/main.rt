@@ -13,19 +13,23 @@ mod disk;
 mod fault;
 mod folder;
 mod input;
+mod keys;
 mod ports;
 mod row;
 mod text;
 mod trial;
 
-use crate::case::{Case, CaseFile, Listing, Sites};
-use crate::data::read_form;
+use crate::case::{Case, Listing, Sites};
+use crate::data::read_table;
+use crate::fault::CaseFault;
+use crate::keys::{Keys, texts_of};
 use crate::row::has_row_site;
 use crate::trial::Trial;
 use farm_ports::{DirFolder, Folder};
 use std::alloc::Global;
 use std::rt::Env;
 use std::{env, io};
+use toml::{Table, Value};
 
 /// The file that lists the files of cases and the sites.
 const LISTING: &str = "cases.toml";
@@ -35,17 +39,15 @@ fn main(rt: HostRuntime) -> anyhow::Result<()> {
     let words = arguments(&rt)?;
     let folder = words.first().map_or(".", |word| word.as_str());
     let mut data = DirFolder::new(&rt, String::from_str(rt.alloc(), folder)?);
-    let listing: Listing = read_form(rt.alloc(), &mut data, LISTING)?;
+    let table = read_table(rt.alloc(), &mut data, LISTING)?;
+    let listing = Listing::of(rt.alloc(), &table)?;
     match words.get(1..) {
-        Some(files) if !files.is_empty() => run_files(
-            &rt,
-            rt.alloc(),
-            &mut data,
-            &listing.sites,
-            files,
-        )?,
+        Some(files) if !files.is_empty() => {
+            run_files(&rt, rt.alloc(), &mut data, listing.sites, files)?;
+        }
         _ => {
-            run_files(&rt, rt.alloc(), &mut data, &listing.sites, &listing.files)?;
+            let files = texts_of(rt.alloc(), "files", listing.files)?;
+            run_files(&rt, rt.alloc(), &mut data, listing.sites, &files)?;
             compare_row_site(&rt, rt.alloc(), &mut data)?;
         }
     }
@@ -78,10 +80,30 @@ fn run_file<F: Folder>(
     sites: &Sites,
     name: &str,
 ) -> io::Result<()> {
-    match read_form::<CaseFile, F>(alloc, data, name) {
-        Ok(file) => run_cases(rt, alloc, data, sites, name, &file.cases),
+    match read_table(alloc, data, name) {
+        Ok(table) => run_table(rt, alloc, data, sites, name, &table),
         Err(fault) => println!(rt; "{name}: {fault}"),
     }
+}
+
+// Runs the cases of the table that a file is.
+fn run_table<F: Folder>(
+    rt: &impl Print,
+    alloc: Global,
+    data: &mut F,
+    sites: &Sites,
+    name: &str,
+    table: &Table,
+) -> io::Result<()> {
+    match cases_of(alloc, table) {
+        Ok(cases) => run_cases(rt, alloc, data, sites, name, cases),
+        Err(fault) => println!(rt; "{name}: {fault}"),
+    }
+}
+
+// The tables `[[case]]` of a file.
+fn cases_of(alloc: Global, table: &Table) -> Result<&[Value], CaseFault> {
+    Keys::of(alloc, table, &["case"], &[])?.list("case")
 }
 
 fn run_cases<F: Folder>(
@@ -90,29 +112,48 @@ fn run_cases<F: Folder>(
     data: &mut F,
     sites: &Sites,
     name: &str,
-    cases: &[Case],
+    cases: &[Value],
 ) -> io::Result<()> {
+    let mut number: u64 = 0;
     let mut differing: u64 = 0;
     for case in cases {
-        if !run_case(rt, alloc, data, sites, name, case)? {
+        number = number.saturating_add(1);
+        if !run_case(rt, alloc, data, sites, name, number, case)? {
             differing = differing.saturating_add(1);
         }
     }
     if differing == 0 {
-        println!(rt; "{name}: {} cases", cases.len())
+        println!(rt; "{name}: {number} cases")
     } else {
-        println!(rt; "{name}: {} cases, {differing} differ", cases.len())
+        println!(rt; "{name}: {number} cases, {differing} differ")
     }
 }
 
-// Runs a case, prints it where it differs, and says whether it agrees.
+// Runs a case, prints it where it differs or can't be run, and says whether it agrees.
 fn run_case<F: Folder>(
     rt: &impl Print,
     alloc: Global,
     data: &mut F,
     sites: &Sites,
     file: &str,
-    case: &Case,
+    number: u64,
+    value: &Value,
+) -> io::Result<bool> {
+    match Case::of(alloc, value) {
+        Ok(case) => return run_trial(rt, alloc, data, sites, file, &case),
+        Err(fault) => println!(rt; "{file}: case {number}: {fault}")?,
+    }
+    Ok(false)
+}
+
+// Runs a case that has its form, prints it where it differs or can't be run, and says whether it agrees.
+fn run_trial<F: Folder>(
+    rt: &impl Print,
+    alloc: Global,
+    data: &mut F,
+    sites: &Sites,
+    file: &str,
+    case: &Case<'_>,
 ) -> io::Result<bool> {
     match Trial::of_case(alloc, data, sites, case) {
         Ok(trial) if trial.agrees() => return Ok(true),

@@ -1,10 +1,10 @@
 //! The ports of a run, in memory.
 
-use crate::case::{Case, Run, Sites};
+use crate::case::Run;
 use crate::fault::CaseFault;
-use crate::folder::{folder_of, site_folder};
 use crate::input::source_of;
-use crate::text::{Text, given_bytes};
+use crate::keys::numbers_of;
+use crate::text::given_bytes;
 use farm_ports::{Files, Fixed, Folder, Gather, Script};
 use std::alloc::Global;
 
@@ -17,50 +17,30 @@ pub struct Ports {
     pub folder: Files,
 }
 
-/// The ports of a case.
-pub fn ports_of_case<F: Folder>(
+/// The ports of a run with this folder, whose input comes in pieces of a number of bytes or in one.
+pub fn ports_of<F: Folder>(
     alloc: Global,
     data: &mut F,
-    sites: &Sites,
-    case: &Case,
-) -> Result<Ports, CaseFault> {
-    Ok(Ports {
-        clock: Fixed::new(alloc, case.clock)?,
-        output: Gather::new(alloc, case.fails.output.clone()?)?,
-        input: input_of(
-            alloc,
-            data,
-            &case.input,
-            case.piece_bytes,
-            &case.fails.input,
-        )?,
-        folder: folder_of(alloc, data, sites, case)?,
-    })
-}
-
-/// The ports of a run before a case.
-pub fn ports_of_run<F: Folder>(
-    alloc: Global,
-    data: &mut F,
-    sites: &Sites,
-    run: &Run,
+    run: &Run<'_>,
+    piece_bytes: Option<u64>,
+    folder: Files,
 ) -> Result<Ports, CaseFault> {
     Ok(Ports {
         clock: Fixed::new(alloc, run.clock)?,
-        output: Gather::new(alloc, run.fails.output.clone()?)?,
-        input: input_of(alloc, data, &run.input, None, &run.fails.input)?,
-        folder: site_folder(alloc, data, sites, &run.site, &run.fails.folder)?,
+        output: Gather::new(alloc, numbers_of(alloc, "output", run.fails.output)?)?,
+        input: input_of(alloc, data, run, piece_bytes)?,
+        folder,
     })
 }
 
-// An input, in pieces of a number of bytes or in one, whose takes of these numbers fail.
+// The input of a run, in pieces of a number of bytes or in one.
 fn input_of<F: Folder>(
     alloc: Global,
     data: &mut F,
-    text: &Option<Text>,
-    piece_bytes: Option<u32>,
-    fails: &Vec<u64>,
+    run: &Run<'_>,
+    piece_bytes: Option<u64>,
 ) -> Result<Script, CaseFault> {
-    let bytes = given_bytes(alloc, data, text)?;
+    let fails = numbers_of(alloc, "input", run.fails.input)?;
+    let bytes = given_bytes(alloc, data, run.input)?;
     Ok(source_of(alloc, &bytes, piece_bytes, fails)?)
 }

@@ -5,35 +5,55 @@ ghost use Rattle.farm_cases.specs.Texts.{joined_pieces};
 
 use crate::data::read_file;
 use crate::fault::CaseFault;
+use crate::keys::{Keys, list_of, wrong_type};
 use farm_ports::Folder;
-use serde::Deserialize;
 use std::alloc::{AllocError, Global};
+use toml::Value;
 
 /// A text of a case.
-#[derive(Drop, Deserialize)]
-#[serde(untagged)]
-pub enum Text {
+#[derive(Clone, Copy)]
+pub enum Text<'a> {
     /// As it stands.
-    Whole(String),
-    /// Pieces one after another, each as many times as its number says.
-    Pieces(Vec<(String, u32)>),
-    /// The bytes of a file of the folder of the cases.
-    File {
-        /// Its path from that folder.
-        file: String,
-    },
+    Whole(&'a str),
+    /// Pieces one after another, each a list of its text and how many times it stands.
+    Pieces(&'a [Value]),
+    /// The bytes of the file at a path from the folder of the cases.
+    File(&'a str),
+}
+
+impl<'a> Text<'a> {
+    /// The text that is the value at a key.
+    pub fn of(alloc: Global, key: &str, value: &'a Value) -> Result<Self, CaseFault> {
+        match value {
+            Value::String(text) => Ok(Text::Whole(text)),
+            Value::Array(pieces) => Ok(Text::Pieces(pieces)),
+            Value::Table(table) => {
+                let file = Keys::of(alloc, table, &["file"], &[])?.text("file")?;
+                Ok(Text::File(file.unwrap_or("")))
+            }
+            _ => Err(wrong_type(alloc, key)),
+        }
+    }
+}
+
+/// The text at a key.
+pub fn text_at<'a>(keys: &Keys<'a>, key: &str) -> Result<Option<Text<'a>>, CaseFault> {
+    match keys.value(key) {
+        Some(value) => Ok(Some(Text::of(keys.alloc(), key, value)?)),
+        None => Ok(None),
+    }
 }
 
 /// The bytes of a text.
 pub fn text_bytes<F: Folder>(
     alloc: Global,
     data: &mut F,
-    text: &Text,
+    text: Text<'_>,
 ) -> Result<Vec<u8>, CaseFault> {
     match text {
         Text::Whole(text) => Ok(Vec::from_slice(alloc, text.as_bytes())?),
-        Text::Pieces(pieces) => Ok(joined(alloc, pieces)?),
-        Text::File { file } => read_file(alloc, data, file),
+        Text::Pieces(pieces) => Ok(joined(alloc, &pieces_of(alloc, pieces)?)?),
+        Text::File(file) => read_file(alloc, data, file),
     }
 }
 
@@ -41,11 +61,35 @@ pub fn text_bytes<F: Folder>(
 pub fn given_bytes<F: Folder>(
     alloc: Global,
     data: &mut F,
-    text: &Option<Text>,
+    text: Option<Text<'_>>,
 ) -> Result<Vec<u8>, CaseFault> {
     match text {
         Some(text) => text_bytes(alloc, data, text),
         None => Ok(Vec::new(alloc)),
+    }
+}
+
+// The pieces that values give.
+fn pieces_of(alloc: Global, values: &[Value]) -> Result<Vec<(String, u32)>, CaseFault> {
+    let mut pieces = Vec::new(alloc);
+    for value in values {
+        pieces.push(piece_of(alloc, value)?)?;
+    }
+    Ok(pieces)
+}
+
+// The piece that a value gives, a list of its text and its number.
+fn piece_of(alloc: Global, value: &Value) -> Result<(String, u32), CaseFault> {
+    let items = list_of(alloc, "a piece", value)?;
+    match (
+        items.first().and_then(Value::as_str),
+        items.get(1).and_then(Value::as_integer),
+    ) {
+        (Some(text), Some(times)) if items.len() == 2 => match u32::try_from(times) {
+            Ok(times) => Ok((String::from_str(alloc, text)?, times)),
+            Err(_) => Err(wrong_type(alloc, "a piece")),
+        },
+        _ => Err(wrong_type(alloc, "a piece")),
     }
 }
 

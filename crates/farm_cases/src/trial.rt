@@ -3,14 +3,16 @@
 ghost use Rattle.std.specs.Prelude.{◌≡◌, ◌↔◌, IsTrue};
 
 use crate::answer::{Answer, answer_over};
-use crate::case::{Case, Run, Sites};
+use crate::case::{Case, Changes, Run, Sites};
 use crate::difference::{write_disk, write_output};
 use crate::disk::{disk_of, read_disk};
 use crate::fault::CaseFault;
-use crate::ports::{ports_of_case, ports_of_run};
+use crate::folder::folder_of;
+use crate::keys::texts_of;
+use crate::ports::ports_of;
 use crate::text::given_bytes;
 use farm_disk::MemDisk;
-use farm_ports::Folder;
+use farm_ports::{Files, Folder};
 use std::alloc::Global;
 use std::fmt;
 
@@ -27,32 +29,47 @@ impl Trial {
         alloc: Global,
         data: &mut F,
         sites: &Sites,
-        case: &Case,
+        case: &Case<'_>,
     ) -> Result<Self, CaseFault> {
-        Ok(Trial {
-            came: answer_of(alloc, data, sites, case)?,
-            wanted: Answer {
-                status: case.status,
-                output: given_bytes(alloc, data, &case.output)?,
-                disk: given_bytes(alloc, data, &case.disk.after)?,
-            },
-        })
+        let disk = disk_of(alloc, data, sites, case)?;
+        let folder = folder_of(alloc, data, sites, &case.run, &case.changes)?;
+        let (trial, disk) = Trial::over(alloc, data, &case.run, case.piece_bytes, folder, disk)?;
+        if case.disk.after.is_none() {
+            return Ok(trial);
+        }
+        let mut trial = trial;
+        trial.wanted.disk = given_bytes(alloc, data, case.disk.after)?;
+        trial.came.disk = read_disk(alloc, disk)?;
+        Ok(trial)
     }
 
-    /// Runs what is run before a case, on what reads of a disk give, and gives the disk that it leaves.
+    /// Runs what is run on a disk before a case, and gives the disk that it leaves.
     pub fn of_run<F: Folder>(
         alloc: Global,
         data: &mut F,
         sites: &Sites,
-        run: &Run,
+        run: &Run<'_>,
         disk: MemDisk,
     ) -> Result<(Self, MemDisk), CaseFault> {
-        let disk = MemDisk::new(alloc, read_disk(alloc, disk)?, run.fails.disk.clone()?)?;
-        let ports = ports_of_run(alloc, data, sites, run)?;
-        let (came, disk) = answer_over(alloc, &run.words, ports, disk)?;
+        let folder = folder_of(alloc, data, sites, run, &Changes::none())?;
+        Trial::over(alloc, data, run, None, folder, disk)
+    }
+
+    // A run over a folder and a disk, without what is wanted of its disk, and the disk that it leaves.
+    fn over<F: Folder>(
+        alloc: Global,
+        data: &mut F,
+        run: &Run<'_>,
+        piece_bytes: Option<u64>,
+        folder: Files,
+        disk: MemDisk,
+    ) -> Result<(Self, MemDisk), CaseFault> {
+        let ports = ports_of(alloc, data, run, piece_bytes, folder)?;
+        let words = texts_of(alloc, "words", run.words)?;
+        let (came, disk) = answer_over(alloc, &words, ports, disk)?;
         let wanted = Answer {
             status: run.status,
-            output: given_bytes(alloc, data, &run.output)?,
+            output: given_bytes(alloc, data, run.output)?,
             disk: Vec::new(alloc),
         };
         Ok((Trial { wanted, came }, disk))
@@ -76,23 +93,4 @@ impl fmt::Display for Trial {
         write_output(&wanted.output, &came.output, f)?;
         write_disk(&wanted.disk, &came.disk, f)
     }
-}
-
-// What the program answers to a case, with the disk that it leaves where that is looked at.
-fn answer_of<F: Folder>(
-    alloc: Global,
-    data: &mut F,
-    sites: &Sites,
-    case: &Case,
-) -> Result<Answer, CaseFault> {
-    let disk = disk_of(alloc, data, sites, case)?;
-    let ports = ports_of_case(alloc, data, sites, case)?;
-    let (answer, disk) = answer_over(alloc, &case.words, ports, disk)?;
-    if case.disk.after.is_none() {
-        return Ok(answer);
-    }
-    Ok(Answer {
-        disk: read_disk(alloc, disk)?,
-        ..answer
-    })
 }
