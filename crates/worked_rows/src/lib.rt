@@ -1,7 +1,7 @@
 //! The worked rows of the program's runs: examples worked by hand, with the bytes that they give.
 //!
-//! Each is a test on `run`, or on calls of several crates; one is a contract, which shows it on the definition of postings. Further
-//! cases are data, in `farm_cases`.
+//! Each is a test on `run`, or on calls of several crates; one is a contract, which shows it on the definition of postings. The tests
+//! of `batch_lines` stand here too. Further cases are data, in `farm_cases`.
 #![tactic(auto)]
 
 mod postings;

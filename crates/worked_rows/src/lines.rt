@@ -16,15 +16,17 @@ fn source(alloc: Global, pieces: &[&[u8]], fails: Vec<u64>) -> Result<Script, No
     Script::new(alloc, copies, fails)
 }
 
-// The place of the first read that finds another cut, or another line where it finds one.
+// The place of the first read of such a source that finds another cut, or another line where it finds one.
 fn first_other(
     alloc: Global,
-    input: &mut Script,
+    pieces: &[&[u8]],
+    fails: Vec<u64>,
     wants: &[(Cut, Option<&[u8]>)],
 ) -> Result<Option<usize>, NoMemory> {
+    let mut input = source(alloc, pieces, fails)?;
     let mut reader = shared(LineReader::new(alloc)?);
     for (place, (cut, line)) in wants.iter().enumerate() {
-        let found = reader.read(input);
+        let found = reader.read(&mut input);
         let keeps = matches!(found, Cut::Line | Cut::Last);
         if found != *cut || keeps && reader.line() != *line {
             return Ok(Some(place));
@@ -37,7 +39,7 @@ fn first_other(
 fn lines_go_on_across_pieces(rt: HostRuntime) -> Result<(), Fail> {
     let mut checks = Checks::new(&rt);
     let alloc = rt.alloc();
-    let mut input = source(alloc, &[b"ab", b"c\n\nd", b"e\nf"], Vec::new(alloc))?;
+    let pieces: [&[u8]; 3] = [b"ab", b"c\n\nd", b"e\nf"];
     let wants = [
         (Cut::Line, Some(b"abc".as_slice())),
         (Cut::Line, Some(b"")),
@@ -45,7 +47,8 @@ fn lines_go_on_across_pieces(rt: HostRuntime) -> Result<(), Fail> {
         (Cut::Last, Some(b"f")),
         (Cut::End, None),
     ];
-    checks.same(first_other(alloc, &mut input, &wants)?, None);
+    let other = first_other(alloc, &pieces, Vec::new(alloc), &wants)?;
+    checks.same(other, None);
     Ok(checks.end()?)
 }
 
@@ -53,9 +56,9 @@ fn lines_go_on_across_pieces(rt: HostRuntime) -> Result<(), Fail> {
 fn no_line_is_after_the_last_line_feed(rt: HostRuntime) -> Result<(), Fail> {
     let mut checks = Checks::new(&rt);
     let alloc = rt.alloc();
-    let mut input = source(alloc, &[b"a\n"], Vec::new(alloc))?;
     let wants = [(Cut::Line, Some(b"a".as_slice())), (Cut::End, None)];
-    checks.same(first_other(alloc, &mut input, &wants)?, None);
+    let other = first_other(alloc, &[b"a\n"], Vec::new(alloc), &wants)?;
+    checks.same(other, None);
     Ok(checks.end()?)
 }
 
@@ -64,17 +67,14 @@ fn a_line_of_65_537_bytes_is_passed_over(rt: HostRuntime) -> Result<(), Fail> {
     let mut checks = Checks::new(&rt);
     let alloc = rt.alloc();
     let longest = vec![in alloc; b'x'; 65_536]?;
-    let mut input = source(
-        alloc,
-        &[&longest, b"\n", &longest, b"x\ny\n"],
-        Vec::new(alloc),
-    )?;
+    let pieces: [&[u8]; 4] = [&longest, b"\n", &longest, b"x\ny\n"];
     let wants = [
         (Cut::Line, Some(longest.as_slice())),
         (Cut::Line, None),
         (Cut::Line, Some(b"y")),
     ];
-    checks.same(first_other(alloc, &mut input, &wants)?, None);
+    let other = first_other(alloc, &pieces, Vec::new(alloc), &wants)?;
+    checks.same(other, None);
     Ok(checks.end()?)
 }
 
@@ -82,9 +82,9 @@ fn a_line_of_65_537_bytes_is_passed_over(rt: HostRuntime) -> Result<(), Fail> {
 fn no_take_runs_ahead_of_a_line(rt: HostRuntime) -> Result<(), Fail> {
     let mut checks = Checks::new(&rt);
     let alloc = rt.alloc();
-    let mut input = source(alloc, &[b"a\n", b"b"], vec![in alloc; 2]?)?;
     let wants = [(Cut::Line, Some(b"a".as_slice())), (Cut::Failed, None)];
-    checks.same(first_other(alloc, &mut input, &wants)?, None);
+    let other = first_other(alloc, &[b"a\n", b"b"], vec![in alloc; 2]?, &wants)?;
+    checks.same(other, None);
     Ok(checks.end()?)
 }
 
