@@ -1,5 +1,5 @@
 -- The arguments as a command, and what they name.
-use Rattle.std.specs.Prelude.{ℕ, Bool, List, [], ◌∷◌, Option, Some, None, codes, if◌then◌else◌}
+use Rattle.std.specs.Prelude.{ℕ, List, [], ◌∷◌, Option, Some, None, codes, if◌then◌else◌}
 use Rattle.std.specs.Str.{bytes_eq}
 use Rattle.command_line.specs.declared.commands.Subcommand.{Subcommand}
 use Rattle.command_line.specs.declared.commands.Subcommand.TheVariants.{Batch, Calc, Init, Table}

@@ -1,5 +1,5 @@
 -- Options among the arguments of a command, each as two words `--name value` or one `--name=value`.
-use Rattle.std.specs.Prelude.{ℕ, ◌+◌, ◌==◌, Bool, false, if◌then◌else◌, List, [], ◌∷◌, ◌++◌, length, take, drop, Option, Some, None, codes, option_and_then}
+use Rattle.std.specs.Prelude.{ℕ, ◌+◌, ◌==◌, Bool, false, if◌then◌else◌, List, [], ◌∷◌, length, take, drop, Option, Some, None, codes, option_and_then}
 use Rattle.std.specs.Str.{bytes_eq}
 
 -- what follows a front in a text
