@@ -1,3 +1,4 @@
 pub mod ShortLists
 pub mod Lines
 pub mod NoFloats
+pub mod Sorted

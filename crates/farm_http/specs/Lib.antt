@@ -1,4 +1,5 @@
 pub mod Members
+pub mod Objects
 pub mod Requests
 pub mod Tickets
 pub mod Answers

@@ -1,25 +1,13 @@
 -- The members of a ticket's body, in sorted order. Volumes are whole litres, masses whole kilograms, and factors are in 0.00001.
-use Rattle.std.specs.Prelude.{ℕ, List, codes, Option, Some, None, ℤ}
-use Rattle.serde_json.specs.Data.{Data, Members, array, item, member, no_items, no_members, number, object, put, string, unsigned}
-use Rattle.serde_json.specs.Find.{of_integer}
+use Rattle.std.specs.Prelude.{ℕ, List, codes, Option, Some, None}
+use Rattle.serde_json.specs.Data.{Data, Members, array, item, member, no_items, no_members, object, put, string}
 use Rattle.farm_fixed.specs.declared.records.Quantities.{Quantities}
 use Rattle.farm_ticket.specs.Tickets.{Ticket}
 use Rattle.farm_ticket.specs.declared.side.Moved.{Moved}
 use Rattle.farm_ticket.specs.declared.side.Side.{Side}
 use Rattle.farm_ticket.specs.declared.side.Way.{Way}
 use Rattle.farm_ticket.specs.declared.side.Way.TheVariants.{Inward, Outward}
-
--- a member that is a number
-abbrev pub numbered : List ℕ → ℕ → Members → Members
-numbered name value members = member name (number (unsigned value)) members
-
--- a member that is a number of either sign
-abbrev pub signed : List ℕ → ℤ → Members → Members
-signed name value members = member name (number (of_integer value)) members
-
--- members, with a number at a name
-abbrev pub with_number : List ℕ → ℤ → Members → Members
-with_number name value members = put name (number (of_integer value)) members
+use Rattle.farm_http.specs.Objects.{numbered, signed, with_natural, with_number}
 
 -- members, with the figures up to the gross observed volume
 abbrev pub with_observed : Quantities → Members → Members
@@ -44,6 +32,11 @@ figures_value q = object (
 unfoldable pub moved_value : Moved → Data
 moved_value m = object (signed (codes "gsv") m.gsv (signed (codes "kg") m.mass (signed (codes "nsv") m.nsv (signed (codes "swv") m.swv no_members))))
 
+-- members, with what moved
+abbrev pub with_moved : Moved → Members → Members
+with_moved m members =
+    with_number (codes "swv") m.swv (with_number (codes "nsv") m.nsv (with_number (codes "kg") m.mass (with_number (codes "gsv") m.gsv members)))
+
 -- the word of a way
 abbrev pub way_word : Way → List ℕ
 way_word Inward = codes "in"
@@ -56,6 +49,12 @@ side_value side = object (
     (member (codes "opening") (figures_value side.opening) (numbered (codes "tank") side.tank
     (member (codes "way") (string (way_word side.way)) no_members)))))
 
+-- members, with what a side has
+abbrev pub with_side : Side → Members → Members
+with_side side members =
+    put (codes "way") (string (way_word side.way)) (with_natural (codes "tank") side.tank (put (codes "opening") (figures_value side.opening)
+    (put (codes "moved") (moved_value side.moved) (put (codes "closing") (figures_value side.closing) members))))
+
 -- the sides of a ticket: the first, and the second where there is one
 abbrev pub sides_value : Side → Option Side → Data
 sides_value first None = array (item (side_value first) no_items)
@@ -67,3 +66,10 @@ ticket_members ticket =
     numbered (codes "movement") ticket.movement (numbered (codes "number") ticket.number (numbered (codes "party") ticket.party
     (numbered (codes "place") ticket.place (numbered (codes "reverses") ticket.reverses
     (member (codes "sides") (sides_value ticket.first ticket.second) no_members)))))
+
+-- members, with what a ticket has
+abbrev pub with_ticket : Ticket → Members → Members
+with_ticket ticket members =
+    put (codes "sides") (sides_value ticket.first ticket.second) (with_natural (codes "reverses") ticket.reverses
+    (with_natural (codes "place") ticket.place (with_natural (codes "party") ticket.party (with_natural (codes "number") ticket.number
+    (with_natural (codes "movement") ticket.movement members)))))

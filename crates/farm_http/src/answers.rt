@@ -1,18 +1,19 @@
 //! The bodies of answers.
 
-ghost use Rattle.std.specs.Prelude.{◌≡◌, IfOk, false};
-ghost use Rattle.serde_json.specs.Data.{object};
-ghost use Rattle.serde_json.specs.View.{view};
+ghost use Rattle.std.specs.Prelude.{◌≡◌, IfOk, OnOk, false};
+ghost use Rattle.serde_json.specs.Data.{no_members, object};
+ghost use Rattle.serde_json.specs.View.{members_view, view};
 ghost use Rattle.serde_json.specs.Written.{has_float};
 ghost use Rattle.farm_base.specs.Appended.{Appends};
-ghost use Rattle.farm_http.specs.Answers.{IsAnswer, PlaceInBytes, body_text, members_of};
+ghost use Rattle.farm_http.specs.Answers.{IsAnswer, PlaceInBytes, amount_members, body_text, members_of, with_amount, with_page, with_reply};
 
 use crate::Page;
-use crate::tickets::ticket_value;
+use crate::objects::put_number;
+use crate::tickets::put_ticket;
 use farm_base::NoMemory;
 use farm_fixed::Amount;
 use farm_history::Reply;
-use serde_json::{Value, json};
+use serde_json::{Map, Value, put};
 use std::alloc::{AllocError, Global};
 
 /// Appends the body of an answer. On `NoMemory` the buffer is as before.
@@ -31,41 +32,78 @@ fn object_of(alloc: Global, page: &Page) -> Result<Value, AllocError>
     ensures object { IfOk result (λ value. view value ≡ object (members_of page.now)) }
     ensures no_float { IfOk result (λ value. has_float (view value) ≡ false) }
 {
+    let mut members = Map::new(alloc);
+    put_page(alloc, &mut members, page)?;
+    Ok(Value::Object(members))
+}
+
+// Puts in what an answer has.
+fn put_page(alloc: Global, members: &mut Map<String, Value>, page: &Page) -> Result<(), AllocError>
+    ensures put { OnOk result (members_view members.new.entries ≡ with_page page.now (members_view members.old.entries)) }
+{
     match page {
-        Page::Reply(Reply::Placed(place)) => json!(in alloc; {"place": *place}),
-        Page::Reply(Reply::Ticket(ticket)) => ticket_value(alloc, ticket),
-        Page::Reply(Reply::Gain { place, amount }) => gain_value(alloc, *place, amount),
-        Page::Reply(
-            Reply::Stock {
-                tank,
-                amount,
-                reading,
-                sample,
-            },
-        ) => json!(in alloc; {
-            "kg": amount.kg,
-            "litres": amount.litres,
-            "reading": *reading,
-            "sample": *sample,
-            "tank": *tank
-        }),
-        Page::Reply(Reply::Total { entries, amount }) => {
-            json!(in alloc; {"entries": *entries, "kg": amount.kg, "litres": amount.litres})
-        }
-        Page::Reply(Reply::Refused(rule)) => {
-            json!(in alloc; {"rule": rule.number(), "value": rule.value()})
-        }
-        Page::Status(status, _) => json!(in alloc; {"error": *status}),
+        Page::Reply(reply) => put_reply(alloc, members, reply),
+        Page::Status(status, _) => put_number(alloc, members, "error", i64::from(*status)),
     }
 }
 
-// The object of a Settle: its gain and its place.
-fn gain_value(alloc: Global, place: u32, amount: &Amount) -> Result<Value, AllocError>
-    ensures object { IfOk result (λ value. view value ≡ object (members_of (Page.Reply (Reply.Gain place amount.now)))) }
-    ensures no_float { IfOk result (λ value. has_float (view value) ≡ false) }
+// Puts in what a reply has.
+fn put_reply(
+    alloc: Global,
+    members: &mut Map<String, Value>,
+    reply: &Reply,
+) -> Result<(), AllocError>
+    ensures put { OnOk result (members_view members.new.entries ≡ with_reply reply.now (members_view members.old.entries)) }
 {
-    let gain = json!(in alloc; {"kg": amount.kg, "litres": amount.litres})?;
-    json!(in alloc; {"gain": gain, "place": place})
+    match reply {
+        Reply::Placed(place) => put_number(alloc, members, "place", i64::from(*place)),
+        Reply::Ticket(ticket) => put_ticket(alloc, members, ticket),
+        Reply::Gain { place, amount } => {
+            put(members, alloc, "gain", amount_value(alloc, amount)?)?;
+            put_number(alloc, members, "place", i64::from(*place))
+        }
+        Reply::Stock {
+            tank,
+            amount,
+            reading,
+            sample,
+        } => {
+            put_amount(alloc, members, amount)?;
+            put_number(alloc, members, "reading", i64::from(*reading))?;
+            put_number(alloc, members, "sample", i64::from(*sample))?;
+            put_number(alloc, members, "tank", i64::from(*tank))
+        }
+        Reply::Total { entries, amount } => {
+            put_number(alloc, members, "entries", i64::from(*entries))?;
+            put_amount(alloc, members, amount)
+        }
+        Reply::Refused(rule) => {
+            put_number(alloc, members, "rule", i64::from(rule.number()))?;
+            put_number(alloc, members, "value", i64::from(rule.value()))
+        }
+    }
+}
+
+// The object of a gain.
+#[tactic(auto, unfolding(serde_json::proofs::OnLiterals::serde_json_on_literals))]
+fn amount_value(alloc: Global, amount: &Amount) -> Result<Value, AllocError>
+    ensures object { IfOk result (λ value. view value ≡ object (amount_members amount.now no_members)) }
+{
+    let mut members = Map::new(alloc);
+    put_amount(alloc, &mut members, amount)?;
+    Ok(Value::Object(members))
+}
+
+// Puts in an amount.
+fn put_amount(
+    alloc: Global,
+    members: &mut Map<String, Value>,
+    amount: &Amount,
+) -> Result<(), AllocError>
+    ensures put { OnOk result (members_view members.new.entries ≡ with_amount amount.now (members_view members.old.entries)) }
+{
+    put_number(alloc, members, "kg", amount.kg)?;
+    put_number(alloc, members, "litres", amount.litres)
 }
 
 /// Does nothing: its contract says what bodies are, byte by byte.

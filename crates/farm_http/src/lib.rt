@@ -7,6 +7,7 @@
 mod answers;
 mod commands;
 mod members;
+mod objects;
 mod page;
 mod requests;
 mod tickets;

@@ -1,71 +1,72 @@
-//! The objects of tickets. None of them has a float.
+//! The objects of tickets.
 
-ghost use Rattle.std.specs.Prelude.{◌≡◌, IfOk, OnOk, false};
-ghost use Rattle.serde_json.specs.Data.{object};
+ghost use Rattle.std.specs.Prelude.{◌≡◌, IfOk, OnOk};
+ghost use Rattle.serde_json.specs.Data.{object, string};
 ghost use Rattle.serde_json.specs.View.{members_view, view};
-ghost use Rattle.serde_json.specs.Written.{has_float};
-ghost use Rattle.farm_http.specs.Tickets.{figures_value, moved_value, side_value, sides_value, ticket_members, way_word, with_number, with_observed, with_standard};
+ghost use Rattle.farm_http.specs.Tickets.{figures_value, moved_value, side_value, sides_value, way_word, with_moved, with_observed, with_side, with_standard, with_ticket};
 
+use crate::objects::put_number;
 use farm_fixed::Quantities;
 use farm_ticket::{Moved, Side, Ticket, Way};
-use serde_json::{Map, Value, json};
+use serde_json::{Map, Value, push, put};
 use std::alloc::{AllocError, Global};
 
-/// The object of a ticket.
-#[tactic(auto, unfolding(crate::specs::Tickets::ticket_members))]
-pub(crate) fn ticket_value(alloc: Global, ticket: &Ticket) -> Result<Value, AllocError>
-    ensures object { IfOk result (λ value. view value ≡ object (ticket_members ticket.now)) }
-    ensures no_float { IfOk result (λ value. has_float (view value) ≡ false) }
+/// Puts in what a ticket has.
+pub(crate) fn put_ticket(
+    alloc: Global,
+    members: &mut Map<String, Value>,
+    ticket: &Ticket,
+) -> Result<(), AllocError>
+    ensures put { OnOk result (members_view members.new.entries ≡ with_ticket ticket.now (members_view members.old.entries)) }
 {
-    let sides = sides_value(alloc, ticket)?;
-    json!(in alloc; {
-        "movement": ticket.movement,
-        "number": ticket.number,
-        "party": ticket.party,
-        "place": ticket.place,
-        "reverses": ticket.reverses,
-        "sides": sides
-    })
+    put_number(alloc, members, "movement", i64::from(ticket.movement))?;
+    put_number(alloc, members, "number", i64::from(ticket.number))?;
+    put_number(alloc, members, "party", i64::from(ticket.party))?;
+    put_number(alloc, members, "place", i64::from(ticket.place))?;
+    put_number(alloc, members, "reverses", i64::from(ticket.reverses))?;
+    put(members, alloc, "sides", sides_value(alloc, ticket)?)
 }
 
 // The list of a ticket's sides.
 fn sides_value(alloc: Global, ticket: &Ticket) -> Result<Value, AllocError>
     ensures sides { IfOk result (λ value. view value ≡ sides_value ticket.now.first ticket.now.second) }
-    ensures no_float { IfOk result (λ value. has_float (view value) ≡ false) }
 {
-    let first = side_value(alloc, &ticket.first)?;
-    match &ticket.second {
-        None => json!(in alloc; [first]),
-        Some(second) => {
-            let second = side_value(alloc, second)?;
-            json!(in alloc; [first, second])
-        }
+    let mut sides = Vec::new(alloc);
+    push(&mut sides, side_value(alloc, &ticket.first)?)?;
+    if let Some(second) = &ticket.second {
+        push(&mut sides, side_value(alloc, second)?)?;
     }
+    Ok(Value::Array(sides))
 }
 
 // A side.
-#[tactic(auto, unfolding(crate::specs::Tickets::side_value))]
+#[tactic(auto, unfolding(crate::specs::Tickets::side_value, serde_json::proofs::OnLiterals::serde_json_on_literals))]
 fn side_value(alloc: Global, side: &Side) -> Result<Value, AllocError>
     ensures side { IfOk result (λ value. view value ≡ side_value side.now) }
-    ensures no_float { IfOk result (λ value. has_float (view value) ≡ false) }
+{
+    let mut members = Map::new(alloc);
+    put_side(alloc, &mut members, side)?;
+    Ok(Value::Object(members))
+}
+
+// Puts in what a side has.
+fn put_side(alloc: Global, members: &mut Map<String, Value>, side: &Side) -> Result<(), AllocError>
+    ensures put { OnOk result (members_view members.new.entries ≡ with_side side.now (members_view members.old.entries)) }
 {
     let closing = figures_value(alloc, &side.closing)?;
+    put(members, alloc, "closing", closing)?;
     let moved = moved_value(alloc, &side.moved)?;
+    put(members, alloc, "moved", moved)?;
     let opening = figures_value(alloc, &side.opening)?;
-    json!(in alloc; {
-        "closing": closing,
-        "moved": moved,
-        "opening": opening,
-        "tank": side.tank,
-        "way": way_word(side.way)
-    })
+    put(members, alloc, "opening", opening)?;
+    put_number(alloc, members, "tank", i64::from(side.tank))?;
+    put(members, alloc, "way", way_value(alloc, side.way)?)
 }
 
 // The ten figures.
 #[tactic(auto, unfolding(crate::specs::Tickets::figures_value, serde_json::proofs::OnLiterals::serde_json_on_literals))]
 fn figures_value(alloc: Global, figures: &Quantities) -> Result<Value, AllocError>
     ensures figures { IfOk result (λ value. view value ≡ figures_value figures.now) }
-    ensures no_float { IfOk result (λ value. has_float (view value) ≡ false) }
 {
     let mut members = Map::new(alloc);
     put_observed(alloc, &mut members, figures)?;
@@ -103,38 +104,37 @@ fn put_standard(
     put_number(alloc, members, "mass", figures.mass.get())
 }
 
-// Puts in a member that is a number.
-fn put_number(
-    alloc: Global,
-    members: &mut Map<String, Value>,
-    name: &str,
-    number: i64,
-) -> Result<(), AllocError>
-    ensures put { OnOk result (members_view members.new.entries ≡ with_number name.now number (members_view members.old.entries)) }
-{
-    serde_json::put(members, alloc, name, Value::from(number))
-}
-
 // What moved.
-#[tactic(auto, unfolding(crate::specs::Tickets::moved_value))]
+#[tactic(auto, unfolding(crate::specs::Tickets::moved_value, serde_json::proofs::OnLiterals::serde_json_on_literals))]
 fn moved_value(alloc: Global, moved: &Moved) -> Result<Value, AllocError>
     ensures moved { IfOk result (λ value. view value ≡ moved_value moved.now) }
-    ensures no_float { IfOk result (λ value. has_float (view value) ≡ false) }
 {
-    json!(in alloc; {
-        "gsv": moved.gsv,
-        "kg": moved.mass,
-        "nsv": moved.nsv,
-        "swv": moved.swv
-    })
+    let mut members = Map::new(alloc);
+    put_moved(alloc, &mut members, moved)?;
+    Ok(Value::Object(members))
+}
+
+// Puts in what moved.
+fn put_moved(
+    alloc: Global,
+    members: &mut Map<String, Value>,
+    moved: &Moved,
+) -> Result<(), AllocError>
+    ensures put { OnOk result (members_view members.new.entries ≡ with_moved moved.now (members_view members.old.entries)) }
+{
+    put_number(alloc, members, "gsv", moved.gsv)?;
+    put_number(alloc, members, "kg", moved.mass)?;
+    put_number(alloc, members, "nsv", moved.nsv)?;
+    put_number(alloc, members, "swv", moved.swv)
 }
 
 // The word of a way.
-fn way_word(way: Way) -> &'static str
-    ensures word { result.now ≡ way_word way }
+fn way_value(alloc: Global, way: Way) -> Result<Value, AllocError>
+    ensures word { IfOk result (λ value. view value ≡ string (way_word way)) }
 {
-    match way {
+    let word = match way {
         Way::Inward => "in",
         Way::Outward => "out",
-    }
+    };
+    Ok(Value::String(String::from_str(alloc, word)?))
 }
