@@ -1,7 +1,8 @@
 //! What a run ends with.
 
-use crate::fault::CaseFault;
-use crate::ports::Ports;
+use crate::disk::read_disk;
+use crate::fault::TrialFault;
+use case_files::Ports;
 use farm_disk::MemDisk;
 use farm_run::run;
 use std::alloc::Global;
@@ -14,27 +15,51 @@ pub struct Answer {
     pub disk: Vec<u8>,
 }
 
-/// What the program answers to words over ports and a disk, and the disk that it leaves.
-pub fn answer_over(
-    alloc: Global,
-    words: &[String],
-    ports: Ports,
-    disk: MemDisk,
-) -> Result<(Answer, MemDisk), CaseFault> {
-    let mut ports = ports;
-    let done = run(
-        alloc,
-        words,
-        &mut ports.input,
-        &mut ports.output,
-        &mut ports.folder,
-        disk,
-        &ports.clock,
-    );
-    let answer = Answer {
-        status: u64::from(done.status),
-        output: Vec::from_slice(alloc, ports.output.bytes())?,
-        disk: Vec::new(alloc),
-    };
-    Ok((answer, done.disk.unwrap()))
+/// What a run ended with, before its disk is looked at, and the disk that it left.
+#[derive(Drop)]
+pub struct Ended {
+    pub answer: Answer,
+    pub disk: MemDisk,
+}
+
+impl Ended {
+    /// What the program answers to words over ports and a disk.
+    pub fn of(
+        alloc: Global,
+        words: &[String],
+        ports: Ports,
+        disk: MemDisk,
+    ) -> Result<Self, TrialFault> {
+        let mut ports = ports;
+        let done = run(
+            alloc,
+            words,
+            &mut ports.input,
+            &mut ports.output,
+            &mut ports.folder,
+            disk,
+            &ports.clock,
+        );
+        let answer = Answer {
+            status: u64::from(done.status),
+            output: Vec::from_slice(alloc, ports.output.bytes())?,
+            disk: Vec::new(alloc),
+        };
+        Ok(Ended {
+            answer,
+            disk: done.disk.unwrap(),
+        })
+    }
+
+    /// The answer, with the bytes that reads of the disk give where they are looked at.
+    pub fn answer(self, alloc: Global, is_disk_looked_at: bool) -> Result<Answer, TrialFault> {
+        if !is_disk_looked_at {
+            return Ok(self.answer);
+        }
+        let disk = read_disk(alloc, self.disk)?;
+        Ok(Answer {
+            disk,
+            ..self.answer
+        })
+    }
 }

@@ -4,11 +4,9 @@ ghost use Rattle.std.specs.Prelude.{◌≡◌, ℕ, IfOk, Some, take};
 ghost use Rattle.farm_base.specs.Known.{WhereKnown};
 ghost use Rattle.farm_disk.specs.Images.{IsCrashImage, state_at};
 
-use crate::case::{Case, CaseDisk, Image, Run, Sites};
-use crate::fault::CaseFault;
-use crate::keys::{Keys, numbers_of};
-use crate::text::given_bytes;
+use crate::fault::TrialFault;
 use crate::trial::Trial;
+use case_files::{Case, CaseDisk, CaseFault, Image, Keys, Run, Sites, given_bytes, numbers_of};
 use farm_disk::{Disk, Fill, MemDisk};
 use farm_ports::Folder;
 use std::alloc::Global;
@@ -23,7 +21,7 @@ pub fn disk_of<F: Folder>(
     data: &mut F,
     sites: &Sites,
     case: &Case<'_>,
-) -> Result<MemDisk, CaseFault> {
+) -> Result<MemDisk, TrialFault> {
     let disk = first_disk(alloc, data, sites, &case.disk)?;
     let disk = disk_after(alloc, data, sites, case.disk.before, disk)?;
     let bytes = front(left(alloc, disk, &case.disk.image)?, case.disk.cut)?;
@@ -31,7 +29,7 @@ pub fn disk_of<F: Folder>(
 }
 
 /// The bytes that reads of a disk give.
-pub fn read_disk(alloc: Global, disk: MemDisk) -> Result<Vec<u8>, CaseFault> {
+pub fn read_disk(alloc: Global, disk: MemDisk) -> Result<Vec<u8>, TrialFault> {
     let mut disk = disk;
     let mut bytes = vec![in alloc; 0; disk.len()? as usize]?;
     disk.read_at(0, &mut bytes)?;
@@ -39,7 +37,7 @@ pub fn read_disk(alloc: Global, disk: MemDisk) -> Result<Vec<u8>, CaseFault> {
 }
 
 // A disk with these bytes, on which the calls of a run fail that are to fail.
-fn disk_with(alloc: Global, bytes: Vec<u8>, run: &Run<'_>) -> Result<MemDisk, CaseFault> {
+fn disk_with(alloc: Global, bytes: Vec<u8>, run: &Run<'_>) -> Result<MemDisk, TrialFault> {
     let fails = numbers_of(alloc, "disk", run.fails.disk)?;
     Ok(MemDisk::new(alloc, bytes, fails)?)
 }
@@ -50,7 +48,7 @@ fn first_disk<F: Folder>(
     data: &mut F,
     sites: &Sites,
     given: &CaseDisk<'_>,
-) -> Result<MemDisk, CaseFault> {
+) -> Result<MemDisk, TrialFault> {
     let bytes = given_bytes(alloc, data, given.bytes)?;
     let disk = MemDisk::new(alloc, bytes, Vec::new(alloc))?;
     match given.journal {
@@ -66,14 +64,14 @@ fn journal_of<F: Folder>(
     sites: &Sites,
     site: &str,
     disk: MemDisk,
-) -> Result<MemDisk, CaseFault> {
+) -> Result<MemDisk, TrialFault> {
     let table = toml::table_from_str(alloc, MAKING).map_err(CaseFault::Form)?;
     let run = making_of(alloc, &table, site)?;
     disk_after_run(alloc, data, sites, 0, &run, disk)
 }
 
 // The run that makes the journal of a site, by the table of its words.
-fn making_of<'a>(alloc: Global, table: &'a Table, site: &'a str) -> Result<Run<'a>, CaseFault> {
+fn making_of<'a>(alloc: Global, table: &'a Table, site: &'a str) -> Result<Run<'a>, TrialFault> {
     let run = Run::read(&Keys::of(alloc, table, &["words"], &[])?)?;
     Ok(Run {
         site: Some(site),
@@ -88,7 +86,7 @@ fn disk_after<F: Folder>(
     sites: &Sites,
     runs: &[Value],
     disk: MemDisk,
-) -> Result<MemDisk, CaseFault> {
+) -> Result<MemDisk, TrialFault> {
     let mut disk = disk;
     let mut number: u64 = 0;
     for run in runs {
@@ -106,18 +104,13 @@ fn disk_after_run<F: Folder>(
     number: u64,
     run: &Run<'_>,
     disk: MemDisk,
-) -> Result<MemDisk, CaseFault> {
+) -> Result<MemDisk, TrialFault> {
     let disk = disk_with(alloc, read_disk(alloc, disk)?, run)?;
-    let (trial, disk) = Trial::of_run(alloc, data, sites, run, disk)?;
-    if trial.agrees() {
-        Ok(disk)
-    } else {
-        Err(CaseFault::Before(number, trial))
-    }
+    Trial::disk_after(alloc, data, sites, number, run, disk)
 }
 
 // What is left of a disk: what a crash leaves where there is one, and else what reads give.
-fn left(alloc: Global, disk: MemDisk, image: &Option<Image<'_>>) -> Result<Vec<u8>, CaseFault> {
+fn left(alloc: Global, disk: MemDisk, image: &Option<Image<'_>>) -> Result<Vec<u8>, TrialFault> {
     match image {
         Some(image) => crash_image(alloc, &disk, image),
         None => read_disk(alloc, disk),
@@ -125,35 +118,35 @@ fn left(alloc: Global, disk: MemDisk, image: &Option<Image<'_>>) -> Result<Vec<u
 }
 
 // What a crash leaves of a disk.
-fn crash_image(alloc: Global, disk: &MemDisk, image: &Image<'_>) -> Result<Vec<u8>, CaseFault>
+fn crash_image(alloc: Global, disk: &MemDisk, image: &Image<'_>) -> Result<Vec<u8>, TrialFault>
     ensures image { IfOk result (λ bytes. WhereKnown (⟦<MemDisk as Disk>⟧.trace disk.now) (λ states. IsCrashImage (state_at states image.now.moment) bytes.items)) }
 {
     let last = disk.stand().moment;
     if image.moment > last {
-        return Err(CaseFault::NoMoment(last));
+        return Err(TrialFault::NoMoment(last));
     }
     let fill = fill_of(alloc, image.fill)?;
     Ok(disk.image(alloc, image.moment, fill)?)
 }
 
 // The fill that a word names.
-fn fill_of(alloc: Global, word: &str) -> Result<Fill, CaseFault> {
+fn fill_of(alloc: Global, word: &str) -> Result<Fill, TrialFault> {
     match (word, word.parse::<u8>()) {
         ("old", _) => Ok(Fill::Old),
         ("new", _) => Ok(Fill::New),
         (_, Ok(byte)) => Ok(Fill::Byte(byte)),
-        _ => Err(CaseFault::NoFill(String::from_str(alloc, word)?)),
+        _ => Err(TrialFault::NoFill(String::from_str(alloc, word)?)),
     }
 }
 
 // The front of bytes of this length, or all of them.
-fn front(bytes: Vec<u8>, cut: Option<u64>) -> Result<Vec<u8>, CaseFault>
+fn front(bytes: Vec<u8>, cut: Option<u64>) -> Result<Vec<u8>, TrialFault>
     ensures front { IfOk result (λ kept. (size : ℕ) → cut ≡ Some size → kept.items ≡ take size bytes.items) }
 {
     let mut bytes = bytes;
     if let Some(size) = cut {
         if bytes.len() < size as usize {
-            return Err(CaseFault::TooShort(bytes.len()));
+            return Err(TrialFault::TooShort(bytes.len()));
         }
         bytes.truncate(size as usize);
     }

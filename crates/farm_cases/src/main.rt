@@ -6,25 +6,15 @@
 #![tactic(auto)]
 
 mod answer;
-mod case;
-mod data;
 mod difference;
 mod disk;
 mod fault;
-mod folder;
-mod input;
-mod keys;
-mod ports;
 mod row;
-mod text;
 mod trial;
 
-use crate::case::{Case, Listing, Sites};
-use crate::data::read_table;
-use crate::fault::CaseFault;
-use crate::keys::{Keys, texts_of};
 use crate::row::has_row_site;
 use crate::trial::Trial;
+use case_files::{Case, CaseFault, Keys, Listing, Sites, read_table, texts_of};
 use farm_ports::{DirFolder, Folder};
 use std::alloc::Global;
 use std::rt::Env;

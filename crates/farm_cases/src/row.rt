@@ -1,7 +1,6 @@
 //! The site `row` beside the row site of the worked rows.
 
-use crate::data::read_file;
-use crate::fault::CaseFault;
+use case_files::{CaseFault, read_file};
 use farm_ports::Folder;
 use row_site::row_files;
 use std::alloc::Global;

@@ -2,17 +2,13 @@
 
 ghost use Rattle.std.specs.Prelude.{◌≡◌, ◌↔◌, IsTrue};
 
-use crate::answer::{Answer, answer_over};
-use crate::case::{Case, Changes, Run, Sites};
+use crate::answer::{Answer, Ended};
 use crate::difference::{write_disk, write_output};
-use crate::disk::{disk_of, read_disk};
-use crate::fault::CaseFault;
-use crate::folder::folder_of;
-use crate::keys::texts_of;
-use crate::ports::ports_of;
-use crate::text::given_bytes;
+use crate::disk::disk_of;
+use crate::fault::TrialFault;
+use case_files::{Case, Changes, Run, Sites, Text, folder_of, given_bytes, ports_of, texts_of};
 use farm_disk::MemDisk;
-use farm_ports::{Files, Folder};
+use farm_ports::Folder;
 use std::alloc::Global;
 use std::fmt;
 
@@ -30,49 +26,37 @@ impl Trial {
         data: &mut F,
         sites: &Sites,
         case: &Case<'_>,
-    ) -> Result<Self, CaseFault> {
-        let disk = disk_of(alloc, data, sites, case)?;
-        let folder = folder_of(alloc, data, sites, &case.run, &case.changes)?;
-        let (trial, disk) = Trial::over(alloc, data, &case.run, case.piece_bytes, folder, disk)?;
-        if case.disk.after.is_none() {
-            return Ok(trial);
-        }
-        let mut trial = trial;
-        trial.wanted.disk = given_bytes(alloc, data, case.disk.after)?;
-        trial.came.disk = read_disk(alloc, disk)?;
-        Ok(trial)
+    ) -> Result<Self, TrialFault> {
+        let wanted = wanted_of(alloc, data, &case.run, case.disk.after)?;
+        let came = came_of(alloc, data, sites, case)?;
+        Ok(Trial { wanted, came })
     }
 
-    /// Runs what is run on a disk before a case, and gives the disk that it leaves.
-    pub fn of_run<F: Folder>(
+    /// The disk that a run on a disk before a case leaves. It is refused by its number where it differs.
+    pub fn disk_after<F: Folder>(
         alloc: Global,
         data: &mut F,
         sites: &Sites,
+        number: u64,
         run: &Run<'_>,
         disk: MemDisk,
-    ) -> Result<(Self, MemDisk), CaseFault> {
-        let folder = folder_of(alloc, data, sites, run, &Changes::none())?;
-        Trial::over(alloc, data, run, None, folder, disk)
+    ) -> Result<MemDisk, TrialFault> {
+        let ended = ended_over(alloc, data, sites, run, &Changes::none(), None, disk)?;
+        let wanted = wanted_of(alloc, data, run, None)?;
+        Trial::agreed(number, wanted, ended)
     }
 
-    // A run over a folder and a disk, without what is wanted of its disk, and the disk that it leaves.
-    fn over<F: Folder>(
-        alloc: Global,
-        data: &mut F,
-        run: &Run<'_>,
-        piece_bytes: Option<u64>,
-        folder: Files,
-        disk: MemDisk,
-    ) -> Result<(Self, MemDisk), CaseFault> {
-        let ports = ports_of(alloc, data, run, piece_bytes, folder)?;
-        let words = texts_of(alloc, "words", run.words)?;
-        let (came, disk) = answer_over(alloc, &words, ports, disk)?;
-        let wanted = Answer {
-            status: run.status,
-            output: given_bytes(alloc, data, run.output)?,
-            disk: Vec::new(alloc),
+    // The disk of a run that agrees.
+    fn agreed(number: u64, wanted: Answer, ended: Ended) -> Result<MemDisk, TrialFault> {
+        let trial = Trial {
+            wanted,
+            came: ended.answer,
         };
-        Ok((Trial { wanted, came }, disk))
+        if trial.agrees() {
+            Ok(ended.disk)
+        } else {
+            Err(TrialFault::Before(number, trial))
+        }
     }
 
     /// Whether what came is what is wanted: the same status, the same output and the same disk.
@@ -93,4 +77,50 @@ impl fmt::Display for Trial {
         write_output(&wanted.output, &came.output, f)?;
         write_disk(&wanted.disk, &came.disk, f)
     }
+}
+
+// What is wanted of a run, with this text on its disk.
+fn wanted_of<F: Folder>(
+    alloc: Global,
+    data: &mut F,
+    run: &Run<'_>,
+    after: Option<Text<'_>>,
+) -> Result<Answer, TrialFault> {
+    let output = given_bytes(alloc, data, run.output)?;
+    Ok(Answer {
+        status: run.status,
+        output,
+        disk: given_bytes(alloc, data, after)?,
+    })
+}
+
+// What comes of a case.
+fn came_of<F: Folder>(
+    alloc: Global,
+    data: &mut F,
+    sites: &Sites,
+    case: &Case<'_>,
+) -> Result<Answer, TrialFault> {
+    let disk = disk_of(alloc, data, sites, case)?;
+    let (run, changes) = (&case.run, &case.changes);
+    ended_over(alloc, data, sites, run, changes, case.piece_bytes, disk)?.answer(
+        alloc,
+        case.disk.after.is_some(),
+    )
+}
+
+// What a run over a disk ends with.
+fn ended_over<F: Folder>(
+    alloc: Global,
+    data: &mut F,
+    sites: &Sites,
+    run: &Run<'_>,
+    changes: &Changes<'_>,
+    piece_bytes: Option<u64>,
+    disk: MemDisk,
+) -> Result<Ended, TrialFault> {
+    let folder = folder_of(alloc, data, sites, run, changes)?;
+    let ports = ports_of(alloc, data, run, piece_bytes, folder)?;
+    let words = texts_of(alloc, "words", run.words)?;
+    Ended::of(alloc, &words, ports, disk)
 }

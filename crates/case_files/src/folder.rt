@@ -2,7 +2,7 @@
 //! replaced.
 
 ghost use Rattle.std.specs.Prelude.{◌≡◌, ◌++◌, IfOk, IfSome};
-ghost use Rattle.farm_cases.specs.Texts.{IsReplaced};
+ghost use Rattle.case_files.specs.Texts.{IsReplaced};
 
 use crate::case::{Changes, Run, Sites};
 use crate::data::read_file;
@@ -136,19 +136,17 @@ fn replace_text(
 fn replaced(alloc: Global, bytes: &[u8], old: &str, new: &str) -> Result<Vec<u8>, CaseFault>
     ensures replaced { IfOk result (λ text. IsReplaced old.now new.now bytes.now text.items) }
 {
-    let Ok(text) = std::str::from_utf8(bytes) else {
-        return Err(CaseFault::NotOnce(String::from_str(alloc, old)?));
-    };
-    let Some((before, after)) = around(text, old) else {
-        return Err(CaseFault::NotOnce(String::from_str(alloc, old)?));
-    };
-    Ok([before, new, after].concat(alloc)?.into_bytes())
+    match around(bytes, old) {
+        Some((before, after)) => Ok([before, new, after].concat(alloc)?.into_bytes()),
+        None => Err(CaseFault::NotOnce(String::from_str(alloc, old)?)),
+    }
 }
 
-// What stands before and after a text that stands once in another.
-fn around<'a>(text: &'a str, part: &str) -> Option<(&'a str, &'a str)>
-    ensures around { IfSome result (λ parts. text.now ≡ parts.0.now ++ part.now ++ parts.1.now) }
+// What stands before and after a text that stands once among bytes.
+fn around<'a>(bytes: &'a [u8], part: &str) -> Option<(&'a str, &'a str)>
+    ensures around { IfSome result (λ parts. bytes.now ≡ parts.0.now ++ part.now ++ parts.1.now) }
 {
+    let text = std::str::from_utf8(bytes).ok()?;
     let (before, after) = text.split_once(part)?;
     if after.contains(part) {
         return None;

@@ -134,24 +134,34 @@ pub fn list_of<'a>(alloc: Global, name: &str, value: &'a Value) -> Result<&'a [V
 pub fn texts_of(alloc: Global, name: &str, values: &[Value]) -> Result<Vec<String>, CaseFault> {
     let mut texts = Vec::new(alloc);
     for value in values {
-        match value.as_str() {
-            Some(text) => texts.push(String::from_str(alloc, text)?)?,
-            None => return Err(wrong_type(alloc, name)),
-        }
+        texts.push(text_of(alloc, name, value)?)?;
     }
     Ok(texts)
+}
+
+// The text that a value is; `name` says what it is.
+fn text_of(alloc: Global, name: &str, value: &Value) -> Result<String, CaseFault> {
+    match value.as_str() {
+        Some(text) => Ok(String::from_str(alloc, text)?),
+        None => Err(wrong_type(alloc, name)),
+    }
 }
 
 /// The numbers of a list; `name` says what it is.
 pub fn numbers_of(alloc: Global, name: &str, values: &[Value]) -> Result<Vec<u64>, CaseFault> {
     let mut numbers = Vec::new(alloc);
     for value in values {
-        match value.as_integer() {
-            Some(number) if number >= 0 => numbers.push(number as u64)?,
-            _ => return Err(wrong_type(alloc, name)),
-        }
+        numbers.push(number_of(alloc, name, value)?)?;
     }
     Ok(numbers)
+}
+
+// The whole number, not below 0, that a value is; `name` says what it is.
+fn number_of(alloc: Global, name: &str, value: &Value) -> Result<u64, CaseFault> {
+    match value.as_integer() {
+        Some(number) if number >= 0 => Ok(number as u64),
+        _ => Err(wrong_type(alloc, name)),
+    }
 }
 
 /// The fault of a value that has another type than its key has.

@@ -1,7 +1,7 @@
 //! A text of a case: as it stands, as pieces that are repeated, or what a file has.
 
 ghost use Rattle.std.specs.Prelude.{◌≡◌, IfOk};
-ghost use Rattle.farm_cases.specs.Texts.{joined_pieces};
+ghost use Rattle.case_files.specs.Texts.{joined_pieces};
 
 use crate::data::read_file;
 use crate::fault::CaseFault;
@@ -80,12 +80,8 @@ fn pieces_of(alloc: Global, values: &[Value]) -> Result<Vec<(String, u32)>, Case
 
 // The piece that a value gives, a list of its text and its number.
 fn piece_of(alloc: Global, value: &Value) -> Result<(String, u32), CaseFault> {
-    let items = list_of(alloc, "a piece", value)?;
-    match (
-        items.first().and_then(Value::as_str),
-        items.get(1).and_then(Value::as_integer),
-    ) {
-        (Some(text), Some(times)) if items.len() == 2 => match u32::try_from(times) {
+    match list_of(alloc, "a piece", value)? {
+        [Value::String(text), Value::Integer(times)] => match u32::try_from(*times) {
             Ok(times) => Ok((String::from_str(alloc, text)?, times)),
             Err(_) => Err(wrong_type(alloc, "a piece")),
         },

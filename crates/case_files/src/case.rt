@@ -219,10 +219,18 @@ pub struct Image<'a> {
 impl<'a> Image<'a> {
     // What the key `image` has.
     fn read(disk: &Keys<'a>) -> Result<Option<Self>, CaseFault> {
-        let image = disk.below("image", &["moment", "fill"], &[])?;
-        match (image.natural("moment")?, image.text("fill")?) {
-            (Some(moment), Some(fill)) => Ok(Some(Image { moment, fill })),
-            _ => Ok(None),
+        match disk.value("image") {
+            Some(value) => Ok(Some(Image::of(disk.alloc(), value)?)),
+            None => Ok(None),
         }
+    }
+
+    // What the table of an image has.
+    fn of(alloc: Global, value: &'a Value) -> Result<Self, CaseFault> {
+        let image = Keys::of_value(alloc, "image", value, &["moment", "fill"], &[])?;
+        Ok(Image {
+            moment: image.natural("moment")?.unwrap_or(0),
+            fill: image.text("fill")?.unwrap_or(""),
+        })
     }
 }

@@ -1,0 +1,55 @@
+//! Why a file or a table of cases can't be read.
+
+use farm_base::NoMemory;
+use std::alloc::{AllocError, AllocFailed};
+use thiserror::Error;
+
+/// Why a file or a table of cases can't be read. It says what to mend in the file.
+#[derive(Debug, Drop, Error)]
+pub enum CaseFault {
+    /// A file of the folder of the cases can't be read.
+    #[error("the file {0} can't be read")]
+    Unread(String),
+    /// The file isn't TOML.
+    #[error("{0}")]
+    Form(toml::de::Error),
+    /// The table lacks a key that is needed.
+    #[error("there is no key {0}")]
+    KeyMissing(String),
+    /// The table has a key that it can't have.
+    #[error("the key {0} is unknown")]
+    KeyUnknown(String),
+    /// What stands at a key, or in its list, has another type, or is a number outside the key's range.
+    #[error("the value of {0} has the wrong type")]
+    WrongType(String),
+    /// The case names a site that the list of sites hasn't.
+    #[error("there is no site {0}")]
+    NoSite(String),
+    /// The case drops, or replaces a text in, a file that its folder hasn't.
+    #[error("there is no file {0}")]
+    NoFile(String),
+    /// A text to be replaced doesn't stand once in its file.
+    #[error("the text to be replaced doesn't stand once in its file: {0:?}")]
+    NotOnce(String),
+    /// There was no memory.
+    #[error("no memory")]
+    Memory,
+}
+
+impl From<NoMemory> for CaseFault {
+    fn from(_: NoMemory) -> Self {
+        CaseFault::Memory
+    }
+}
+
+impl From<AllocError> for CaseFault {
+    fn from(_: AllocError) -> Self {
+        CaseFault::Memory
+    }
+}
+
+impl<T: Drop> From<AllocFailed<T>> for CaseFault {
+    fn from(_: AllocFailed<T>) -> Self {
+        CaseFault::Memory
+    }
+}
