@@ -1,8 +1,8 @@
 -- What an answer has to be so that it meets the one that is meant.
 use Rattle.std.proofs.Common.{◌≡◌, ◌⊎◌, inl, inr, ℕ, ◌<◌, nat_lt, Bool, true, false, cond, ◌&&◌, List, [], ◌∷◌, length, length-append, Option, None, Some, ℤ, refl, sym, ap, subst, ◌∙◌, arith}
 use Rattle.std.proofs.lemmas.Bool.{le-ltb, lt-ltb}
-use Rattle.farm_desk.specs.Asking.{IsAnswered}
-use Rattle.farm_desk.specs.declared.answer.Answer.TheVariants as answers
+use Rattle.farm_records.specs.Answers.{IsAnswered}
+use Rattle.farm_records.specs.declared.answer.Answer.TheVariants as answers
 use Rattle.farm_history.specs.declared.ask.Ask.{Ask}
 use Rattle.farm_history.specs.declared.ask.Ask.TheVariants.{Do, Look}
 use Rattle.farm_history.specs.declared.entry.Entry.{Entry}

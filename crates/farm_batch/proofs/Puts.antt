@@ -4,7 +4,7 @@ use Rattle.std.proofs.lemmas.Bool.{eqb-true}
 use Rattle.farm_base.proofs.BoolTests.{cases_Bool}
 use Rattle.farm_base.specs.Counts.{Count, HasRisen, raised}
 use Rattle.farm_base.specs.Known.{Adds}
-use Rattle.farm_desk.specs.Histories.{certain}
+use Rattle.farm_records.specs.Histories.{certain}
 use Rattle.farm_desk.specs.States.{DeskState}
 use Rattle.farm_history.specs.History.{History, last_place}
 use Rattle.farm_http.specs.declared.page.Page.{Page}

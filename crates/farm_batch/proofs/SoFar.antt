@@ -5,7 +5,7 @@ use Rattle.farm_base.specs.Counts.{Count, IsQuiet, Rose, raised}
 use Rattle.farm_base.specs.Known.{Adds, Stream}
 use Rattle.farm_base.proofs.Additions.{additions_add_up}
 use Rattle.batch_lines.specs.Reader.{Reading, ReadsLine}
-use Rattle.farm_desk.specs.Histories.{certain}
+use Rattle.farm_records.specs.Histories.{certain}
 use Rattle.farm_desk.specs.States.{DeskState}
 use Rattle.farm_history.specs.History.{History, last_place}
 use Rattle.farm_batch.specs.declared.batch.BatchEnd.{BatchEnd}

@@ -2,7 +2,7 @@
 use Rattle.std.specs.Prelude.{◌≡◌, ◌≢◌, ◌⊎◌, ℕ, ◌+◌, ◌≤◌, All, true, false, Bool, List, [], length, take, map, Option, None, Some, Result, Ok, Err, ℤ}
 use Rattle.farm_base.specs.Counts.{Count, HasRisen, IsQuiet, raised}
 use Rattle.farm_base.specs.Known.{Adds, Stream, Takes}
-use Rattle.farm_desk.specs.Histories.{certain}
+use Rattle.farm_records.specs.Histories.{certain}
 use Rattle.farm_desk.specs.States.{DeskState}
 use Rattle.farm_history.specs.History.{History, last_place}
 use Rattle.farm_batch.specs.declared.batch.BatchEnd.{BatchEnd}

@@ -2,7 +2,7 @@
 
 ghost use Rattle.std.specs.Prelude.{◌≡◌, ◌≢◌, ◌≤◌, ℕ, false, List, None, Some, option_map};
 ghost use Rattle.farm_base.specs.Counts.{raised};
-ghost use Rattle.farm_desk.specs.Histories.{certain};
+ghost use Rattle.farm_records.specs.Histories.{certain};
 ghost use Rattle.farm_history.specs.Desk.{IsWellFormedAsk};
 ghost use Rattle.farm_history.specs.History.{last_place};
 ghost use Rattle.farm_http.specs.Answers.{IsAnswer, IsErrorStatus};

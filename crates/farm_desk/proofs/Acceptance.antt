@@ -16,7 +16,7 @@ use Rattle.farm_site.specs.Decoding.{whole_site}
 use Rattle.farm_site.specs.Described.{Described}
 use Rattle.farm_site.proofs.BytesRead.{PartsAreRead, site_found, site_only}
 use Rattle.farm_desk.specs.Accepting.{accepted_next, is_next, taken_of}
-use Rattle.farm_desk.specs.Histories.{IsRecordable}
+use Rattle.farm_records.specs.Histories.{IsRecordable}
 use Rattle.farm_desk.specs.Recovery.{IsSiteEncoding}
 use Rattle.farm_desk.proofs.Decoded.{decoded}
 

@@ -6,15 +6,16 @@ use Rattle.farm_disk.specs.Runs.{EachSince, Extends}
 use Rattle.farm_history.specs.History.{History}
 use Rattle.farm_history.specs.declared.reply.Reply.{Reply}
 use Rattle.farm_journal.specs.Standing.{JournalState}
-use Rattle.farm_desk.specs.Asking.{KeepsAcknowledged, KeepsFront, answer_of, faults_of}
-use Rattle.farm_desk.specs.Histories.{HasGrown, RecoversFront, certain}
-use Rattle.farm_desk.specs.Records.{AreRecords}
+use Rattle.farm_records.specs.Answers.{answer_of, faults_of}
+use Rattle.farm_desk.specs.Asking.{KeepsAcknowledged, KeepsFront}
+use Rattle.farm_records.specs.Histories.{HasGrown, RecoversFront, certain}
+use Rattle.farm_records.specs.Records.{AreRecords}
 use Rattle.farm_desk.specs.States.{DeskState, IsDesk}
-use Rattle.farm_desk.specs.declared.answer.Answer.{Answer}
-use Rattle.farm_desk.specs.declared.answer.Answer.TheVariants.{Done, DiskFault, NoMemory}
-use Rattle.farm_desk.specs.declared.answer.Unanswered.{Unanswered}
-use Rattle.farm_desk.specs.declared.answer.Unanswered.TheVariants as unanswered
-use Rattle.farm_desk.proofs.Keeping.{acknowledged_since, since_made}
+use Rattle.farm_records.specs.declared.answer.Answer.{Answer}
+use Rattle.farm_records.specs.declared.answer.Answer.TheVariants.{Done, DiskFault, NoMemory}
+use Rattle.farm_records.specs.declared.answer.Unanswered.{Unanswered}
+use Rattle.farm_records.specs.declared.answer.Unanswered.TheVariants as unanswered
+use Rattle.farm_records.proofs.Keeping.{acknowledged_since, since_made}
 
 -- what follows from a fault follows where the answer is one
 pub cause_of : (replied : Result Reply Unanswered) (answer : Answer) (P : Type 0) → answer ≡ answer_of replied → (replied ≡ Err unanswered.DiskFault → P) →

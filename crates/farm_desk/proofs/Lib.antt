@@ -1,7 +1,3 @@
-pub mod Traces
-pub mod Growing
-pub mod Settling
-pub mod Keeping
 pub mod Decoded
 pub mod Acceptance
 pub mod OneHistory
@@ -10,7 +6,6 @@ pub mod Refusing
 pub mod Judging
 pub mod Made
 pub mod Durable
+pub mod Counting
 pub mod Finishing
-pub mod Answered
-pub mod Answering
 pub mod Asked

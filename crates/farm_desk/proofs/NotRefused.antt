@@ -13,11 +13,11 @@ use Rattle.farm_journal.proofs.OneReading.{whole_is_not_refused}
 use Rattle.farm_site.specs.Encoding.{site_encoding}
 use Rattle.farm_site.proofs.BytesRead.{PartsAreRead}
 use Rattle.farm_desk.specs.Accepting.{taken_of}
-use Rattle.farm_desk.specs.Histories.{IsRecordable, Recovers, entry_encodings}
+use Rattle.farm_records.specs.Histories.{IsRecordable, Recovers, entry_encodings}
 use Rattle.farm_desk.specs.Laws.{RecoveredIsNotRefused}
 use Rattle.farm_desk.specs.Recovery.{IsDamagedAfter, IsDamagedAt, IsEntryDamaged, IsSiteDamaged, counting_of}
 use Rattle.farm_desk.proofs.Acceptance.{both_true}
-use Rattle.farm_desk.proofs.Growing.{front_recordable}
+use Rattle.farm_records.proofs.Growing.{front_recordable}
 use Rattle.farm_desk.proofs.OneHistory.{among, same_history}
 
 -- a taker that accepts all but these bytes after these

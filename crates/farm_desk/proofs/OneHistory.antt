@@ -8,7 +8,7 @@ use Rattle.farm_site.specs.Decoding.{whole_site}
 use Rattle.farm_site.specs.Encoding.{site_encoding}
 use Rattle.farm_site.proofs.BytesRead.{PartsAreRead}
 use Rattle.farm_desk.specs.Accepting.{entries_of, history_with}
-use Rattle.farm_desk.specs.Histories.{IsRecordable, entry_encodings}
+use Rattle.farm_records.specs.Histories.{IsRecordable, entry_encodings}
 use Rattle.farm_desk.specs.Laws.{OneHistory}
 use Rattle.farm_desk.proofs.Decoded.{decoded}
 

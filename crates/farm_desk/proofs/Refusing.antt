@@ -10,7 +10,7 @@ use Rattle.farm_journal.specs.declared.faults.RecoverFault.TheVariants.{NotJourn
 use Rattle.farm_journal.specs.Recovery.{IsDamagedAt as IsJournalDamagedAt, IsHeaderDamaged, IsRecordDamaged, IsRefusal, after_signature, counted_in}
 use Rattle.farm_site.proofs.BytesRead.{PartsAreRead}
 use Rattle.farm_desk.specs.Accepting.{accepted_next, taken_of}
-use Rattle.farm_desk.specs.Histories.{IsRecordable}
+use Rattle.farm_records.specs.Histories.{IsRecordable}
 use Rattle.farm_desk.specs.Recovery.{IsDamagedAt, IsEntryDamaged, IsRefused, IsSiteDamaged, counting_of}
 use Rattle.farm_desk.proofs.Acceptance.{next_is_accepted, site_is_accepted}
 

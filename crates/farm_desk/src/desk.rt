@@ -6,19 +6,19 @@ ghost use Rattle.farm_disk.specs.Runs.{EachNow, Extends};
 ghost use Rattle.farm_history.specs.Desk.{IsWellFormedAsk, desk_answer};
 ghost use Rattle.farm_history.specs.History.{last_place};
 ghost use Rattle.farm_history.specs.declared.limits.TheConstants.{GREATEST_LIMIT};
-ghost use Rattle.farm_desk.specs.Asking.{IsAnswered, KeepsAcknowledged, KeepsFront};
-ghost use Rattle.farm_desk.specs.Histories.{RecoversFront, RecoversNow, certain};
-ghost use Rattle.farm_desk.specs.Moments.{EachFrom};
-ghost use Rattle.farm_desk.specs.Records.{AreRecords};
+ghost use Rattle.farm_records.specs.Answers.{IsAnswered};
+ghost use Rattle.farm_desk.specs.Asking.{KeepsAcknowledged, KeepsFront};
+ghost use Rattle.farm_records.specs.Histories.{RecoversFront, RecoversNow, certain};
+ghost use Rattle.farm_records.specs.Moments.{EachFrom};
+ghost use Rattle.farm_records.specs.Records.{AreRecords};
 ghost use Rattle.farm_desk.specs.States.{IsDurable, IsNew, one_more};
 
-use crate::answer::answer_of;
-use crate::records::Records;
 use crate::{Answer, Opened};
 use farm_book::Book;
 use farm_disk::Disk;
 use farm_history::Ask;
 use farm_journal::Journal;
+use farm_records::{Records, answer_of};
 use std::marker::Model;
 
 /// A custody desk on a disk: a book of at most `LIMIT` entries, and Stops beyond them, and the journal that keeps it.

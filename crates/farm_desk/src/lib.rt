@@ -4,17 +4,14 @@
 //! its answer is given. docs/architecture.md says what a crash leaves at each moment.
 #![tactic(auto)]
 
-mod answer;
-mod asking;
 mod desk;
 mod desk_laws;
 mod making;
 mod opened;
-mod records;
 mod recovering;
 
-pub use answer::Answer;
 pub use desk::Desk;
 pub use desk_laws::laws;
 pub use farm_journal::{CreateFault, RecoverFault};
+pub use farm_records::Answer;
 pub use opened::Opened;

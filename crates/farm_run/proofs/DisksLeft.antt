@@ -5,8 +5,8 @@ use Rattle.batch_lines.specs.Reader.{count_of}
 use Rattle.farm_base.proofs.Rises.{faults_add_up}
 use Rattle.farm_base.specs.Counts.{raised}
 use Rattle.farm_batch.specs.Answers.{AreAcknowledged, IsReply, Step, faults_in, history_after}
-use Rattle.farm_desk.specs.Histories.{RecoversFront, RecoversNow, certain}
-use Rattle.farm_desk.specs.Moments.{EachFrom}
+use Rattle.farm_records.specs.Histories.{RecoversFront, RecoversNow, certain}
+use Rattle.farm_records.specs.Moments.{EachFrom}
 use Rattle.farm_desk.specs.States.{DeskState, IsNew}
 use Rattle.farm_desk.specs.declared.opened.Opened.{Opened}
 use Rattle.farm_disk.specs.Images.{State}

@@ -2,7 +2,7 @@
 use Rattle.std.proofs.Common.{◌≡◌, ◌≢◌, inl, inr, ℕ, List, [], Option, None, Some, refl, arith}
 use Rattle.farm_base.specs.Counts.{Count, HasRisen, IsQuiet}
 use Rattle.farm_base.specs.Known.{Stays, Stream, WhereKnown}
-use Rattle.farm_desk.specs.Histories.{Recovers}
+use Rattle.farm_records.specs.Histories.{Recovers}
 use Rattle.farm_desk.specs.Laws.{RecoveredIsNotRefused}
 use Rattle.farm_desk.specs.Recovery.{IsRefused}
 use Rattle.farm_disk.specs.Images.{State, present}

@@ -8,8 +8,8 @@ use Rattle.farm_batch.specs.declared.batch.BatchEnd.TheVariants.{Done, Long, Fai
 use Rattle.farm_batch.specs.Answers.{AreAcknowledged, IsCutAtLast, Step, answers_text, faults_in, history_after}
 use Rattle.farm_batch.specs.Batches.{AskedAll, Asks, GoesOn, IsTooMuch, lines_of}
 use Rattle.farm_batch.specs.Outcomes.{Outcome, WereAnswered, outcome}
-use Rattle.farm_desk.specs.Histories.{Recovers, RecoversFront, RecoversNow, certain}
-use Rattle.farm_desk.specs.Moments.{EachFrom}
+use Rattle.farm_records.specs.Histories.{Recovers, RecoversFront, RecoversNow, certain}
+use Rattle.farm_records.specs.Moments.{EachFrom}
 use Rattle.farm_desk.specs.Recovery.{IsDamagedAt}
 use Rattle.farm_disk.specs.Images.{State, present}
 use Rattle.farm_disk.specs.Runs.{EachNow, WritesNothing}

@@ -4,7 +4,7 @@ use Rattle.batch_lines.specs.Reader.{count_of}
 use Rattle.farm_base.specs.Counts.{Count, HasRisen, IsQuiet}
 use Rattle.farm_base.specs.Known.{Adds, Stays, WhereKnown}
 use Rattle.farm_desk.specs.Asking.{IsCrashSafe}
-use Rattle.farm_desk.specs.Histories.{Recovers}
+use Rattle.farm_records.specs.Histories.{Recovers}
 use Rattle.farm_disk.specs.Images.{State, present}
 use Rattle.farm_disk.specs.Runs.{EachNow}
 use Rattle.farm_history.specs.History.{empty_history}

@@ -1,8 +1,8 @@
 use Rattle.std.proofs.Common.{◌≡◌, ◌⊎◌, inl, inr, ◌∙◌, ◌&&◌, Bool, true, false, nat_lt, length, ap, ap₂, sym, subst, w64, ℤ}
 use Rattle.std.proofs.lemmas.Int.{to_z-of_z}
 use Rattle.farm_batch.specs.declared.limits.TheConstants.{BATCH_CALLER}
-use Rattle.farm_desk.specs.Asking.{IsAnswered}
-use Rattle.farm_desk.specs.declared.answer.Answer.TheVariants.{DiskFault, Done}
+use Rattle.farm_records.specs.Answers.{IsAnswered}
+use Rattle.farm_records.specs.declared.answer.Answer.TheVariants.{DiskFault, Done}
 use Rattle.farm_history.specs.Desk.{desk_answer}
 use Rattle.farm_batch.proofs.Meant.{done_is_meant, meets, meets_fault}
 use Rattle.farm_batch.specs.Answers.{is_stop_ask}

@@ -9,8 +9,8 @@ ghost use Rattle.farm_history.specs.History.{IsWellFormed, last_place, with_entr
 ghost use Rattle.farm_history.specs.Verdicts.{IsNext};
 ghost use Rattle.farm_journal.specs.Standing.{Stands};
 ghost use Rattle.farm_site.specs.Encoding.{site_encoding};
-ghost use Rattle.farm_desk.specs.Histories.{IsRecordable, Recovers, RecoversFront, certain, entry_encodings};
-ghost use Rattle.farm_desk.specs.Records.{AreRecords, IsReady};
+ghost use Rattle.farm_records.specs.Histories.{IsRecordable, Recovers, RecoversFront, certain, entry_encodings};
+ghost use Rattle.farm_records.specs.Records.{AreRecords, IsReady};
 
 use farm_base::NoMemory;
 use farm_book::Book;
@@ -20,17 +20,20 @@ use farm_journal::{DiskFault, Journal};
 
 /// A book and the journal that keeps it, and whether the last entry is in doubt: its body is in the journal, and its gate may not be open.
 #[derive(Drop)]
-pub(crate) struct Records<D: Disk, const LIMIT: usize> {
+pub struct Records<D: Disk, const LIMIT: usize> {
+    /// The journal.
     pub journal: Journal<D>,
+    /// The book.
     pub book: Book<LIMIT>,
+    /// Whether the last entry is in doubt.
     pub doubt: bool,
-    // The bytes of the entry that is to be put.
+    /// Room for the bytes of the entry that is put next.
     pub bytes: Vec<u8>,
 }
 
 impl<D: Disk, const LIMIT: usize> Records<D, LIMIT> {
-    // Opens the gate of an entry in doubt. Where none is in doubt it makes no call.
-    pub(crate) fn settle(&mut self) -> Result<(), DiskFault>
+    /// Opens the gate of an entry in doubt. Where none is in doubt it makes no call.
+    pub fn settle(&mut self) -> Result<(), DiskFault>
         requires kept { AreRecords D.trace LIMIT self.old.doubt self.old.book.history self.old.journal }
         ensures kept { AreRecords D.trace LIMIT self.new.doubt self.new.book.history self.new.journal }
         ensures book { self.new.book ≡ self.old.book }

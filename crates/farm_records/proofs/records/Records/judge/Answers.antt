@@ -1,8 +1,8 @@
 use Rattle.std.proofs.Common.{◌∙◌, ap, refl}
 use Rattle.farm_book.specs.Kept.{Kept}
-use Rattle.farm_desk.proofs.Answered.{entered_extends, entered_images, put_images, taken_extends, taken_images}
-use Rattle.farm_desk.proofs.Traces.{extends_same}
-use Rattle.farm_desk.proofs.records.Records.judge.Goals as goal
+use Rattle.farm_records.proofs.Answered.{entered_extends, entered_images, put_images, taken_extends, taken_images}
+use Rattle.farm_records.proofs.Traces.{extends_same}
+use Rattle.farm_records.proofs.records.Records.judge.Goals as goal
 
 -- src/asking.rt:94:17
 pub returns-in_err-take_memory-in-Accept-clause-images :

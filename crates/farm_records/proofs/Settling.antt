@@ -10,10 +10,10 @@ use Rattle.farm_history.specs.declared.entry.Entry.{Entry}
 use Rattle.farm_journal.specs.Standing.{IsAnImage, IsEither, IsKept, JournalState, Stands}
 use Rattle.farm_journal.proofs.Gates.{stands_on_each}
 use Rattle.farm_site.specs.Encoding.{site_encoding}
-use Rattle.farm_desk.specs.Histories.{IsRecordable, RecoversFront, RecoversNow, certain, entry_encodings}
-use Rattle.farm_desk.specs.Records.{AreRecords, IsLastPending}
-use Rattle.farm_desk.proofs.Growing.{either_now, encodings_more, more_recordable, now_is_front}
-use Rattle.farm_desk.proofs.Traces.{now_weaker, since_now, since_weaker}
+use Rattle.farm_records.specs.Histories.{IsRecordable, RecoversFront, RecoversNow, certain, entry_encodings}
+use Rattle.farm_records.specs.Records.{AreRecords, IsLastPending}
+use Rattle.farm_records.proofs.Growing.{either_now, encodings_more, more_recordable, now_is_front}
+use Rattle.farm_records.proofs.Traces.{now_weaker, since_now, since_weaker}
 
 -- each image now stands for the history, or, with its last entry in doubt, for that or for the history without it
 pub records_now : {D : Type 0} (trace : D → Option (List State)) (limit : ℕ) (doubt : Bool) (history : History) (journal : JournalState D) →

@@ -12,7 +12,7 @@ use Rattle.farm_history.proofs.TicketsStand.{legal_front}
 use Rattle.farm_journal.specs.Layout.{IsJournalOf}
 use Rattle.farm_journal.specs.Standing.{IsEither}
 use Rattle.farm_site.specs.Encoding.{site_encoding}
-use Rattle.farm_desk.specs.Histories.{HasGrown, IsRecordable, Recovers, RecoversAtLeast, RecoversFront, RecoversNow, certain, front_of}
+use Rattle.farm_records.specs.Histories.{HasGrown, IsRecordable, Recovers, RecoversAtLeast, RecoversFront, RecoversNow, certain, front_of}
 
 -- a journal that may keep a history may keep its front
 pub front_recordable : (limit : ℕ) (history : History) (count : ℕ) → IsRecordable limit history → IsRecordable limit (front_of history count)

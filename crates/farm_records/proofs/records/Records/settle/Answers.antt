@@ -1,5 +1,5 @@
-use Rattle.farm_desk.proofs.Settling.{records_since, settled_images, settled_keeps}
-use Rattle.farm_desk.proofs.records.Records.settle.Goals as goal
+use Rattle.farm_records.proofs.Settling.{records_since, settled_images, settled_keeps}
+use Rattle.farm_records.proofs.records.Records.settle.Goals as goal
 
 -- src/records.rt:47:13
 pub returns-in_err-open_gate-clause-images : goal.returns-in_err-open_gate-clause-images

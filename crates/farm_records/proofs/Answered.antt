@@ -7,10 +7,10 @@ use Rattle.farm_history.specs.History.{History, last_place, with_entry}
 use Rattle.farm_history.specs.declared.entry.Entry.{Entry}
 use Rattle.farm_journal.specs.Standing.{JournalState}
 use Rattle.farm_journal.proofs.MakingSteps.{extends_more}
-use Rattle.farm_desk.specs.Histories.{HasGrown, Recovers, RecoversFront, certain}
-use Rattle.farm_desk.specs.Records.{AreRecords}
-use Rattle.farm_desk.proofs.Traces.{extends_same}
-use Rattle.farm_desk.proofs.Keeping.{answered_since, certain_within, entered_since, put_since, unchanged_since}
+use Rattle.farm_records.specs.Histories.{HasGrown, Recovers, RecoversFront, certain}
+use Rattle.farm_records.specs.Records.{AreRecords}
+use Rattle.farm_records.proofs.Traces.{extends_same}
+use Rattle.farm_records.proofs.Keeping.{answered_since, certain_within, entered_since, put_since, unchanged_since}
 
 module _ {D : Type 0} (trace : D → Option (List State)) (limit : ℕ) (old_history taken_history : History) (old taken : D)
     (same_history : taken_history ≡ old_history) (same : taken ≡ old) where

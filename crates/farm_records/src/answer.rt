@@ -1,7 +1,7 @@
-//! What a desk answers.
+//! What is answered to a request.
 
 ghost use Rattle.std.specs.Prelude.{◌≡◌};
-ghost use Rattle.farm_desk.specs.Asking.{answer_of, faults_of};
+ghost use Rattle.farm_records.specs.Answers.{answer_of, faults_of};
 
 use farm_base::NoMemory;
 use farm_history::Reply;
@@ -20,8 +20,8 @@ pub enum Answer {
 }
 
 impl Answer {
-    // How many faults it is, 1 or 0.
-    pub(crate) fn faults(&self) -> u64
+    /// How many faults it is, 1 or 0.
+    pub fn faults(&self) -> u64
         ensures faults { result ≡ faults_of self.now }
     {
         match self {
@@ -31,15 +31,17 @@ impl Answer {
     }
 }
 
-// Why a request wasn't answered.
+/// Why a request wasn't answered.
 #[derive(Clone, Copy)]
-pub(crate) enum Unanswered {
+pub enum Unanswered {
+    /// The disk failed.
     DiskFault,
+    /// There was no memory.
     NoMemory,
 }
 
 impl From<DiskFault> for Unanswered {
-    ghost use Rattle.farm_desk.specs.declared.answer.Unanswered.TheVariants.{DiskFault};
+    ghost use Rattle.farm_records.specs.declared.answer.Unanswered.TheVariants.{DiskFault};
 
     ghost from_gives = { λ _ why. why ≡ DiskFault };
 
@@ -49,7 +51,7 @@ impl From<DiskFault> for Unanswered {
 }
 
 impl From<NoMemory> for Unanswered {
-    ghost use Rattle.farm_desk.specs.declared.answer.Unanswered.TheVariants.{NoMemory};
+    ghost use Rattle.farm_records.specs.declared.answer.Unanswered.TheVariants.{NoMemory};
 
     ghost from_gives = { λ _ why. why ≡ NoMemory };
 
@@ -58,8 +60,8 @@ impl From<NoMemory> for Unanswered {
     }
 }
 
-// The answer of a reply, or of the reason why there is no reply.
-pub(crate) fn answer_of(replied: Result<Reply, Unanswered>) -> Answer
+/// The answer of a reply, or of the reason why there is no reply.
+pub fn answer_of(replied: Result<Reply, Unanswered>) -> Answer
     ensures answer { result ≡ answer_of replied }
 {
     match replied {

@@ -8,9 +8,9 @@ ghost use Rattle.farm_history.specs.Commands.{IsWellFormedCommand};
 ghost use Rattle.farm_history.specs.Desk.{IsWellFormedAsk, answered_on, brought_into_range, desk_answer, later_of, stamped};
 ghost use Rattle.farm_history.specs.History.{IsMoment, IsWellFormed, last_moment, last_place};
 ghost use Rattle.farm_history.specs.Verdicts.{verdict};
-ghost use Rattle.farm_desk.specs.Asking.{IsAnswered, answer_of};
-ghost use Rattle.farm_desk.specs.Histories.{HasGrown, RecoversFront, certain};
-ghost use Rattle.farm_desk.specs.Records.{AreRecords};
+ghost use Rattle.farm_records.specs.Answers.{IsAnswered, answer_of};
+ghost use Rattle.farm_records.specs.Histories.{HasGrown, RecoversFront, certain};
+ghost use Rattle.farm_records.specs.Records.{AreRecords};
 
 use crate::answer::Unanswered;
 use crate::records::Records;
@@ -18,8 +18,8 @@ use farm_disk::Disk;
 use farm_history::{Ask, Command, Entry, LAST_MOMENT, Reply, Verdict};
 
 impl<D: Disk, const LIMIT: usize> Records<D, LIMIT> {
-    // Answers a request of a caller at a number of the clock.
-    pub(crate) fn answer(&mut self, caller: u32, now: i64, ask: &Ask) -> Result<Reply, Unanswered>
+    /// Answers a request of a caller at a number of the clock, in seconds since 1970-01-01 00:00:00 UTC.
+    pub fn answer(&mut self, caller: u32, now: i64, ask: &Ask) -> Result<Reply, Unanswered>
         requires well_formed { IsWellFormedAsk ask.now }
         requires kept { AreRecords D.trace LIMIT self.old.doubt self.old.book.history self.old.journal }
         ensures kept { AreRecords D.trace LIMIT self.new.doubt self.new.book.history self.new.journal }

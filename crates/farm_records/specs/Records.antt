@@ -8,7 +8,7 @@ use Rattle.farm_history.specs.declared.limits.TheConstants.{GREATEST_LIMIT, MOST
 use Rattle.farm_history.specs.declared.entry.Entry.{Entry}
 use Rattle.farm_journal.specs.Standing.{JournalState, Stands}
 use Rattle.farm_site.specs.Encoding.{site_encoding}
-use Rattle.farm_desk.specs.Histories.{IsRecordable, entry_encodings}
+use Rattle.farm_records.specs.Histories.{IsRecordable, entry_encodings}
 
 -- The last entry is in doubt: a journal has the entries before it, and its body is pending.
 pub record IsLastPending {D : Type 0} (trace : D → Option (List State)) (history : History) (journal : JournalState D) : Type 0 where

@@ -1,9 +1,9 @@
 use Rattle.std.proofs.Common.{rules, true, sym, subst}
 use Rattle.farm_history.specs.History.{History}
-use Rattle.farm_desk.specs.Records.{AreRecords}
-use Rattle.farm_desk.proofs.Settling.{entered_in_doubt}
-use Rattle.farm_desk.proofs.Keeping.{settled_since}
-use Rattle.farm_desk.proofs.records.Records.commit.Goals as goal
+use Rattle.farm_records.specs.Records.{AreRecords}
+use Rattle.farm_records.proofs.Settling.{entered_in_doubt}
+use Rattle.farm_records.proofs.Keeping.{settled_since}
+use Rattle.farm_records.proofs.records.Records.commit.Goals as goal
 
 pub settle-requires : goal.settle-requires
 settle-requires g c = (

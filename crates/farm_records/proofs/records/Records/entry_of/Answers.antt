@@ -4,7 +4,7 @@ use Rattle.farm_history.specs.declared.entry.Entry.{Entry}
 use Rattle.farm_history.specs.Desk.{brought_into_range, later_of, stamped_moment}
 use Rattle.farm_history.specs.History.{last_moment}
 use Rattle.farm_history.proofs.MomentReader.{moment_fits}
-use Rattle.farm_desk.proofs.records.Records.entry_of.Goals as goal
+use Rattle.farm_records.proofs.records.Records.entry_of.Goals as goal
 
 -- src/asking.rt:52:5
 pub returns-clause-entry : goal.returns-clause-entry

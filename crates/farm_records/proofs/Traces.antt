@@ -5,7 +5,7 @@ use Rattle.std.proofs.lemmas.List.{get_or-take, take_all}
 use Rattle.farm_base.specs.Known.{WhereKnown}
 use Rattle.farm_disk.specs.Images.{IsCrashImage, State, at_rest, state_at}
 use Rattle.farm_disk.specs.Runs.{EachNow, EachSince, Extends}
-use Rattle.farm_desk.specs.Moments.{EachFrom}
+use Rattle.farm_records.specs.Moments.{EachFrom}
 
 -- states extend themselves
 pub extends_same : (trace : Option (List State)) → Extends trace trace

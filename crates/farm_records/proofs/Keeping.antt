@@ -1,6 +1,5 @@
--- What a book and its journal keep over calls that change nothing on the disk, and what a desk keeps over an answer.
+-- What a book and its journal keep over calls that change nothing on the disk, and over an answer.
 use Rattle.std.proofs.Common.{◌≡◌, ℕ, ◌+◌, ◌≤◌, Bool, true, false, List, [], ◌∷◌, Option, sym, ap, subst, arith, length-append}
-use Rattle.farm_base.specs.Counts.{Rose, RoseBy}
 use Rattle.farm_book.specs.Kept.{Kept}
 use Rattle.farm_disk.specs.Images.{State}
 use Rattle.farm_disk.specs.Runs.{EachSince, Extends}
@@ -8,13 +7,12 @@ use Rattle.farm_history.specs.History.{History, last_place, with_entry}
 use Rattle.farm_history.specs.declared.entry.Entry.{Entry}
 use Rattle.farm_journal.specs.Standing.{JournalState}
 use Rattle.farm_journal.proofs.MakingSteps.{each_more}
-use Rattle.farm_desk.specs.Histories.{HasGrown, Recovers, RecoversAtLeast, RecoversFront, certain}
-use Rattle.farm_desk.specs.Moments.{EachFrom}
-use Rattle.farm_desk.specs.Records.{AreRecords}
-use Rattle.farm_desk.specs.States.{one_more}
-use Rattle.farm_desk.proofs.Growing.{front_at_least, front_less, front_of_grown, whole_is_front, whole_is_front_of_more}
-use Rattle.farm_desk.proofs.Settling.{records_since}
-use Rattle.farm_desk.proofs.Traces.{from_more, from_weaker, since_weaker}
+use Rattle.farm_records.specs.Histories.{HasGrown, Recovers, RecoversAtLeast, RecoversFront, certain}
+use Rattle.farm_records.specs.Moments.{EachFrom}
+use Rattle.farm_records.specs.Records.{AreRecords}
+use Rattle.farm_records.proofs.Growing.{front_at_least, front_less, front_of_grown, whole_is_front, whole_is_front_of_more}
+use Rattle.farm_records.proofs.Settling.{records_since}
+use Rattle.farm_records.proofs.Traces.{from_more, from_weaker, since_weaker}
 
 -- with nothing in doubt, and no call on the disk, each image stands for the whole history
 pub unchanged_since : {D : Type 0} (trace : D → Option (List State)) (limit : ℕ) (doubt : Bool) (history : History) (journal : JournalState D) (disk : D) →
@@ -74,18 +72,6 @@ acknowledged_since limit history most count from old new fewer extends since eac
     from_more (RecoversAtLeast limit count) from old new extends each
     (since_weaker (RecoversFront limit history most) (RecoversAtLeast limit count) old new
     (λ image is. front_at_least limit history most count image fewer is) since)
-
--- one fault more is counted
-pub one_more_counted : (failed before between now : ℕ) → RoseBy failed before between → Rose between now → RoseBy (one_more failed) before now
-one_more_counted failed before between now rose more = omega (arith, rose, more)
-
--- and so without the limit of the count
-pub counted_once_more : (failed before between now : ℕ) → RoseBy failed before between → Rose between now → RoseBy (failed + 1) before now
-counted_once_more failed before between now rose more = omega (arith, rose, more)
-
--- a count that doesn't fall stays as high
-pub counted_still : (failed before between now : ℕ) → RoseBy failed before between → between ≤ now → RoseBy failed before now
-counted_still failed before between now rose more = omega (arith, rose, more)
 
 -- each image of the opening of the gate of the entry that came last stands for the history before it or with it
 pub settled_since : (limit : ℕ) (history : History) (entry : Entry) (entered left : Kept) (old new : Option (List State)) →

@@ -5,9 +5,9 @@ use Rattle.farm_book.specs.Kept.{Kept}
 use Rattle.farm_history.specs.Desk.{Answered, stamped}
 use Rattle.farm_journal.proofs.MakingSteps.{extends_more}
 use Rattle.farm_journal.specs.Standing.{JournalState}
-use Rattle.farm_desk.proofs.Answered.{settled_and_answered}
-use Rattle.farm_desk.proofs.Answering.{certain_settled, done_answered, done_is, grown_since, look_answered}
-use Rattle.farm_desk.proofs.records.Records.answer.Goals as goal
+use Rattle.farm_records.proofs.Answered.{settled_and_answered}
+use Rattle.farm_records.proofs.Answering.{certain_settled, done_answered, done_is, grown_since, look_answered}
+use Rattle.farm_records.proofs.records.Records.answer.Goals as goal
 
 -- src/asking.rt:22:5
 pub returns-in-Look-clause-answered : goal.returns-in-Look-clause-answered

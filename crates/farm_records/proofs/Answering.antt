@@ -10,11 +10,11 @@ use Rattle.farm_history.specs.declared.command.Command.{Command}
 use Rattle.farm_history.specs.declared.entry.Entry.{Entry}
 use Rattle.farm_history.specs.declared.query.Query.{Query}
 use Rattle.farm_history.specs.declared.reply.Reply.{Reply}
-use Rattle.farm_desk.specs.Asking.{IsAnswered}
-use Rattle.farm_desk.specs.Histories.{HasGrown, certain}
-use Rattle.farm_desk.specs.declared.answer.Answer.{Answer}
-use Rattle.farm_desk.specs.declared.answer.Answer.TheVariants.{Done}
-use Rattle.farm_desk.proofs.Keeping.{certain_within}
+use Rattle.farm_records.specs.Answers.{IsAnswered}
+use Rattle.farm_records.specs.Histories.{HasGrown, certain}
+use Rattle.farm_records.specs.declared.answer.Answer.{Answer}
+use Rattle.farm_records.specs.declared.answer.Answer.TheVariants.{Done}
+use Rattle.farm_records.proofs.Keeping.{certain_within}
 
 -- the answer to a command is that on the verdict on its entry
 pub done_is : (limit : ℕ) (book settled : Kept) (caller account key : ℕ) (now : ℤ) (ask : Ask) (copy command : Command) (entry : Entry) →

@@ -1,0 +1,6 @@
+pub mod Traces
+pub mod Growing
+pub mod Settling
+pub mod Keeping
+pub mod Answered
+pub mod Answering
