@@ -1,3 +1,5 @@
+//! Inputs of the calculation, drawn one after another, the same for each seed.
+
 ghost use Rattle.std.specs.Prelude.{◌≤◌, ◌^◌, pos, ◌≤ℤ◌, ◌<ℤ◌};
 ghost use Rattle.farm_fixed.specs.Range.{IsWithin};
 
