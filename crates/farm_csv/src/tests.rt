@@ -1,3 +1,5 @@
+//! Tests of the reader: records and their fields, rows below a header, and the faults of rows.
+
 ghost use Rattle.std.specs.Prelude.{◌≡◌, ◌==◌, if◌then◌else◌, IfOk, None, Ok, Some};
 ghost use Rattle.farm_csv.specs.Records.{records_of};
 ghost use Rattle.farm_csv.specs.Rows.{below_header, rows_from};

@@ -1,3 +1,5 @@
+//! Why a number is no quantity, and why a text is none.
+
 use thiserror::Error;
 
 /// A number of units outside the range of its type.

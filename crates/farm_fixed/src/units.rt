@@ -1,3 +1,5 @@
+//! The units: the range and the decimals of each, and the quantities in them.
+
 ghost use Rattle.std.specs.Prelude.{pos, negsuc};
 ghost use Rattle.std.proofs.Common.{lit≤};
 

@@ -1,5 +1,5 @@
 -- How far the recovery of a journal has come, and why it is refused.
-use Rattle.std.proofs.Common.{◌≡◌, ◌⊎◌, inr, ⊎_elim, ℕ, ◌-◌, ◌≤◌, Bool, true, false, nat_eq, List, length, take, drop, Option, Some, None, sym, ◌∙◌, subst, arith}
+use Rattle.std.proofs.Common.{◌≡◌, inr, ⊎_elim, ℕ, ◌≤◌, Bool, true, false, nat_eq, List, length, take, drop, Option, Some, None, sym, ◌∙◌, subst, arith}
 use Rattle.std.specs.List.{starts_with}
 use Rattle.std.proofs.lemmas.Slice.Eq.{bytes_eq-Decides}
 use Rattle.farm_base.specs.Known.{WhereKnown}

@@ -7,8 +7,6 @@ use Rattle.std.proofs.lemmas.Slice.Eq.{bytes_eq-Decides}
 use Rattle.std.proofs.lemmas.List.Elements.{All-nil, All-push}
 use Rattle.farm_base.specs.Known.{Stays, WhereKnown}
 use Rattle.farm_disk.specs.Images.{State, present}
-use Rattle.farm_journal.specs.declared.faults.RecoverFault.{RecoverFault}
-use Rattle.farm_journal.specs.declared.faults.RecoverFault.TheVariants.{NoMemory}
 use Rattle.farm_journal.specs.declared.taker.Taken.{Taken}
 use Rattle.farm_journal.specs.declared.taker.Taken.TheVariants.{Go, Bad, NoMemory as Lacking}
 use Rattle.farm_journal.specs.Layout.{IsShort, signature}

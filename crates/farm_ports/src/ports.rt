@@ -1,3 +1,5 @@
+//! The ports: what a source, a sink and a port of both owe, and a call that failed.
+
 ghost use Rattle.std.specs.Prelude.{◌≡◌, ◌≤◌, ℕ, List, OnOk, Option};
 ghost use Rattle.farm_base.specs.Counts.{HasCause, Rose, raised};
 ghost use Rattle.farm_base.specs.Known.{Stream};

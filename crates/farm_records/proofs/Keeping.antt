@@ -1,5 +1,5 @@
 -- What a book and its journal keep over calls that change nothing on the disk, and over an answer.
-use Rattle.std.proofs.Common.{◌≡◌, ℕ, ◌+◌, ◌≤◌, Bool, true, false, List, [], ◌∷◌, Option, sym, ap, subst, arith, length-append}
+use Rattle.std.proofs.Common.{◌≡◌, ℕ, ◌≤◌, Bool, true, false, List, [], ◌∷◌, Option, sym, ap, subst, arith, length-append}
 use Rattle.farm_book.specs.Kept.{Kept}
 use Rattle.farm_disk.specs.Images.{State}
 use Rattle.farm_disk.specs.Runs.{EachSince, Extends}

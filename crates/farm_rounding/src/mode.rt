@@ -1,3 +1,5 @@
+//! The two ways of rounding.
+
 /// Which multiple of the step a quotient is rounded to.
 #[derive(Clone, Copy, Debug, PartialEq, Eq)]
 pub enum Mode {

@@ -1,3 +1,5 @@
+//! Rounding a quotient to a multiple of a step.
+
 ghost use Rattle.std.specs.Prelude.{◌≡◌, ℕ, pos, ◌≤ℤ◌, ◌^◌, ◌≤◌, ◌+◌, ◌/◌, ◌<◌};
 ghost use Rattle.std.specs.Int.RustNames.{unsigned_abs};
 ghost use Rattle.farm_rounding.specs.Multiple.{IsAllowedStep, IsNearest, IsWithinAStep, nearest_multiple, rounds_up, steps_to, with_sign_of};

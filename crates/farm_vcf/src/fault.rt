@@ -1,3 +1,5 @@
+//! What is wrong with factors: lists that form no grid, a density or temperature outside it, and a text that is no factor file.
+
 ghost use Rattle.std.specs.Prelude.{◌≡◌};
 ghost use Rattle.farm_vcf.specs.declared.fault.VcfFault.TheVariants.{NoMemory};
 

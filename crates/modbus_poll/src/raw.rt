@@ -1,3 +1,5 @@
+//! A gauge's registers as numbers: tank, level, free water and temperatures.
+
 /// What a gauge's registers say.
 #[derive(Clone, Copy, Debug, PartialEq, Eq)]
 pub struct Raw {

@@ -1,3 +1,5 @@
+//! The records of a site: products, parties and tanks.
+
 use crate::Name;
 use farm_fixed::Amount;
 use farm_vcf::Vcf;

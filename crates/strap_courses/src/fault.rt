@@ -1,3 +1,5 @@
+//! Why parts are no strapped tank, and why a strapped tank has no table.
+
 ghost use Rattle.std.specs.Prelude.{◌≡◌};
 ghost use Rattle.strap_courses.specs.declared.fault.StrapFault.TheVariants as variants;
 

@@ -1,3 +1,5 @@
+//! The parts of a strapped tank: courses, deadwood and the bottom.
+
 use farm_fixed::{Deci, Mm};
 
 /// A course of a shell: a ring of plates.

@@ -1,3 +1,5 @@
+//! Why rows are no capacity table, and a level above the last row of one.
+
 use thiserror::Error;
 
 /// A level above the last row of a capacity table.

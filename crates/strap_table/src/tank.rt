@@ -1,3 +1,5 @@
+//! What is fixed of a tank beside its table: its shell, its reference height and its roof.
+
 use farm_fixed::{Kg, Mm, Shell};
 
 /// The floating roof of a tank.

@@ -1,4 +1,4 @@
-use Rattle.std.proofs.Common.{◌≡◌, ◌∙◌, sym}
+use Rattle.std.proofs.Common.{◌∙◌, sym}
 use Rattle.std.proofs.lemmas.Result.{err_from_is_err_and}
 use Rattle.site_tables.proofs.Files.{file_of_fault, file_of_rows}
 use Rattle.site_tables.proofs.tables.table_of_file.Goals as goal

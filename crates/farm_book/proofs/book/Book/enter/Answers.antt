@@ -1,7 +1,6 @@
-use Rattle.std.proofs.Common.{rules, ◌≡◌, ◌∙◌, sym, ap, ℕ, ◌+◌, ◌<◌, List, [], ◌∷◌, ◌≤ℤ◌, Fits, FitsSigned}
+use Rattle.std.proofs.Common.{rules, ◌∙◌, ap}
 use Rattle.farm_history.specs.History.{History, with_entry}
 use Rattle.farm_history.specs.Verdicts.{IsNext}
-use Rattle.farm_book.specs.Entering.{Enters, IsNextEncoding}
 use Rattle.farm_book.proofs.book.Book.enter.Goals as goal
 
 -- src/entering.rt:36:5
