@@ -14,9 +14,11 @@ pub record DigitAt (word : List ℕ) (index : ℕ) : Type 0 where
   pub small : digits_value 10 (take index word) < 10 ^ 20
   pub more : digits_value 10 (take (index + 1) word) ≡ 10 * digits_value 10 (take index word) + (get_or word index 0 - 48)
 
+-- a word of digits has a digit at each index
 digits_all : (word : List ℕ) → all_ascii_digits word ≡ true → AllDigits 10 word
 digits_all = (numerals_by_value (λ ds. all_ascii_digits ds ≡ true) tells_all_ascii_digits).to
 
+-- a word of at most twenty digits has at each index the digit that its value has there
 pub digit_of_word : (word : List ℕ) (index : ℕ) → all_ascii_digits word ≡ true → length word ≤ 20 → index < length word → DigitAt word index
 digit_of_word word index digits short inside =
     let all = digits_all word digits in

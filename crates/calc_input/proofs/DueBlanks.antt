@@ -56,6 +56,7 @@ pub record IsUsedAfter (lines : List (List ℕ)) (last number : ℕ) : Type 0 wh
   pub before : (earlier : ℕ) → last < earlier → earlier < number → is_blank_line (line_numbered lines earlier) ≡ true
   pub here : is_blank_line (line_numbered lines number) ≡ false
 
+-- the first line that is not blank, counted from the end of the form, is that line of the input
 pub used_after_form : (lines : List (List ℕ)) (last number : ℕ) → first_used (last + 1) (drop last lines) ≡ Some number → IsUsedAfter lines last number
 used_after_form lines last number is =
     let found = found_used (drop last lines) (last + 1) number is in

@@ -98,6 +98,7 @@ some_in_block (suc width) rows some block = omega arith
 no_shorter_block : (width other : ℕ) (rows : List Listed) → IsFirstBlock width rows → IsFirstBlock other rows → width < other → ⊥
 no_shorter_block width other rows block longer less = block.another (omega (arith, longer.within)) (longer.one_density width less)
 
+-- so the widths of two first blocks are the same
 one_first_block : (width other : ℕ) (rows : List Listed) → IsFirstBlock width rows → IsFirstBlock other rows → width ≡ other
 one_first_block width other rows block same = by (nat_lt width other) refl (nat_lt other width) refl
   where
@@ -146,6 +147,7 @@ width_up_to width index = by (nat_lt index width) refl
     by true e = let less : index < width = grind (arith, nat_tests) in inr (omega arith, less)
     by false e = let more : width ≤ index = grind (arith, nat_tests) in inl (omega arith)
 
+-- the same, the other way round
 swapped : (width index : ℕ) → (width ≡ min width (index + 1)) ⊎ ((index < width) × (index < min width (index + 1)))
 swapped width index = elim (width_up_to width index) [ inl same ↦ inl (sym same) | inr both ↦ inr (both.1, both.0) ]
 
@@ -274,6 +276,7 @@ found_short_block lines first many width number some counted block before short 
           λ line. short (line.whole width (omega arith) block),
         )
 
+-- where rows break off, the fault of the factors is reported at the line of the break
 found_break : (lines : List (List ℕ)) (first many number : ℕ) → 1 ≤ many → IsFirstBreak (listed_front many first lines) number → FindsFactors lines first many (Err (first + min number many))
 found_break lines first many number some break = by break.breaks
   where
@@ -283,6 +286,7 @@ found_break lines first many number some break = by break.breaks
         let P : ℕ → Type 0 = λ end. (earlier : ℕ) → earlier < end → GoesOn break.width (listed_front many first lines) earlier in
         found_short_block lines first many break.width number some (omega (arith, break.counted, at_end.0)) break.first_block (subst P at_end.0 break.before) at_end.1
 
+-- the factors that are read are those that are due, or the fault is at the first line that is not due
 pub factors_found : (lines : List (List ℕ)) (first many : ℕ) → 1 ≤ many → FindsFactors lines first many (grid_from many first lines)
 unfolding grid_from
 factors_found lines first many some = by (grid_of_rows (listed_front many first lines)) (rows_mean (listed_front many first lines))

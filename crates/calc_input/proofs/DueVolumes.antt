@@ -144,6 +144,7 @@ volumes_stop lines n least count is = (
       no_row_known least (line_at lines n) is at.volume (subst P here at.one) (at.first refl),
 )
 
+-- the volumes that are read are those that are due, or the fault is at the first line that is not due
 pub volumes_found : (lines : List (List ℕ)) (count n : ℕ) (least : ℤ) → FindsVolumes lines n least count (rows_from count n least lines)
 unfolding rows_from
 volumes_found lines zero n least = λ index within. absurd (omega arith)
@@ -173,6 +174,7 @@ by_number lines number index counted at =
           at.later before (index - 1) next (subst Q there is);
     }
 
+-- a line of a volume, counted from the first line, is that volume counted from the first volume
 pub by_index : (lines : List (List ℕ)) (number index : ℕ) → number ≡ index + 2 → IsVolumeLine lines number → IsVolumeAt lines 1 (pos 0) index
 by_index lines number index counted line =
     let here : number - 1 ≡ 1 + index = omega arith in

@@ -15,6 +15,7 @@ more_by : (count n : ℕ) (row : Listed) (lines : List (List ℕ)) → listed_of
 unfolding listed_front
 more_by count n row lines is_row = ap (λ r. listed_then r (listed_front count (n + 1) lines)) is_row
 
+-- where line `i` of the factors is a row, the rows from there on are this one and those after it
 one_row_more : (count first i : ℕ) (row : Listed) (lines : List (List ℕ)) → i < count → listed_of (line_at lines (first + i)) ≡ Some row →
     listed_front (count - i) (first + i) lines ≡ row ∷ listed_front (count - (i + 1)) (first + (i + 1)) lines
 one_row_more count first i row lines within is_row =
@@ -29,6 +30,7 @@ stop_by : (count n : ℕ) (lines : List (List ℕ)) → listed_of (line_at lines
 unfolding listed_front
 stop_by count n lines no_row = ap (λ r. listed_then r (listed_front count (n + 1) lines)) no_row
 
+-- where it is no row, there are no rows from there on
 no_row_here : (count first i : ℕ) (lines : List (List ℕ)) → i < count → listed_of (line_at lines (first + i)) ≡ None → listed_front (count - i) (first + i) lines ≡ []
 no_row_here count first i lines within no_row =
     let P : ℕ → Type 0 = λ left. listed_front left (first + i) lines ≡ [] in

@@ -13,6 +13,7 @@ use Rattle.calc_input.specs.Lines.{ended_lines, lines_of}
 lt_from : (n m : ℕ) → nat_lt n m ≡ true → n < m
 lt_from n m test = grind (arith, nat_tests)
 
+-- where the test of two numbers fails, the second is at most the first
 not_lt : (n m : ℕ) → nat_lt n m ≡ false → m ≤ n
 not_lt n m test = grind (arith, nat_tests)
 
@@ -21,6 +22,7 @@ found_within : (n m : ℕ) (b : Bool) (end : ℕ) → nat_lt n m ≡ b → cond 
 found_within n m true end test found = let same : n ≡ end = cc in (same, lt_from n m test)
 found_within n m false end test found = cc
 
+-- a place that is not taken as one below a bound is at the bound or beyond
 found_nowhere : (n m : ℕ) (b : Bool) → nat_lt n m ≡ b → cond b (Some n) None ≡ None → m ≤ n
 found_nowhere n m true test none = cc
 found_nowhere n m false test none = not_lt n m test

@@ -22,10 +22,12 @@ as_table_judged : (lines : List (List ℕ)) (answer : Result TableInput ℕ) →
 as_table_judged lines (Ok input) judged = judged
 as_table_judged lines (Err number) judged = judged
 
+-- so of the line of volumes
 as_volumes_judged : (lines : List (List ℕ)) (answer : Result Volumes ℕ) → Judges (IsDueInVolumes lines) answer → Judges (IsDueInVolumes lines) (as_volumes answer)
 as_volumes_judged lines (Ok volumes) judged = judged
 as_volumes_judged lines (Err number) judged = judged
 
+-- the form of lines is what they are judged as, of whichever kind they are
 form_judged : (lines : List (List ℕ)) → Judges (IsDueIn (begins_table lines) lines) (form_of lines)
 unfolding form_of
 form_judged lines = by (begins_table lines)
@@ -41,6 +43,7 @@ in_form_within bytes number short due =
     let P : List ℕ → Type 0 = λ front. IsDueIn (begins_table (lines_of front)) (lines_of front) number in
     record { within = λ over. absurd (omega (arith, over, short)); due = subst P (sym whole) due }
 
+-- a line of such an input that is in form is due there
 due_within : (bytes : List ℕ) (number : ℕ) → length bytes ≤ limit → IsInForm bytes number → IsDueIn (begins_table (lines_of bytes)) (lines_of bytes) number
 due_within bytes number short line =
     let whole : take limit bytes ≡ bytes = take_all limit bytes short in
@@ -52,10 +55,12 @@ abbrev pub SaysOfLines : List ℕ → Result Quantities Refused → Type 0
 SaysOfLines bytes (Ok figures) = AreInForm bytes
 SaysOfLines bytes (Err why) = IsRefusal bytes why.line why.cause
 
+-- figures, or a refusal of the calculation, say that every line is in form
 of_figures : (bytes : List ℕ) (line : ℕ) (answer : Result Quantities ChainRule) → AreInForm bytes → SaysOfLines bytes (figures_or_refused line answer)
 of_figures bytes line (Ok figures) due = due
 of_figures bytes line (Err rule) due = due
 
+-- a form says that every line is in form, and a fault that its line is the first that is not
 of_form : (bytes : List ℕ) → length bytes ≤ limit → (answer : Result Input ℕ) → Judges (IsDueIn (begins_table (lines_of bytes)) (lines_of bytes)) answer → SaysOfLines bytes (answer_of_form answer)
 of_form bytes short (Ok form) judged =
     of_figures bytes (last_line form) (figures_of_form form) (λ number from_one. in_form_within bytes number short (judged number from_one))
@@ -95,6 +100,7 @@ of_over bytes over (Err number) judged = by (nat_lt number (line_of_offset limit
           here = λ line. absurd (omega (arith, line.within over));
         })
 
+-- so says the answer of every input, also of one above the limit
 says_of_lines : (bytes : List ℕ) → SaysOfLines bytes (answer_of bytes)
 unfolding answer_of over_line
 says_of_lines bytes = by (nat_lt limit (length bytes)) refl

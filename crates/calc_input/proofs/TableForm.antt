@@ -173,6 +173,7 @@ rows_judged lines count is (Err number) found =
       here = λ due. found.4 (by_index lines number found.0 at (due.volume count is (omega arith) (omega (arith, found.1))));
     }
 
+-- the form of an input with a table is what its lines are judged as
 pub table_judged : (lines : List (List ℕ)) → Judges (IsDueInTable lines) (table_input_of lines)
 unfolding table_input_of
 table_judged lines = by (volume_count lines) refl

@@ -46,6 +46,7 @@ pub record AreCounts (lines : List (List ℕ)) (count many : ℕ) : Type 0 where
   pub volumes : volume_count lines ≡ Some count
   pub factors : factor_count count lines ≡ Some many
 
+-- an input has one count of volumes and one of factors
 same_counts : (lines : List (List ℕ)) (count many other others : ℕ) → AreCounts lines count many → volume_count lines ≡ Some other → factor_count other lines ≡ Some others →
     (count ≡ other) × (many ≡ others)
 same_counts lines count many other others counts is are =

@@ -29,6 +29,7 @@ unfolding rows_from
 more_by count n before row rows lines is_row =
     ap (λ r. onto rows (rows_then r n (λ next. rows_from count (n + 1) next lines))) is_row ∙ onto_more rows row (rows_from count (n + 1) row lines)
 
+-- where line `i` of the table is a row, the rows from there on are this one and those after it
 pub one_row_more : (count i : ℕ) (before row : ℤ) (rows : List ℤ) (lines : List (List ℕ)) → i < count → row_of before (line_at lines (i + 1)) ≡ Some row →
     onto rows (rows_from (count - i) (i + 1) before lines) ≡ onto (rows ++ row ∷ []) (rows_from (count - (i + 1)) (i + 1 + 1) row lines)
 one_row_more count i before row rows lines within is_row =
@@ -42,6 +43,7 @@ refused_by : (count n : ℕ) (before : ℤ) (rows : List ℤ) (lines : List (Lis
 unfolding rows_from
 refused_by count n before rows lines no_row = ap (λ r. onto rows (rows_then r n (λ next. rows_from count (n + 1) next lines))) no_row
 
+-- where it is no row, the fault is at this line
 pub no_row_here : (count i : ℕ) (before : ℤ) (rows : List ℤ) (lines : List (List ℕ)) → i < count → row_of before (line_at lines (i + 1)) ≡ None →
     onto rows (rows_from (count - i) (i + 1) before lines) ≡ Err (i + 1 + 1)
 no_row_here count i before rows lines within no_row =
@@ -62,14 +64,17 @@ pub record IsRowAfter (before row : ℤ) : Type 0 where
   pub inside : is_within (pos 0) MOST_LITRES row ≡ true
   pub risen : int_lt row before ≡ false
 
+-- a value that passed the test of a range is within it
 kept_if : (least most row value : ℤ) (b : Bool) → is_within least most value ≡ b → cond b (Some value) None ≡ Some row → is_within least most row ≡ true
 kept_if least most row value true test kept = let same : value ≡ row = cc in (subst (λ (v : ℤ). is_within least most v ≡ true) same test)
 kept_if least most row value false test kept = cc
 
+-- so is one that was found within a range
 kept_within : (least most row : ℤ) (value : Option ℤ) → within least most value ≡ Some row → is_within least most row ≡ true
 kept_within least most row None kept = cc
 kept_within least most row (Some value) kept = kept_if least most row value (is_within least most value) refl kept
 
+-- a volume is from 0 to the greatest number of litres
 volume_inside : (word : List ℕ) (row : ℤ) → volume_of word ≡ Some row → is_within (pos 0) MOST_LITRES row ≡ true
 unfolding volume_of
 volume_inside word row is =
@@ -81,10 +86,12 @@ in_words [] row is = cc
 in_words (word ∷ []) row is = volume_inside word row is
 in_words (word ∷ next ∷ words) row is = cc
 
+-- a value that passed the test against the one before is not below it
 not_fallen : (before row value : ℤ) (b : Bool) → int_lt value before ≡ b → cond b None (Some value) ≡ Some row → (value ≡ row) × (int_lt row before ≡ false)
 not_fallen before row value true test kept = cc
 not_fallen before row value false test kept = let same : value ≡ row = cc in (same, subst (λ (v : ℤ). int_lt v before ≡ false) same test)
 
+-- a volume that is not below the one before is a row after it
 from_volume : (before row : ℤ) (words : List (List ℕ)) (value : Option ℤ) → volume_in words ≡ value →
     option_and_then (λ v. if int_lt v before then None else Some v) value ≡ Some row → IsRowAfter before row
 from_volume before row words None is kept = cc
@@ -92,6 +99,7 @@ from_volume before row words (Some value) is kept =
     let risen = not_fallen before row value (int_lt value before) refl kept in
     record { inside = in_words words row (is ∙ ap Some risen.0); risen = risen.1 }
 
+-- a row that is read is a row after the one before it
 pub row_good : (before row : ℤ) (line : List ℕ) → row_of before line ≡ Some row → IsRowAfter before row
 unfolding row_of
 row_good before row line is = from_volume before row (words_of line) (volume_in (words_of line)) refl is
@@ -102,6 +110,7 @@ pub record AreRows (count : ℕ) (before : ℤ) (rows : List ℤ) : Type 0 where
   pub inside : (n : ℕ) → first_outside n rows ≡ None
   pub rising : (n : ℕ) → first_falling n before rows ≡ None
 
+-- a row, and then rows after it, are rows after the one before it
 rest_good : (count n : ℕ) (before : ℤ) (rows : List ℤ) (row : ℤ) → IsRowAfter before row → (others : Result (List ℤ) ℕ) →
     ((more : List ℤ) → others ≡ Ok more → AreRows count row more) → with_row row others ≡ Ok rows → AreRows (suc count) before rows
 rest_good count n before rows row good (Err line) known is = cc
@@ -118,6 +127,7 @@ rest_good count n before (first ∷ rest) row good (Ok more) known is =
     } in
     subst (λ (r : ℤ). P r rest) head (subst (λ (rs : List ℤ). P row rs) tail whole)
 
+-- rows that are read are such rows, where those after the first are
 first_good : (count n : ℕ) (before : ℤ) (lines : List (List ℕ)) (rows : List ℤ) (read : Option ℤ) → row_of before (line_at lines n) ≡ read →
     ((row : ℤ) (more : List ℤ) → rows_from count (n + 1) row lines ≡ Ok more → AreRows count row more) →
     rows_then read n (λ row. rows_from count (n + 1) row lines) ≡ Ok rows → AreRows (suc count) before rows
@@ -125,6 +135,7 @@ first_good count n before lines rows None read known is = cc
 first_good count n before lines rows (Some row) read known is =
     rest_good count n before rows row (row_good before row (line_at lines n) read) (rows_from count (n + 1) row lines) (known row) is
 
+-- rows that are read are such rows
 pub rows_good : (count n : ℕ) (before : ℤ) (lines : List (List ℕ)) (rows : List ℤ) → rows_from count n before lines ≡ Ok rows → AreRows count before rows
 unfolding rows_from
 rows_good zero n before lines [] is = record { all = refl; inside = λ _. refl; rising = λ _. refl }
@@ -137,13 +148,16 @@ falling_behind : (before row : ℤ) (rows : List ℤ) (b : Bool) → int_lt row 
 falling_behind before row rows true test none = cc
 falling_behind before row rows false test none = none
 
+-- rows of which none is below the one before it have no falling row
 falling_none : (before : ℤ) (rows : List ℤ) → ((n : ℕ) → first_falling n before rows ≡ None) → falling_row rows ≡ None
 falling_none before [] rising = refl
 falling_none before (row ∷ rows) rising = falling_behind before row rows (int_lt row before) refl (rising 0)
 
+-- from 2 to 5,001 rows are a right number
 length_right : (n : ℕ) → 2 ≤ n → n ≤ 5001 → wrong_length n ≡ None
 length_right n least most = grind (arith, nat_tests)
 
+-- rows that are read are a capacity table: they have no fault
 pub rows_are_table : (count : ℕ) (lines : List (List ℕ)) (rows : List ℤ) → 2 ≤ count → count ≤ 5001 → rows_from count 1 (pos 0) lines ≡ Ok rows → first_fault rows ≡ None
 unfolding first_fault
 rows_are_table count lines rows least most is =

@@ -15,6 +15,7 @@ volumes_due : (lines : List (List ℕ)) (number : ℕ) → IsSome (volumes_of (w
     (1 < number → is_blank_line (line_numbered lines number) ≡ true) → IsDueInVolumes lines number
 volumes_due lines number some blank = record { volumes = λ first. some; blank = blank }
 
+-- where the first line has the volumes, what comes after it is judged as what is due there
 volumes_ended : (lines : List (List ℕ)) (volumes : Volumes) → volumes_of (words_of (line_at lines 0)) ≡ Some volumes → Judges (IsDueInVolumes lines) (ended 1 lines volumes)
 volumes_ended lines volumes is = by (first_used (1 + 1) (drop 1 lines)) refl
   where
@@ -31,6 +32,7 @@ volumes_ended lines volumes is = by (first_used (1 + 1) (drop 1 lines)) refl
           here = λ due. not_blank (line_numbered lines number) used.here (due.blank used.late);
         }
 
+-- the form of a line of volumes is what the lines are judged as
 pub volumes_judged : (lines : List (List ℕ)) → Judges (IsDueInVolumes lines) (volumes_input_of lines)
 unfolding volumes_input_of
 volumes_judged lines = by (volumes_of (words_of (line_at lines 0))) refl

@@ -58,10 +58,12 @@ volumes_input_of lines = do
   volumes ← or_fault 1 (volumes_of (words_of (line_at lines 0)))
   ended 1 lines volumes
 
+-- The form of an input with a table, by what was read of it.
 abbrev pub as_table : Result TableInput ℕ → Result Input ℕ
 as_table (Ok input) = Ok (forms.Table input)
 as_table (Err number) = Err number
 
+-- The form of a line of volumes, by what was read of it.
 abbrev pub as_volumes : Result Volumes ℕ → Result Input ℕ
 as_volumes (Ok volumes) = Ok (forms.Observed volumes)
 as_volumes (Err number) = Err number

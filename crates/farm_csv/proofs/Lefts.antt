@@ -61,6 +61,7 @@ unfolding equal_lengths
 even_none None = refl
 even_none (Some size) = refl
 
+-- where no record follows, none is left, and none differs in length
 none_left_from : (s : State) (before : Option (List ℕ)) (y : List ℕ) (due : Option ℕ) → before ≡ Some y → next_record default_config s [] [] y ≡ None → (left_from s before ≡ []) × (have_length due (left_from s before) ≡ true)
 none_left_from s before y due unread none =
     let all = none_of s y none in
@@ -72,6 +73,7 @@ none_taken old new f reading read =
     none_left_from old.state (bytes_left old) reading.bytes old.expected reading.unread
     (rows-end (λ (text : Bor (List ℕ)). Some text.now) old new f default_config reading.bytes reading.rules reading.unread read)
 
+-- a read that found a record found the next one of the text
 next_of : (s : State) (y : List ℕ) (after : Option (List ℕ)) (fields : List (List ℕ)) (s2 : State) → ReadsNext default_config s (Some y) after true fields s2 →
     (p : Read) × (next_record default_config s [] [] y ≡ Some p) × (fields ≡ p.0)
 next_of s y None fields s2 h = absurd h

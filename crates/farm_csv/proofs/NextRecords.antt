@@ -14,24 +14,30 @@ use Rattle.std.specs.Prelude.{Option}
 abbrev Between : State × Action → Type 0
 Between next = is_end next.1 ≡ true → ends_at_end next.0 ≡ false
 
+-- so of a choice between two steps, where it is so of each
 between_either : (b : Bool) (one other : State × Action) → Between one → Between other → Between (if b then one else other)
 between_either true one other first second = first
 between_either false one other first second = second
 
+-- after the end of a record the end of the text ends no other
 after_end_between : (b : Bool) → ends_at_end (if b then st.AfterCr else st.StartRecord) ≡ false
 after_end_between true = refl
 after_end_between false = refl
 
+-- so of the steps in a field
 in_field_between : (c : ℕ) → Between (in_field default_config c)
 in_field_between c = between_either (c == 44) (st.StartField, act.EndField) _ (λ e. cc)
     (between_either (ends_with term.CRLF c) (after_end term.CRLF c, act.EndRecord) (st.InField, act.Copy) (λ e. after_end_between (c == 13)) (λ e. cc))
 
+-- so of the steps at the start of a field
 start_field_between : (c : ℕ) → Between (start_field default_config c)
 start_field_between c = between_either (c == 34) (st.InQuoted, act.Skip) (in_field default_config c) (λ e. cc) (in_field_between c)
 
+-- so of the steps at the start of a record
 start_record_between : (c : ℕ) → Between (start_record default_config c)
 start_record_between c = between_either (ends_with term.CRLF c) (st.StartRecord, act.Skip) (start_field default_config c) (λ e. cc) (start_field_between c)
 
+-- so of every step
 step_between : (s : State) (c : ℕ) → Between (step default_config s c)
 step_between st.StartRecord c = start_record_between c
 step_between st.StartField c = start_field_between c
@@ -79,6 +85,7 @@ pub none_at_end : (s : State) → ends_at_end s ≡ false → next_record defaul
 unfolding next_record
 none_at_end s calm = rw calm refl
 
+-- from a state that ends no record, an empty text has no records
 none_from : (n : ℕ) (s : State) → ends_at_end s ≡ false → records_from default_config n s [] ≡ []
 unfolding records_from
 none_from zero s calm = refl

@@ -28,6 +28,7 @@ pub record LeavesBytes (old new : List State) : Type 0 where
   pub reads : (present new).seen ≡ (present old).seen
   pub images : EachSince (Some old) (Some new) (IsCrashImage (present old))
 
+-- The same where the states are known; what was known stays known.
 abbrev pub WritesNothing : Option (List State) → Option (List State) → Type 0
 WritesNothing old None = Unit {0}
 WritesNothing None (Some new) = ⊥

@@ -55,6 +55,7 @@ second_wrong (Some leg) (Some closing) wrong = side_wrong leg closing wrong
 second_wrong (Some leg) None wrong = absurd wrong
 second_wrong None closing wrong = absurd wrong
 
+-- a second side that goes no wrong way passes its test
 second_right : (leg : Option Leg) (closing : Option Quantities) → (SecondGoesWrong leg closing → ⊥) → second_goes_wrong leg closing ≡ false
 second_right (Some leg) (Some closing) right = side_right leg closing right
 second_right (Some leg) None right = refl

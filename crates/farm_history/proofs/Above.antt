@@ -16,9 +16,11 @@ first_above-nil (most ∷ mosts) = refl
 at_lower : (most byte : ℕ) (mosts bytes : List ℕ) → byte < most → first_above (most ∷ mosts) (byte ∷ bytes) ≡ None
 at_lower most byte mosts bytes lower = rw (lt-ltb byte most lower) refl
 
+-- a byte that is the same as its greatest: the next one decides
 at_same : (most byte : ℕ) (mosts bytes : List ℕ) → byte ≡ most → first_above (most ∷ mosts) (byte ∷ bytes) ≡ first_above mosts bytes
 at_same most byte mosts bytes same = rw (le-ltb byte most (omega arith), eq-eqb byte most same) refl
 
+-- a byte above its greatest: it is the first above
 at_higher : (most byte : ℕ) (mosts bytes : List ℕ) → most < byte → first_above (most ∷ mosts) (byte ∷ bytes) ≡ Some (length (byte ∷ bytes))
 at_higher most byte mosts bytes higher = grind (arith, nat_tests)
 
@@ -121,7 +123,7 @@ above_found (most ∷ mosts) (byte ∷ bytes) left found =
       always = λ further. at_higher most byte mosts further higher;
     })
 
--- ---- the numbers of bytes
+-- The numbers of bytes.
 
 -- the number of bytes, high byte first
 pub value_of : List ℕ → ℕ

@@ -60,30 +60,37 @@ tag_and_fields Stop = refl
 abbrev pub IsOf : ℕ → Command → Type 0
 IsOf tag command = (tag_of command ≡ tag) × IsGoodCommand command
 
--- ---- gauge readings
+-- Gauge readings.
 
+-- the fields of a gauge reading: tank, level, water, temperature and ambient temperature
 abbrev GaugeRead : Type 0
 GaugeRead = ℕ × (ℤ × (ℤ × (ℤ × ℤ)))
 
+-- the gauge reading of its fields
 abbrev gauge_of : GaugeRead → Command
 gauge_of f = Gauge f.0 f.1.0 f.1.1.0 f.1.1.1.0 f.1.1.1.1
 
+-- each field is of its type
 abbrev FitsGauge : GaugeRead → Type 0
 FitsGauge f = (f.0 < 2 ^ 16) × (SFits w64 f.1.0 × (SFits w64 f.1.1.0 × (SFits w64 f.1.1.1.0 × SFits w64 f.1.1.1.1)))
 
+-- the fields of a gauge reading
 gauge_parts : Command → GaugeRead
 gauge_parts (Gauge tank level water temperature ambient) = (tank, (level, (water, (temperature, ambient))))
 gauge_parts command = (0, (pos 0, (pos 0, (pos 0, pos 0))))
 
+-- fields of their types make a gauge reading that can be written
 gauge_to : (f : GaugeRead) → FitsGauge f → IsOf 1 (gauge_of f)
 unfolding tag_of
 gauge_to f h = (refl, ((h.0, All-from_recursion (SFits w64) (f.1.0 ∷ f.1.1.0 ∷ f.1.1.1.0 ∷ f.1.1.1.1 ∷ []) (h.1.0, (h.1.1.0, (h.1.1.1.0, (h.1.1.1.1, tt))))), tt))
 
+-- a gauge reading is that of its fields
 gauge_back : (c : Command) → IsOf 1 c → gauge_of (gauge_parts c) ≡ c
 unfolding tag_of gauge_parts
 gauge_back (Gauge tank level water temperature ambient) h = refl
 gauge_back c h = absurd (omega (arith, h.0))
 
+-- the fields of a gauge reading are of their types
 gauge_fits : (c : Command) → IsOf 1 c → FitsGauge (gauge_parts c)
 unfolding tag_of gauge_parts
 gauge_fits (Gauge tank level water temperature ambient) h =
@@ -91,10 +98,12 @@ gauge_fits (Gauge tank level water temperature ambient) h =
     (h.1.0.0, (all.0, (all.1.0, (all.1.1.0, all.1.1.1.0))))
 gauge_fits c h = absurd (omega (arith, h.0))
 
+-- the bytes of a gauge reading are those of its fields, one after another
 gauge_same : (f : GaugeRead) → fields_bytes (gauge_of f) ≡ to_be_bytes w16 f.0 ++ (signed_bytes f.1.0 ++ (signed_bytes f.1.1.0 ++ (signed_bytes f.1.1.1.0 ++ signed_bytes f.1.1.1.1)))
 unfolding fields_bytes
 gauge_same f = refl
 
+-- the bytes of gauge readings are read exactly
 pub gauge_reader : IsReader (IsOf 1) fields_bytes gauge_at
 unfolding gauge_at
 gauge_reader =
@@ -103,14 +112,17 @@ gauge_reader =
     then_reader signed_reader (λ b hb. then_reader signed_reader (λ d hd. then_reader signed_reader (λ e he. signed_reader)))))
     (record { to = gauge_to; same = λ f h. gauge_same f; of = gauge_parts; back = gauge_back; of_fits = gauge_fits })
 
--- ---- dips
+-- Dips.
 
+-- the fields of a dip: tank, whether outages, tapes, water, temperatures and ambient temperature
 abbrev Dipped : Type 0
 Dipped = ℕ × (Bool × (Few × (Few × (Few × ℤ))))
 
+-- the dip of its fields
 abbrev dip_of : Dipped → Command
 dip_of f = Dip f.0 f.1.0 f.1.1.0 f.1.1.1.0 f.1.1.1.1.0 f.1.1.1.1.1
 
+-- each field is of its type
 abbrev FitsDip : Dipped → Type 0
 FitsDip f = (f.0 < 2 ^ 16) × (Unit {0} × (IsGoodList f.1.1.0 × (IsGoodList f.1.1.1.0 × (IsGoodList f.1.1.1.1.0 × SFits w64 f.1.1.1.1.1))))
 
@@ -118,6 +130,7 @@ FitsDip f = (f.0 < 2 ^ 16) × (Unit {0} × (IsGoodList f.1.1.0 × (IsGoodList f.
 no_list : Few
 no_list = record { count = 0; values = [] }
 
+-- the fields of a dip
 dip_parts : Command → Dipped
 dip_parts (Dip tank outage tapes water temperatures ambient) = (tank, (outage, (tapes, (water, (temperatures, ambient)))))
 dip_parts command = (0, (false, (no_list, (no_list, (no_list, pos 0)))))
@@ -126,9 +139,11 @@ dip_parts command = (0, (false, (no_list, (no_list, (no_list, pos 0)))))
 typed_list : (few : Few) → IsGoodList few → IsTypedList few
 typed_list few h = (h.1, All-from_recursion (SFits w64) few.values h.2)
 
+-- a list of its type that is short can be written
 good_list : (few : Few) → IsTypedList few → IsShortList few → IsGoodList few
 good_list few typed short = (short, typed.0, recursion_from_All (SFits w64) few.values typed.1)
 
+-- fields of their types make a dip that can be written
 dip_to : (f : Dipped) → FitsDip f → IsOf 2 (dip_of f)
 unfolding tag_of
 dip_to f h =
@@ -137,11 +152,13 @@ dip_to f h =
     let temperatures = h.1.1.1.1.0 in
     (refl, ((h.0, typed_list f.1.1.0 tapes, typed_list f.1.1.1.0 water, typed_list f.1.1.1.1.0 temperatures, h.1.1.1.1.1), (tapes.0, water.0, temperatures.0)))
 
+-- a dip is that of its fields
 dip_back : (c : Command) → IsOf 2 c → dip_of (dip_parts c) ≡ c
 unfolding tag_of dip_parts
 dip_back (Dip tank outage tapes water temperatures ambient) h = refl
 dip_back c h = absurd (omega (arith, h.0))
 
+-- the fields of a dip are of their types
 dip_fits : (c : Command) → IsOf 2 c → FitsDip (dip_parts c)
 unfolding tag_of dip_parts
 dip_fits (Dip tank outage tapes water temperatures ambient) h =
@@ -150,10 +167,12 @@ dip_fits (Dip tank outage tapes water temperatures ambient) h =
     (typed.0, (tt, (good_list tapes typed.1 short.0, (good_list water typed.2 short.1, (good_list temperatures typed.3 short.2, typed.4)))))
 dip_fits c h = absurd (omega (arith, h.0))
 
+-- the bytes of a dip are those of its fields, one after another
 dip_same : (f : Dipped) → fields_bytes (dip_of f) ≡ to_be_bytes w16 f.0 ++ ((kind_byte f.1.0 ∷ []) ++ (list_bytes f.1.1.0 ++ (list_bytes f.1.1.1.0 ++ (list_bytes f.1.1.1.1.0 ++ signed_bytes f.1.1.1.1.1))))
 unfolding fields_bytes
 dip_same f = refl
 
+-- the bytes of dips are read exactly
 pub dip_reader : IsReader (IsOf 2) fields_bytes dip_at
 unfolding dip_at
 dip_reader =
@@ -162,30 +181,37 @@ dip_reader =
     then_reader kind_reader (λ b hb. then_reader list_reader (λ d hd. then_reader list_reader (λ e he. then_reader list_reader (λ f hf. signed_reader))))))
     (record { to = dip_to; same = λ f h. dip_same f; of = dip_parts; back = dip_back; of_fits = dip_fits })
 
--- ---- samples
+-- Samples.
 
+-- the fields of a sample: tank, density, and sediment and water
 abbrev Sampled : Type 0
 Sampled = ℕ × (ℤ × ℤ)
 
+-- the sample of its fields
 abbrev sample_of : Sampled → Command
 sample_of f = Sample f.0 f.1.0 f.1.1
 
+-- each field is of its type
 abbrev FitsSample : Sampled → Type 0
 FitsSample f = (f.0 < 2 ^ 16) × (SFits w64 f.1.0 × SFits w64 f.1.1)
 
+-- the fields of a sample
 sample_parts : Command → Sampled
 sample_parts (Sample tank density sw) = (tank, (density, sw))
 sample_parts command = (0, (pos 0, pos 0))
 
+-- fields of their types make a sample that can be written
 sample_to : (f : Sampled) → FitsSample f → IsOf 3 (sample_of f)
 unfolding tag_of
 sample_to f h = (refl, ((h.0, All-from_recursion (SFits w64) (f.1.0 ∷ f.1.1 ∷ []) (h.1.0, (h.1.1, tt))), tt))
 
+-- a sample is that of its fields
 sample_back : (c : Command) → IsOf 3 c → sample_of (sample_parts c) ≡ c
 unfolding tag_of sample_parts
 sample_back (Sample tank density sw) h = refl
 sample_back c h = absurd (omega (arith, h.0))
 
+-- the fields of a sample are of their types
 sample_fits : (c : Command) → IsOf 3 c → FitsSample (sample_parts c)
 unfolding tag_of sample_parts
 sample_fits (Sample tank density sw) h =
@@ -193,10 +219,12 @@ sample_fits (Sample tank density sw) h =
     (h.1.0.0, (all.0, all.1.0))
 sample_fits c h = absurd (omega (arith, h.0))
 
+-- the bytes of a sample are those of its fields, one after another
 sample_same : (f : Sampled) → fields_bytes (sample_of f) ≡ to_be_bytes w16 f.0 ++ (signed_bytes f.1.0 ++ signed_bytes f.1.1)
 unfolding fields_bytes
 sample_same f = refl
 
+-- the bytes of samples are read exactly
 pub sample_reader : IsReader (IsOf 3) fields_bytes sample_at
 unfolding sample_at
 sample_reader =

@@ -18,18 +18,22 @@ use Rattle.farm_history.proofs.Readers.{IsBytes, IsBadFrom, IsReader, bind_err, 
 abbrev IsGood : Entry → Type 0
 IsGood entry = IsTyped entry × IsWellFormed entry
 
+-- the fields of an entry: caller, account, key, moment and command
 abbrev Parts : Type 0
 Parts = ℕ × (ℕ × (ℕ × (ℤ × Command)))
 
+-- each field is of its type
 abbrev FitsEntry : Parts → Type 0
 FitsEntry f = (f.0 < 2 ^ 32) × ((f.1.0 < 2 ^ 32) × ((f.1.1.0 < 2 ^ 64) × (IsMoment f.1.1.1.0 × IsGoodCommand f.1.1.1.1)))
 
+-- fields of their types make an entry that can be written
 entry_to : (f : Parts) → FitsEntry f → IsGood (entry_of f)
 entry_to f h =
     let moment = h.1.1.1.0 in
     let command = h.1.1.1.1 in
     (record { caller = h.0; account = h.1.0; key = h.1.1.0; moment = moment_fits f.1.1.1.0 moment; command = command.0 }, record { command = command.1; moment = moment })
 
+-- the bytes of an entry are those of its fields, one after another
 entry_same : (f : Parts) → entry_encoding (entry_of f) ≡ to_be_bytes w32 f.0 ++ (to_be_bytes w32 f.1.0 ++ (to_be_bytes w64 f.1.1.0 ++ (signed_bytes f.1.1.1.0 ++ command_bytes f.1.1.1.1)))
 unfolding entry_encoding
 entry_same f = refl
@@ -54,6 +58,7 @@ ended_ok : (b : Bool) (x y : Entry) (k : ℕ) → cond b (Ok x) (Err k) ≡ Ok y
 ended_ok true x y k e = (refl, cc)
 ended_ok false x y k e = absurd cc
 
+-- where something stands after an entry, that is what is reported
 ended_err : (b : Bool) (x : Entry) (k left : ℕ) → cond b (Ok x) (Err k) ≡ Err left → (b ≡ false) × (k ≡ left)
 ended_err true x k left e = absurd cc
 ended_err false x k left e = (refl, cc)
@@ -78,7 +83,7 @@ entry_only bytes entry typed well_formed encoded =
     ap entry_at (encoded ∙ sym (append-nil (entry_encoding entry))) ∙ entry_reader.again entry [] (typed, well_formed) in
     rw read refl
 
--- ---- the place
+-- The place.
 
 -- what has to hold for a front of bytes to end at the bad one
 record IsBadAfter (front back : List ℕ) : Type 0 where

@@ -45,11 +45,13 @@ first_and_others : List ℤ → ℤ × List ℤ
 first_and_others [] = (pos 0, [])
 first_and_others (number ∷ numbers) = (number, numbers)
 
+-- a list of numbers is its first one and the others
 one_and_others : (count : ℕ) (numbers : List ℤ) → IsCounted (suc count) numbers → (first_and_others numbers).0 ∷ (first_and_others numbers).1 ≡ numbers
 unfolding first_and_others
 one_and_others count [] h = absurd (omega (arith, h.0))
 one_and_others count (number ∷ numbers) h = refl
 
+-- the first number and the others are of their types
 others_fit : (count : ℕ) (numbers : List ℤ) → IsCounted (suc count) numbers → SFits w64 (first_and_others numbers).0 × IsCounted count (first_and_others numbers).1
 unfolding first_and_others
 others_fit count [] h = absurd (omega (arith, h.0))
@@ -118,10 +120,12 @@ kind_same zero h = refl
 kind_same (suc zero) h = refl
 kind_same (suc (suc kind)) h = absurd (omega (arith, leb-true (suc (suc kind)) 1 h))
 
+-- the byte of a kind gives it back
 kind_back : (outage : Bool) → (kind_byte outage == 1) ≡ outage
 kind_back false = refl
 kind_back true = refl
 
+-- the byte of a kind is at most 1
 kind_fits : (outage : Bool) → leb (kind_byte outage) 1 ≡ true
 kind_fits false = refl
 kind_fits true = refl

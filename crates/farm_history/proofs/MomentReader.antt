@@ -17,6 +17,7 @@ use Rattle.farm_history.proofs.Readers.{IsBytes, Takes, IsBadFrom, IsReader, mad
 abbrev last : ℕ
 last = 253000000000
 
+-- the bytes of the last moment
 abbrev last_bytes : List ℕ
 last_bytes = to_be_bytes w64 253000000000
 
@@ -25,6 +26,7 @@ byte_below : (i n : ℕ) → byte_at i n < 256
 byte_below zero n = omega arith
 byte_below (suc i) n = omega arith
 
+-- a byte and then bytes are bytes
 IsBytes-cons : (byte : ℕ) (bytes : List ℕ) → byte < 256 → IsBytes bytes → IsBytes (byte ∷ bytes)
 IsBytes-cons byte bytes first rest zero = first
 IsBytes-cons byte bytes first rest (suc i) = rest i
@@ -40,6 +42,7 @@ no_byte n le =
     le_none last_bytes (to_be_bytes w64 n) (IsBytes-number 8 last) refl
     (let small = value_of-to_be_bytes n (omega arith) in let most = value_of-to_be_bytes last (omega arith) in omega arith)
 
+-- eight bytes of which none is too great are a number that is at most the last moment
 at_most : (bytes : List ℕ) → IsBytes bytes → length bytes ≡ 8 → first_above last_bytes bytes ≡ None → from_be_bytes w64 bytes ≤ last
 at_most bytes fits len none =
     let le = none_le last_bytes bytes fits (sym len) none in
@@ -135,6 +138,7 @@ is_moment n le = rw (to_z_pos w64 n (omega arith)) (record { low = omega (arith,
 pub moment_fits : (z : ℤ) → IsMoment z → SFits w64 z
 moment_fits z h = omega (arith, ints, h.low, h.high)
 
+-- a moment, as a number without a sign, is at most the last one
 moment_of : (z : ℤ) → IsMoment z → cast_unsigned w64 z ≤ last
 moment_of (pos n) h = omega (arith, ints, h.high)
 moment_of (negsuc n) h = absurd (omega (arith, ints, h.low))

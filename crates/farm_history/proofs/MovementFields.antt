@@ -14,7 +14,7 @@ use Rattle.farm_history.proofs.PlanReaders.{gauged_reader, no_gauged, plan_reade
 use Rattle.farm_history.proofs.Readers.{IsReader, made_reader, then_reader}
 use Rattle.farm_history.proofs.SecondReader.{second_reader}
 
--- ---- Openings
+-- Openings.
 
 -- the plan of an Opening
 opening_parts : Command → Plan
@@ -49,7 +49,7 @@ unfolding opening_at
 opening_reader =
     made_reader plan_reader (record { to = opening_to; same = λ plan h. opening_same plan; of = opening_parts; back = opening_back; of_fits = opening_fits })
 
--- ---- Closings
+-- Closings.
 
 -- the fields of a Closing
 abbrev Closed : Type 0
@@ -97,7 +97,7 @@ closing_reader =
     made_reader (then_reader (number_reader w32 (2 ^ 32) wide32) (λ a ha. then_reader gauged_reader (λ b hb. second_reader)))
     (record { to = closing_to; same = λ f h. closing_same f; of = closing_parts; back = closing_back; of_fits = closing_fits })
 
--- ---- Settles
+-- Settles.
 
 -- the fields of a Settle
 abbrev Settled : Type 0
@@ -145,7 +145,7 @@ settle_reader =
     made_reader (then_reader (number_reader w16 (2 ^ 16) wide16) (λ a ha. gauged_reader))
     (record { to = settle_to; same = λ f h. settle_same f; of = settle_parts; back = settle_back; of_fits = settle_fits })
 
--- ---- Cancels and Reverses, whose one field is a place
+-- Cancels and Reverses, whose one field is a place.
 
 -- a Reverse of a place, or else a Cancel of it
 abbrev placed : Bool → ℕ → Command

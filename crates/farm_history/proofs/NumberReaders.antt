@@ -38,6 +38,7 @@ pub record IsWide (w : Width) (limit : ℕ) : Type 0 where
   pub below : (bytes : List ℕ) → IsBytes bytes → from_be_bytes w bytes < limit
   pub some : 0 < limit
 
+-- numbers of two bytes
 pub wide16 : IsWide w16 (2 ^ 16)
 wide16 = record {
   len = λ n. refl;
@@ -47,6 +48,7 @@ wide16 = record {
   some = omega arith;
 }
 
+-- numbers of four bytes
 pub wide32 : IsWide w32 (2 ^ 32)
 wide32 = record {
   len = λ n. refl;
@@ -56,6 +58,7 @@ wide32 = record {
   some = omega arith;
 }
 
+-- numbers of eight bytes
 pub wide64 : IsWide w64 (2 ^ 64)
 wide64 = record {
   len = λ n. refl;
@@ -74,6 +77,7 @@ guard_ok : {A : Type 0} (b : Bool) (x y : A) → cond b (no_bytes A) (Ok x) ≡ 
 guard_ok true x y e = absurd cc
 guard_ok false x y e = (refl, cc)
 
+-- a test that failed reports that nothing was read
 pub guard_err : {A : Type 0} (b : Bool) (x : A) (left : ℕ) → cond b (no_bytes A) (Ok x) ≡ Err left → (b ≡ true) × (left ≡ 0)
 guard_err true x left e = (refl, cc)
 guard_err false x left e = absurd cc
@@ -150,6 +154,7 @@ byte_ok : (b : Bool) (byte : ℕ) (bytes : List ℕ) (left : ℕ) (p : ℕ × Li
 byte_ok true byte bytes left p e = (refl, cc)
 byte_ok false byte bytes left p e = absurd cc
 
+-- a byte that was refused failed its test, and is where the refusal points
 byte_err : (b : Bool) (p : ℕ × List ℕ) (k left : ℕ) → cond b (Ok p) (Err k) ≡ Err left → (b ≡ false) × (k ≡ left)
 byte_err true p k left e = absurd cc
 byte_err false p k left e = (refl, cc)

@@ -25,7 +25,7 @@ gauged_reader =
       of_fits = λ gauged h. (h.0, h.1);
     })
 
--- ---- plans
+-- Plans.
 
 -- the way of a plan
 unfoldable way_of : Plan → ℕ

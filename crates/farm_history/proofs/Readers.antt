@@ -10,9 +10,11 @@ use Rattle.farm_history.specs.Decoding.{made_at, then_at}
 abbrev pub IsBytes : List ℕ → Type 0
 IsBytes bytes = (i : ℕ) → get_or bytes i 0 < 256
 
+-- bytes without those at their front are bytes
 pub IsBytes-drop : (n : ℕ) (bytes : List ℕ) → IsBytes bytes → IsBytes (drop n bytes)
 IsBytes-drop n bytes h i = rw get_or-drop (h (n + i))
 
+-- the bytes at the front of bytes are bytes
 pub IsBytes-take : (n : ℕ) (bytes : List ℕ) → IsBytes bytes → IsBytes (take n bytes)
 IsBytes-take n bytes h i =
     elim (cases_lt i n) [
@@ -58,6 +60,7 @@ pub record IsReader {A : Type 0} (fits : A → Type 0) (text : A → List ℕ) (
 abbrev read_as : {A : Type 0} → A → Result A ℕ
 read_as x = Ok x
 
+-- a read that stops with this many bytes left
 abbrev refused_at : (A : Type 0) → ℕ → Result A ℕ
 refused_at A left = Err left
 

@@ -13,22 +13,27 @@ use Rattle.site_items.specs.declared.records.Tank.{Tank}
 use Rattle.farm_history.specs.History.{History, tank_after}
 use Rattle.farm_history.specs.Postings.{opposite, postings_of}
 
+-- Whether a posting is that of a receipt.
 abbrev pub is_receipt : Kind → Bool
 is_receipt Receipt = true
 is_receipt kind = false
 
+-- Whether it is that of a delivery.
 abbrev pub is_delivery : Kind → Bool
 is_delivery Delivery = true
 is_delivery kind = false
 
+-- Whether it is that of the tank that a transfer leaves.
 abbrev pub is_transfer_out : Kind → Bool
 is_transfer_out TransferOut = true
 is_transfer_out kind = false
 
+-- Whether it is that of the tank that a transfer reaches.
 abbrev pub is_transfer_in : Kind → Bool
 is_transfer_in TransferIn = true
 is_transfer_in kind = false
 
+-- Whether it is a gain.
 abbrev pub is_gain : Kind → Bool
 is_gain Gain = true
 is_gain kind = false

@@ -147,14 +147,17 @@ is_refused_with test (Some (Err refusal)) = test refusal
 abbrev pub is_refused_on : (ChainRule → Bool) → History → Command → Bool
 is_refused_on test history command = list_any (λ pair. is_refused_with test (calculated_at history pair)) (named_by history command)
 
+-- Whether a calculation is refused since no factor is listed.
 abbrev pub is_no_entry : ChainRule → Bool
 is_no_entry refusals.NoEntry = true
 is_no_entry refusal = false
 
+-- Whether it is refused since the level is in the roof's critical zone.
 abbrev pub is_critical_zone : ChainRule → Bool
 is_critical_zone refusals.CriticalZone = true
 is_critical_zone refusal = false
 
+-- Whether it is refused since a volume is below zero.
 abbrev pub is_negative : ChainRule → Bool
 is_negative refusals.Negative = true
 is_negative refusal = false

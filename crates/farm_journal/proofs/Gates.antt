@@ -119,5 +119,6 @@ kept_images header bodies pending None kept = tt
 kept_images header bodies None (Some states) kept = λ image is. at_rest_image header bodies (present states) image kept is
 kept_images header bodies (Some body) (Some states) kept = λ image is. pending_image header bodies body (present states) image kept is
 
+-- so for every journal on a disk
 pub stands_on_each : {D : Type 0} (trace : D → Option (List State)) → StandsOnEach trace
 stands_on_each trace header bodies pending journal stands = kept_images header bodies pending (trace journal.disk) stands.kept

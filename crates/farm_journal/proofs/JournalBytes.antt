@@ -58,11 +58,13 @@ pub record Parts (header : List ℕ) (bodies : List (List ℕ)) (bytes : List �
   pub split : bytes ≡ counting header bodies ++ gate ∷ rest
   pub closed : gate ≢ 1
 
+-- what counts, and after it bytes that begin with no open gate, are those parts
 closed_parts : (header : List ℕ) (bodies : List (List ℕ)) (bytes back : List ℕ) →
     bytes ≡ counting header bodies ++ back → IsClosed back → Parts header bodies bytes
 closed_parts header bodies bytes [] split closed = absurd closed
 closed_parts header bodies bytes (gate ∷ rest) split closed = record { gate = gate; rest = rest; split = split; closed = closed }
 
+-- a journal's bytes have those parts
 pub parts_of : (header : List ℕ) (bodies : List (List ℕ)) (bytes : List ℕ) → IsJournalOf header bodies bytes → Parts header bodies bytes
 parts_of header bodies bytes is =
     let gate = length (counting header bodies) in

@@ -16,10 +16,12 @@ opening_begins : (header bytes : List ℕ) → IsOpening header bytes → bytes 
 unfolding opening signature
 opening_begins header bytes opening_is = opening_is.is ∙ ap (λ rest. 1 ∷ drop 1 rest) (sym opening_is.is)
 
+-- an opening has bytes after its gate
 some_rest : (header bytes : List ℕ) → IsOpening header bytes → 0 < length (drop 1 bytes)
 some_rest header bytes opening_is =
     omega (arith, ap length opening_is.is, ap length (opening_begins header bytes opening_is), length-append (opening header) (0 ∷ []), length-opening header)
 
+-- an opening is its open gate and the bytes after it
 is_split : (header bytes : List ℕ) → IsOpening header bytes → IsOpening header (1 ∷ drop 1 bytes)
 is_split header bytes opening_is = subst (IsOpening header) (opening_begins header bytes opening_is) opening_is
 

@@ -88,6 +88,7 @@ not_damaged_after accepts header other bodies others bytes is accepted damaged =
     (λ goes_on. not_damaged accepts other header others bodies bytes (sym both.0) goes_on damaged.damaged is.short_bodies accepted is.begins) longer)
     both.1
 
+-- a journal whose bodies are accepted is damaged at no place
 whole_not_damaged : (accepts : Accepts) (header : List ℕ) (bodies other : List (List ℕ)) (bytes : List ℕ) (place : ℕ) →
     IsJournalOf header bodies bytes → AreAccepted accepts (header ∷ bodies) → IsDamagedAt accepts other bytes place → ⊥
 whole_not_damaged accepts header bodies [] bytes place is accepted damaged =

@@ -46,6 +46,7 @@ put_bytes body made is =
     ap (λ made. take (length made - 1) (drop 1 made)) is
     ∙ take_all (length (1 ∷ (counted body ++ 0 ∷ [])) - 1) (counted body ++ 0 ∷ []) (omega arith)
 
+-- there are such bytes for every body
 some_bytes : (body : List ℕ) → 0 < length (counted body ++ 0 ∷ [])
 some_bytes body = omega (arith, length-append (counted body) (0 ∷ []))
 

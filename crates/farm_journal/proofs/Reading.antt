@@ -42,6 +42,7 @@ no_signature_seen (Some states) offset ahead start within shows other =
     no_signature ahead (present states).seen within
     (subst (λ offset. BeginsWith ahead (drop offset (present states).seen)) start shows) other
 
+-- where the bytes ahead begin with the signature, the disk has a journal
 pub has_signature_seen : (known : Option (List State)) (offset : ℕ) (ahead : List ℕ) → offset ≡ 0 → 13 ≤ length ahead →
     WhereLeft known offset (BeginsWith ahead) → true ≡ starts_with nat_eq ahead signature →
     WhereKnown known (λ states. IsNotJournal (present states).seen → ⊥)

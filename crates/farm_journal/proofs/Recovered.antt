@@ -41,6 +41,7 @@ at_rest_of header bodies state synced is =
       ranges = All-nil (λ (range : Range). length (counting header bodies) + 1 ≤ range.at);
     })
 
+-- so where the states are known, after all of a journal was taken from a disk on which all is synced
 kept_where : (accepts : Accepts) (header : List ℕ) (bodies : List (List ℕ)) (known : Option (List State)) (offset count : ℕ) →
     HasTakenAll accepts (header ∷ bodies) known offset count → IsAllSynced known →
     WhereKnown known (λ states. IsAtRest header bodies (present states))

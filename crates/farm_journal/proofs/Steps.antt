@@ -33,13 +33,16 @@ each_since old added P now all moment since within =
 abbrev IsStep : {T E : Type 0} → ℕ → List ℕ → State → Result T E → State → Type 0
 IsStep at bytes old result state = IsWriting at bytes old state ⊎ (IsOk result × (state ≡ synced (written at bytes old)))
 
+-- a write that has not begun is one of these
 writing_none : (at : ℕ) (bytes : List ℕ) (state : State) → IsWriting at bytes state state
 writing_none at bytes state = record { base = refl; seen = inl refl; ranges = inl refl }
 
+-- so is one that has begun
 writing_begun : (at : ℕ) (bytes : List ℕ) (state : State) → IsWriting at bytes state (begun at bytes state)
 writing_begun at [] state = record { base = refl; seen = inl refl; ranges = inr refl }
 writing_begun at (byte ∷ bytes) state = record { base = refl; seen = inl refl; ranges = inr refl }
 
+-- and one that is done
 writing_written : (at : ℕ) (bytes : List ℕ) (state : State) → IsWriting at bytes state (written at bytes state)
 writing_written at [] state = record { base = refl; seen = inr refl; ranges = inr refl }
 writing_written at (byte ∷ bytes) state = record { base = refl; seen = inr refl; ranges = inr refl }
@@ -108,6 +111,7 @@ write_failed at bytes (Some old) (Some new) result failed (inr stays) =
 abbrev within_write : ℕ → List ℕ → State → List State
 within_write at bytes state = begun at bytes state ∷ written at bytes state ∷ written at bytes state ∷ []
 
+-- each state within a write that succeeded is one as within a write
 all_within_write : (at : ℕ) (bytes : List ℕ) (state : State) → All (IsWriting at bytes state) (within_write at bytes state)
 all_within_write at bytes state =
     let P = IsWriting at bytes state in
@@ -152,6 +156,7 @@ sync_fails_step at bytes old mid new result failed wrote (inr same) =
     (two_step at bytes old (begun at bytes (present old)) (written at bytes (present old)) result failed
     (writing_begun at bytes (present old)) (writing_written at bytes (present old)))
 
+-- a write that succeeded, and then a sync that failed, leave what a write with its sync leaves where it fails
 pub sync_failed : {T E : Type 0} (at : ℕ) (bytes : List ℕ) (old mid new : Option (List State)) (result : Result T E) → IsErr result →
     AddsTwo (begun at bytes) (written at bytes) old mid → AddsTwo unchanged unchanged mid new ⊎ Stays mid new → WritesSynced at bytes old new result
 sync_failed at bytes old mid None result failed wrote adds = tt

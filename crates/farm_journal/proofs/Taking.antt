@@ -71,6 +71,7 @@ is_signature seen is_journal =
 none_split : (front back : List (List ℕ)) (bytes : List ℕ) → [] ≡ front ++ bytes ∷ back → ⊥
 none_split front back bytes split = omega (arith, ap length split, length-append front (bytes ∷ back))
 
+-- where the states are known, reads give the header that was taken
 header_where : (known : Option (List State)) (size : ℕ) (ahead : List ℕ) → IsCounted size ahead →
     WhereKnown known (λ states. IsNotJournal (present states).seen → ⊥) → WhereLeft known 9 (BeginsWith ahead) →
     WhereKnown known (λ states. BeginsWith (counting_of (take size (drop 4 ahead) ∷ [])) (present states).seen)

@@ -82,6 +82,7 @@ passed_shown offset count ahead seen within begins =
     ∙ ap (λ size. drop count (take size left)) whole
     ∙ ap (λ ahead. drop count ahead) begins
 
+-- so where the states are known
 passed_where : (known : Option (List State)) (offset count : ℕ) (ahead : List ℕ) → count ≤ length ahead →
     WhereLeft known offset (BeginsWith ahead) → WhereLeft known (offset + count) (BeginsWith (drop count ahead))
 passed_where None offset count ahead within shows = tt

@@ -20,6 +20,7 @@ pub record AddsSynced {T E : Type 0} (at : ℕ) (bytes : List ℕ) (old new : Li
       (λ done. present new ≡ synced (written at bytes (present old)))
       (λ fault. IsWriting at bytes (present old) (present new))
 
+-- The same where the states are known; what was known stays known.
 abbrev pub WritesSynced : {T E : Type 0} → ℕ → List ℕ → Option (List State) → Option (List State) → Result T E → Type 0
 WritesSynced at bytes old None result = Unit {0}
 WritesSynced at bytes None (Some new) result = ⊥

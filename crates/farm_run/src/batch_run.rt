@@ -34,7 +34,7 @@ pub(crate) fn batch<S: Source, K: Sink, D: Disk, C: Clock>(
         (S.stream input.old) (S.stream input.new) (count_of S.faults input.old input.new)
         (output_of K.held K.faults output.old output.new) result.status) }
     ensures handed_back { IsSome result.disk }
-    ensures later { IfSome result.disk (λ left. IsLater (D.trace disk) (D.trace left) (D.moment disk) (D.moment left) (count_of D.faults disk left)) }
+    ensures disk_later { IfSome result.disk (λ left. IsLater (D.trace disk) (D.trace left) (D.moment disk) (D.moment left) (count_of D.faults disk left)) }
     ensures input_never_falls { S.faults input.old ≤ S.faults input.new }
     ensures output_never_falls { K.faults output.old ≤ K.faults output.new }
 {
@@ -80,7 +80,7 @@ fn ask_lines<S: Source, K: Sink, D: Disk, C: Clock>(
         (count_of D.faults desk.disk.disk.value left) (S.stream input.old) (S.stream input.new) (count_of S.faults input.old input.new)
         (output_of K.held K.faults output.old output.new) result.status) }
     ensures handed_back { IsSome result.disk }
-    ensures later { IfSome result.disk (λ left. IsLater (D.trace desk.disk.disk.value) (D.trace left) (D.moment desk.disk.disk.value) (D.moment left)
+    ensures disk_later { IfSome result.disk (λ left. IsLater (D.trace desk.disk.disk.value) (D.trace left) (D.moment desk.disk.disk.value) (D.moment left)
         (count_of D.faults desk.disk.disk.value left)) }
     ensures input_never_falls { S.faults input.old ≤ S.faults input.new }
     ensures output_never_falls { K.faults output.old ≤ K.faults output.new }

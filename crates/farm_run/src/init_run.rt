@@ -32,7 +32,7 @@ pub(crate) fn init<K: Sink, F: Folder, D: Disk>(
     ensures init_run { IfSome result.disk (λ left. InitRun D.trace D.faults (F.files folder.new) (count_of F.faults folder.old folder.new)
         disk left (output_of K.held K.faults output.old output.new) result.status) }
     ensures handed_back { IsSome result.disk }
-    ensures later { IfSome result.disk (λ left. IsLater (D.trace disk) (D.trace left) (D.moment disk) (D.moment left) (count_of D.faults disk left)) }
+    ensures disk_later { IfSome result.disk (λ left. IsLater (D.trace disk) (D.trace left) (D.moment disk) (D.moment left) (count_of D.faults disk left)) }
     ensures files { Stays (F.files folder.old) (F.files folder.new) }
     ensures folder_never_falls { F.faults folder.old ≤ F.faults folder.new }
     ensures output_never_falls { K.faults output.old ≤ K.faults output.new }
@@ -56,7 +56,7 @@ fn create<K: Sink, D: Disk>(alloc: Global, site: Site, output: &mut K, disk: D) 
     ensures site_init { IfSome result.disk (λ left. SiteInit (described site) (D.trace disk) (D.trace left) (count_of D.faults disk left)
         (output_of K.held K.faults output.old output.new) result.status) }
     ensures handed_back { IsSome result.disk }
-    ensures later { IfSome result.disk (λ left. IsLater (D.trace disk) (D.trace left) (D.moment disk) (D.moment left) (count_of D.faults disk left)) }
+    ensures disk_later { IfSome result.disk (λ left. IsLater (D.trace disk) (D.trace left) (D.moment disk) (D.moment left) (count_of D.faults disk left)) }
     ensures never_falls { K.faults output.old ≤ K.faults output.new }
 {
     let disk = match on_heap(alloc, disk, output) {
@@ -92,7 +92,7 @@ fn report_folder<K: Sink, D: Disk>(output: &mut K, disk: D) -> Done<D>
     ensures reports { IfSome result.disk (λ left. FolderFailed (D.trace disk) (D.trace left) (count_of D.faults disk left)
         (output_of K.held K.faults output.old output.new) result.status) }
     ensures handed_back { IsSome result.disk }
-    ensures later { IfSome result.disk (λ left. IsLater (D.trace disk) (D.trace left) (D.moment disk) (D.moment left) (count_of D.faults disk left)) }
+    ensures disk_later { IfSome result.disk (λ left. IsLater (D.trace disk) (D.trace left) (D.moment disk) (D.moment left) (count_of D.faults disk left)) }
     ensures never_falls { K.faults output.old ≤ K.faults output.new }
 {
     let mut disk = disk;

@@ -31,6 +31,7 @@ All-mapped : {X Y : Type 0} (P : Y → Type 0) (h : X → Y) (xs : List X) → A
 All-mapped P h [] all = All-nil (λ x. P (h x))
 All-mapped P h (x ∷ xs) all = All-cons (λ x. P (h x)) x xs (All-head P (h x) (map h xs) all) (All-mapped P h xs (All-tail P (h x) (map h xs) all))
 
+-- what holds of some element still does with one more element before it
 any_more : {X : Type 0} (P : X → Type 0) (x : X) (xs : List X) → Any P xs → Any P (x ∷ xs)
 any_more P x xs h = (suc h.0, h.1, (let lt = h.2 in omega arith), h.3, h.4)
 

@@ -5,12 +5,15 @@ use Rattle.std.proofs.lemmas.Bool.Decides.{nat_tests}
 use Rattle.farm_turn.specs.declared.views.Known.{Known}
 use Rattle.farm_turn.specs.Views.{turns, number_is, owns, has, is_number, numbers_of, number_count, enrolled, without_least, split_off}
 
+-- a number is that of a pass with this number once
 pub number_is_self : (n : ℕ) → number_is n (Some n) ≡ 1
 number_is_self n = let t : (n == n) ≡ true = grind (arith, nat_tests) in rw t refl
 
+-- a number that is not that of a pass differs from the number which the pass has
 pub number_is-apart : (n : ℕ) (number : Option ℕ) → number_is n number ≡ 0 → (m : ℕ) → number ≡ Some m → n ≢ m
 number_is-apart n number e m is same = let h : number_is n (Some n) ≡ 0 = ap (number_is n) (ap Some same ∙ sym is) ∙ e in let one = number_is_self n in omega arith
 
+-- a pass has one number at most
 pub is_number-le : (x : ℕ) → is_number x ≤ 1
 is_number-le x = grind (arith, nat_tests)
 

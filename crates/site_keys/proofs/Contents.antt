@@ -7,9 +7,11 @@ use Rattle.site_keys.specs.declared.files.TheConstants.{LONGEST_FILE}
 use Rattle.site_keys.specs.Faults.{Faulty, fault_at}
 use Rattle.site_keys.specs.Files.{within_limit}
 
+-- the test of two numbers where the first is the smaller
 lt_is : (m n : ℕ) → m < n → nat_lt m n ≡ true
 lt_is m n below = grind (arith, nat_tests)
 
+-- the test of two numbers where it is not
 lt_isnt : (m n : ℕ) → n ≤ m → nat_lt m n ≡ false
 lt_isnt m n past = grind (arith, nat_tests)
 

@@ -76,6 +76,7 @@ abbrev pub rises_from : ℕ → List ℕ → Bool
 rises_from before [] = true
 rises_from before (n ∷ numbers) = nat_lt before n && rises_from n numbers
 
+-- Whether numbers rise, each greater than the one before it.
 abbrev pub rises : List ℕ → Bool
 rises [] = true
 rises (n ∷ numbers) = rises_from n numbers

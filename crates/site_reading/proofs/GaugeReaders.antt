@@ -16,7 +16,7 @@ use Rattle.site_reading.proofs.ListReaders.{AreListed, option_reader, short_list
 use Rattle.site_reading.proofs.NumberReaders.{byte_reader, byte_up_to_reader, number16_reader, number32_reader, signed16_reader, text_reader}
 use Rattle.site_reading.proofs.Readers.{made_reader, then_reader}
 
--- ---- fields
+-- Fields.
 
 -- the byte of two flags
 flags_byte : Bool × Bool → ℕ
@@ -39,6 +39,7 @@ flags_back false true = refl
 flags_back true false = refl
 flags_back true true = refl
 
+-- the byte of two flags is at most 3
 flags_fit : (swapped signed : Bool) → flags_byte (swapped, signed) ≤ 3
 unfolding flags_byte
 flags_fit false false = omega arith
@@ -62,6 +63,7 @@ flags_reader =
 abbrev pub FitsField : Field → Type 0
 FitsField field = (field.offset < 2 ^ 8) × ((field.words < 2 ^ 8) × (Unit {0} × ((field.mul < 2 ^ 32) × (field.div < 2 ^ 32))))
 
+-- the bytes of a field are those of its numbers and its flags, one after another
 field_same : (offset words : ℕ) (flags : Bool × Bool) (mul div : ℕ) →
     field_bytes (record { offset = offset; words = words; swapped = flags.0; signed = flags.1; mul = mul; div = div }) ≡
     (offset ∷ []) ++ ((words ∷ []) ++ ((flags_byte flags ∷ []) ++ (to_be_bytes w32 mul ++ to_be_bytes w32 div)))
@@ -99,7 +101,7 @@ valid_reader =
       of_fits = λ valid h. h;
     })
 
--- ---- gauges
+-- Gauges.
 
 -- the bytes of what is read of a device
 asked_bytes : Request → List ℕ
@@ -152,6 +154,7 @@ Parts = ℕ × (Request × (Fields × (ℤ × (Option Valid × (ℕ × ℕ)))))
 unfoldable pub request_of : GaugeMap → Request
 request_of gauge = record { unit = gauge.unit; function = gauge.function; start = gauge.start; quantity = gauge.quantity }
 
+-- the fields of a gauge
 unfoldable pub fields_of : GaugeMap → Fields
 fields_of gauge = record { level = gauge.level; temperature = gauge.temperature; water = gauge.water; ambient = gauge.ambient }
 
@@ -173,6 +176,7 @@ FitsGauge gauge = FitsParts (parts_of gauge)
 gauge_regroup : (a b c d e f g h i j : List ℕ) → a ++ b ++ c ++ d ++ e ++ f ++ g ++ h ++ i ++ j ≡ a ++ (b ++ ((c ++ (d ++ (e ++ f))) ++ (g ++ (h ++ (i ++ j)))))
 gauge_regroup a b c d e f g h i j = simp append_assoc
 
+-- the bytes of a gauge are those of its parts, one after another
 gauge_same : (f : Parts) → gauge_bytes (gauge_of f) ≡ to_be_bytes w16 f.0 ++ (asked_bytes f.1.0 ++ (fields_bytes f.1.1.0 ++ (signed_bytes w16 f.1.1.1.0 ++
     (option_bytes valid_bytes f.1.1.1.1.0 ++ (to_be_bytes w16 f.1.1.1.1.1.0 ++ to_be_bytes w16 f.1.1.1.1.1.1)))))
 unfolding gauge_bytes asked_bytes fields_bytes
@@ -195,12 +199,13 @@ gauge_reader =
       of_fits = λ gauge h. h;
     })
 
--- ---- lines
+-- Lines.
 
 -- the fields of a line are of their types
 abbrev pub FitsLine : LineMap → Type 0
 FitsLine line = (length line.host < 2 ^ 8) × ((line.port < 2 ^ 16) × AreListed FitsGauge (2 ^ 8) line.gauges)
 
+-- the bytes of a line are those of its host, its port and its gauges, one after another
 line_same : (host : List ℕ) (port : ℕ) (gauges : List GaugeMap) →
     line_bytes (record { host = host; port = port; gauges = gauges }) ≡ text_bytes host ++ (to_be_bytes w16 port ++ short_list_bytes gauge_bytes gauges)
 unfolding line_bytes

@@ -33,7 +33,7 @@ pub name_reader : IsReader (λ name. IsTrue (is_name name)) text_bytes name_at
 unfolding name_at
 name_reader = reader_as (tested_reader is_name text_reader) (λ name h. h.1) (λ name h. (omega (arith, name_length name h), h))
 
--- ---- the rounding table
+-- The rounding table.
 
 -- whether a quotient is rounded toward zero
 toward_zero : Mode → Bool
@@ -105,7 +105,7 @@ rounds_reader =
     (λ rows h. table_from_rows rows h.0.0 (none_bad (first_bad_row 1 rows) h.1))
     (λ rows h. ((h.twelve, steps_small rows h), rows_good rows h))
 
--- ---- the head
+-- The head.
 
 -- heads of sites
 pub head_reader : IsReader IsHead head_bytes head_at

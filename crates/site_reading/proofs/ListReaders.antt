@@ -101,7 +101,7 @@ list_reader {text = text} w limit wide reader =
     after_reader {key = length} {text_after = flat_map text} (number_reader w limit wide) (record { fits_key = λ xs h. h.0; parts = λ xs h. refl })
     (λ count small. listed_reader reader limit count small)
 
--- ---- things that may be missing
+-- Things that may be missing.
 
 -- whether a thing is there
 is_there : {A : Type 0} → Option A → Bool

@@ -42,10 +42,12 @@ flag_same zero h = refl
 flag_same (suc zero) h = refl
 flag_same (suc (suc byte)) h = absurd (omega (arith, h))
 
+-- the byte of a flag gives it back
 flag_back : (flag : Bool) → (flag_byte flag == 1) ≡ flag
 flag_back false = refl
 flag_back true = refl
 
+-- the byte of a flag is at most 1
 flag_fits : (flag : Bool) → flag_byte flag ≤ 1
 flag_fits false = omega arith
 flag_fits true = omega arith
@@ -69,6 +71,7 @@ pub record IsWide (w : Width) (limit : ℕ) : Type 0 where
   pub again : (n : ℕ) → n < limit → from_be_bytes w (to_be_bytes w n) ≡ n
   pub below : (bytes : List ℕ) → IsBytes bytes → from_be_bytes w bytes < limit
 
+-- numbers of two bytes
 pub wide16 : IsWide w16 (2 ^ 16)
 wide16 = record {
   len = λ n. refl;
@@ -77,6 +80,7 @@ wide16 = record {
   below = λ bytes fits. omega (arith, fits 0, fits 1);
 }
 
+-- numbers of four bytes
 pub wide32 : IsWide w32 (2 ^ 32)
 wide32 = record {
   len = λ n. refl;
@@ -85,6 +89,7 @@ wide32 = record {
   below = λ bytes fits. omega (arith, fits 0, fits 1, fits 2, fits 3);
 }
 
+-- numbers of eight bytes
 pub wide64 : IsWide w64 (2 ^ 64)
 wide64 = record {
   len = λ n. refl;
@@ -124,9 +129,11 @@ number_takes w limit wide bytes n rest fits e =
 pub number_reader : (w : Width) (limit : ℕ) → IsWide w limit → IsReader (λ n. n < limit) (to_be_bytes w) (number_at w)
 number_reader w limit wide = record { again = number_again w limit wide; takes = number_takes w limit wide }
 
+-- numbers of two bytes are read exactly
 pub number16_reader : IsReader (λ n. n < 2 ^ 16) (to_be_bytes w16) (number_at w16)
 number16_reader = number_reader w16 (2 ^ 16) wide16
 
+-- numbers of four bytes are read exactly
 pub number32_reader : IsReader (λ n. n < 2 ^ 32) (to_be_bytes w32) (number_at w32)
 number32_reader = number_reader w32 (2 ^ 32) wide32
 
@@ -171,7 +178,7 @@ signed64_reader =
       of_fits = λ z fits. omega (arith, ints);
     })
 
--- ---- quantities
+-- Quantities.
 
 -- what is read and lies in a range
 ranged_reader : {fits : ℤ → Type 0} {text : ℤ → List ℕ} {read : Reader ℤ} (least most : ℤ) → IsReader fits text read →
@@ -204,7 +211,7 @@ pub height_reader : IsReader (IsWithin (pos 0) (pos 50000)) (natural_bytes w16) 
 unfolding height_at
 height_reader = ranged_reader (pos 0) (pos 50000) (natural_reader w16 (2 ^ 16) wide16) (natural_within 0 50000 (2 ^ 16) (omega arith))
 
--- ---- texts
+-- Texts.
 
 -- this many bytes are read again
 bytes_again : (count : ℕ) (text rest : List ℕ) → length text ≡ count → bytes_at count (text ++ rest) ≡ Ok (text, rest)

@@ -27,7 +27,7 @@ use Rattle.site_reading.proofs.ListReaders.{AreCounted, AreListed, all_as, count
 use Rattle.site_reading.proofs.NumberReaders.{density_reader, factor_reader, number16_reader, temperature_reader, text_reader, wide16, wide32}
 use Rattle.site_reading.proofs.Readers.{made_reader, reader_as, tested_reader, then_reader}
 
--- ---- factors
+-- Factors.
 
 -- densities, temperatures and factors
 abbrev Lists : Type 0
@@ -37,9 +37,11 @@ Lists = (List ℤ × List ℤ) × List ℤ
 abbrev IsDensity : ℤ → Type 0
 IsDensity = IsWithin (pos 4000) (pos 12000)
 
+-- a temperature of a grid, in 0.01 C
 abbrev IsTemperature : ℤ → Type 0
 IsTemperature = IsWithin (negsuc 9999) (pos 30000)
 
+-- a factor of a grid, in 0.00001
 abbrev IsFactor : ℤ → Type 0
 IsFactor = IsWithin (pos 50000) (pos 150000)
 
@@ -52,6 +54,7 @@ FitsLists lists =
 abbrev FitsGrid : Grid → Type 0
 FitsGrid grid = FitsLists ((grid.densities, grid.temperatures), grid.factors)
 
+-- the bytes of a grid are those of its three lists, one after another
 lists_same : (lists : Lists) → grid_bytes (grid_from lists.0.0 lists.0.1 lists.1) ≡
     (list_bytes w32 (natural_bytes w16) lists.0.0 ++ list_bytes w32 (signed_bytes w16) lists.0.1) ++ flat_map (natural_bytes w32) lists.1
 unfolding grid_bytes
@@ -95,12 +98,13 @@ grid_reader =
     (λ grid h. record { is_grid = is_grid-true grid h.1; densities = h.0.0.0.1; temperatures = h.0.0.1.1; factors = h.0.1.1 })
     (λ grid h. (grid_fits grid h, is_grid-from grid h.is_grid))
 
--- ---- products
+-- Products.
 
 -- the fields of a product are of their types
 abbrev FitsProduct : Product → Type 0
 FitsProduct product = (product.number < 2 ^ 16) × ((length product.name < 2 ^ 8) × IsTypedGrid product.vcf)
 
+-- the bytes of a product are those of its number, its name and its grid, one after another
 product_same : (number : ℕ) (name : List ℕ) (grid : Grid) →
     product_bytes (record { number = number; name = name; vcf = grid }) ≡ to_be_bytes w16 number ++ (text_bytes name ++ grid_bytes grid)
 unfolding product_bytes
@@ -149,12 +153,13 @@ products_reader =
     let sound = numbered_sound product_number is_product products parts.1 in
     ((omega (arith, few), items_fit is_product IsTypedProduct FitsProduct products sound h.1 product_fits), h.0))
 
--- ---- parties
+-- Parties.
 
 -- the fields of a party are of their types
 abbrev FitsParty : Party → Type 0
 FitsParty party = (party.number < 2 ^ 16) × (length party.name < 2 ^ 8)
 
+-- the bytes of a party are those of its number and its name, one after another
 party_same : (number : ℕ) (name : List ℕ) → party_bytes (record { number = number; name = name }) ≡ to_be_bytes w16 number ++ text_bytes name
 unfolding party_bytes
 party_same number name = refl

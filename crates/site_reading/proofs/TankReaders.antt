@@ -39,12 +39,13 @@ use Rattle.site_reading.proofs.NumberReaders.{IsNatural, flag_reader, height_rea
 use Rattle.site_reading.proofs.ProductReaders.{items_fit, number_small, numbered_sound}
 use Rattle.site_reading.proofs.Readers.{made_reader, reader_as, tested_reader, then_reader}
 
--- ---- what is fixed of a tank
+-- What is fixed of a tank.
 
 -- the numbers of a shell are of their types
 abbrev FitsShell : Shell → Type 0
 FitsShell shell = Unit {0} × (IsNatural (2 ^ 16) shell.coefficient × IsWithin (negsuc 9999) (pos 30000) shell.reference)
 
+-- the bytes of a shell are those of its flag and its numbers, one after another
 shell_same : (insulated : Bool) (coefficient reference : ℤ) → shell_bytes (record { insulated = insulated; coefficient = coefficient; reference = reference }) ≡
     (flag_byte insulated ∷ []) ++ (natural_bytes w16 coefficient ++ signed_bytes w16 reference)
 unfolding shell_bytes
@@ -70,6 +71,7 @@ IsHeight = IsWithin (pos 0) (pos 50000)
 abbrev FitsRoof : Roof → Type 0
 FitsRoof roof = IsNatural (2 ^ 32) roof.mass × (IsHeight roof.low × IsHeight roof.high)
 
+-- the bytes of a roof are those of its numbers, one after another
 roof_same : (mass low high : ℤ) → roof_bytes (record { mass = mass; low = low; high = high }) ≡ natural_bytes w32 mass ++ (natural_bytes w16 low ++ natural_bytes w16 high)
 unfolding roof_bytes
 roof_same mass low high = refl
@@ -106,7 +108,7 @@ spec_reader =
       of_fits = λ spec h. h;
     })
 
--- ---- capacity tables and opening stocks
+-- Capacity tables and opening stocks.
 
 -- rows without a fault
 fault_none : (fault : Option TableFault) → have_none fault ≡ true → fault ≡ None
@@ -138,6 +140,7 @@ table_reader =
 abbrev FitsAmount : Amount → Type 0
 FitsAmount amount = FitsSigned w64 amount.litres × FitsSigned w64 amount.kg
 
+-- the bytes of a stock are those of its litres and its kilograms, one after another
 amount_same : (litres kg : ℤ) → amount_bytes (record { litres = litres; kg = kg }) ≡ signed_bytes w64 litres ++ signed_bytes w64 kg
 unfolding amount_bytes
 amount_same litres kg = refl
@@ -154,7 +157,7 @@ amount_reader =
       of_fits = λ amount h. h;
     })
 
--- ---- tanks
+-- Tanks.
 
 -- the fields of a tank are of their types
 abbrev FitsTank : Tank → Type 0
@@ -164,6 +167,7 @@ FitsTank tank = (tank.number < 2 ^ 16) × ((tank.product < 2 ^ 16) × (FitsSpec 
 tank_regroup : (a b c d e f g : List ℕ) → a ++ b ++ c ++ d ++ e ++ f ++ g ≡ a ++ (b ++ ((c ++ (d ++ e)) ++ (f ++ g)))
 tank_regroup a b c d e f g = simp append_assoc
 
+-- the bytes of a tank are those of its numbers, of what is fixed, of its table and of its stock, one after another
 tank_same : (number product : ℕ) (spec : TankSpec) (table : List ℤ) (opening : Amount) →
     tank_bytes (record { number = number; product = product; spec = spec; table = table; opening = opening }) ≡
     to_be_bytes w16 number ++ (to_be_bytes w16 product ++ (spec_bytes spec ++ (list_bytes w16 (natural_bytes w32) table ++ amount_bytes opening)))
@@ -187,7 +191,7 @@ tank_reader =
       of_fits = λ tank h. h;
     })
 
--- ---- what a site's tank has
+-- What a site's tank has.
 
 -- the number of one of some sound items is of two bytes
 pub among_small : {A : Type 0} (number : A → ℕ) (sound : A → Bool) (items : List A) (n : ℕ) → ((item : A) → sound item ≡ true → number item < 2 ^ 16) →

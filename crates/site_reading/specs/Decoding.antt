@@ -31,7 +31,7 @@ use Rattle.site_reading.specs.ByteReaders.{Reader, then_at, ◌▸◌, made_at, 
 use Rattle.site_reading.specs.declared.reading.gauges.Fields.{Fields}
 use Rattle.site_reading.specs.declared.reading.gauges.Request.{Request}
 
--- ---- the head
+-- The head.
 
 -- a name of the site, of a product or of a party
 unfoldable pub name_at : Reader (List ℕ)
@@ -59,7 +59,7 @@ rounds_at = tested_at (λ rows. are_good (first_bad_row 1 rows)) (counted_at rou
 unfoldable pub head_at : Reader (List ℕ × List Row)
 head_at = made_at (λ head. head.1) (tested_at (λ format. format == FORMAT) byte_at ▸ name_at ▸ rounds_at)
 
--- ---- products and parties
+-- Products and parties.
 
 -- a density
 unfoldable pub density_at : Reader ℤ
@@ -110,7 +110,7 @@ party_at = made_at (λ f. record { number = f.0; name = f.1 }) (number_at w16 �
 unfoldable pub parties_at : Reader (List Party)
 parties_at = tested_at are_parties (list_at w16 party_at)
 
--- ---- tanks
+-- Tanks.
 
 -- a height
 unfoldable pub height_at : Reader ℤ
@@ -151,7 +151,7 @@ tank_at =
 unfoldable pub tanks_at : List Product → Reader (List Tank)
 tanks_at products = tested_at (are_tanks (map product_number products)) (short_list_at tank_at)
 
--- ---- gauge lines
+-- Gauge lines.
 
 -- how the words of a field are read: whether they are swapped, and whether the number is signed
 unfoldable pub flags_at : Reader (Bool × Bool)

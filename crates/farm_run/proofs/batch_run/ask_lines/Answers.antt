@@ -26,8 +26,8 @@ returns-clause-desk_batch g c =
     }))
     c.requires.new.certain settled answers.output_never_falls c.report_end.ensures.never_falls c.report_end.ensures.reports)
 
-pub returns-clause-later : goal.returns-clause-later
-returns-clause-later g c =
+pub returns-clause-disk_later : goal.returns-clause-disk_later
+returns-clause-disk_later g c =
     let keeps = c.answer_lines-end.ensures.keeps in
     let finish = c.finish-disk.ensures in
     let before = c.args.desk.disk.disk.value in

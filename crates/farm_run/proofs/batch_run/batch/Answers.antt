@@ -9,14 +9,14 @@ pub returns-in-Err-clause-batch_run : goal.returns-in-Err-clause-batch_run
 returns-in-Err-clause-batch_run g c =
     rw c.in-Err.ensures.given_back (inl (not_asked _ _ _ _ _ _ c.in-Err.ensures.lacks_memory))
 
-pub returns-in-Ok-recover-clause-later : goal.returns-in-Ok-recover-clause-later
-returns-in-Ok-recover-clause-later g c =
+pub returns-in-Ok-recover-clause-disk_later : goal.returns-in-Ok-recover-clause-disk_later
+returns-in-Ok-recover-clause-disk_later g c =
     let said = c.in-Ok-recover.ensures in
     let start = c.in-Ok.disk.disk.value in
     let recovered = c.in-Ok-recover.desk.disk.disk.value in
     let first : IsLater (g.D.Disk.trace start) (g.D.Disk.trace recovered) (g.D.Disk.moment start) (g.D.Disk.moment recovered) (count_of g.D.Disk.faults start recovered) =
     record { extends = said.extends; moment_on = said.moment; never_falls = said.never_falls } in
-    rw (← c.in-Ok.ensures.moved) (handed_back _ _ _ (λ left later. later_more _ _ _ _ _ _ _ _ _ first later) c.ask_lines.ensures.later)
+    rw (← c.in-Ok.ensures.moved) (handed_back _ _ _ (λ left later. later_more _ _ _ _ _ _ _ _ _ first later) c.ask_lines.ensures.disk_later)
 
 pub returns-in-Err-recover-clause-batch_run : goal.returns-in-Err-recover-clause-batch_run
 returns-in-Err-recover-clause-batch_run g c =
