@@ -1,8 +1,8 @@
 -- What an input is answered, by its length and its form.
-use Rattle.std.proofs.Common.{◌≡◌, inl, inr, ℕ, suc, ◌+◌, ◌<◌, ◌≤◌, ◌==◌, ◌++◌, nat_lt, true, false, cond, count_by, length, length-append, List, Result, Ok, Err, sym, ap, ◌∙◌, arith}
-use Rattle.std.proofs.lemmas.Bool.Decides.{leb_tells}
+use Rattle.std.proofs.Common.{◌≡◌, ℕ, ◌+◌, ◌<◌, ◌≤◌, ◌==◌, ◌++◌, cond, count_by, length, length-append, List, Result, Ok, Err, sym, ap, ◌∙◌, arith}
 use Rattle.std.proofs.lemmas.List.{take-append-le}
 use Rattle.std.specs.Result.{IfOk}
+use Rattle.farm_base.proofs.BoolTests.{le-ltb, lt-ltb}
 use Rattle.farm_fixed.specs.declared.records.Quantities.{Quantities}
 use Rattle.calc_input.specs.declared.forms.Input.{Input}
 use Rattle.calc_input.specs.declared.refusal.Cause.TheVariants.{Form}
@@ -11,15 +11,11 @@ use Rattle.calc_input.specs.Lines.{lines_of}
 use Rattle.calc_input.specs.Forms.{form_of}
 use Rattle.calc_input.specs.Answer.{FrontDecides, answer_of, answer_of_form, earlier_line, figures_of_form, figures_or_refused, last_line, limit, over_line, refused_at}
 
--- an input up to the limit isn't over it
-isnt_over : (n m : ℕ) → m ≤ n → nat_lt n m ≡ false
-isnt_over n m short = elim (leb_tells (suc n) m) [ inl t ↦ absurd (omega (arith, t.1)) | inr t ↦ t.0 ]
-
 -- an input up to the limit is answered by its form
 pub answered_by_form : (bytes : List ℕ) → length bytes ≤ limit → answer_of bytes ≡ answer_of_form (form_of (lines_of bytes))
 unfolding answer_of
 answered_by_form bytes short =
-    ap (λ b. cond b (Err (refused_at (over_line bytes) Form)) (answer_of_form (form_of (lines_of bytes)))) (isnt_over limit (length bytes) short)
+    ap (λ b. cond b (Err (refused_at (over_line bytes) Form)) (answer_of_form (form_of (lines_of bytes)))) (le-ltb limit (length bytes) short)
 
 -- and by its figures, once its form is known
 pub answered_by_figures : (bytes : List ℕ) (input : Input) → length bytes ≤ limit → form_of (lines_of bytes) ≡ Ok input →
@@ -32,15 +28,11 @@ pub figures_along : {E : Type 0} (result : Result Quantities E) (mine other : Re
 figures_along (Ok figures) mine other same known = same ∙ known
 figures_along (Err e) mine other same known = tt
 
--- an input over the limit is over it
-is_over : (n m : ℕ) → n < m → nat_lt n m ≡ true
-is_over n m over = elim (leb_tells (suc n) m) [ inl t ↦ t.0 | inr t ↦ absurd (omega (arith, t.1)) ]
-
--- and it is refused for its form, whatever comes after it
+-- an input over the limit is refused for its form, whatever comes after it
 refused_over : (bytes : List ℕ) → limit < length bytes → answer_of bytes ≡ Err (refused_at (over_line bytes) Form)
 unfolding answer_of
 refused_over bytes over =
-    ap (λ b. cond b (Err (refused_at (over_line bytes) Form)) (answer_of_form (form_of (lines_of bytes)))) (is_over limit (length bytes) over)
+    ap (λ b. cond b (Err (refused_at (over_line bytes) Form)) (answer_of_form (form_of (lines_of bytes)))) (lt-ltb limit (length bytes) over)
 
 -- at a line that the bytes up to the limit alone decide
 same_line_over : (front rest : List ℕ) → limit ≤ length front → over_line (front ++ rest) ≡ over_line front

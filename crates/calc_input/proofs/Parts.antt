@@ -3,29 +3,21 @@ use Rattle.std.proofs.Common.{◌≡◌, ℕ, ◌+◌, ◌==◌, Bool, true, fal
 use Rattle.std.proofs.lemmas.List.{take_all}
 use Rattle.std.proofs.lemmas.List.Splits.{length-slice_split, slice_split_first, slice_split_none}
 use Rattle.std.proofs.lemmas.List.Sums.{count_by-le-length, fails_before_first}
-use Rattle.std.proofs.lemmas.Bool.Decides.{nat_tests}
 use Rattle.std.specs.List.{position, position_or_len}
 use Rattle.std.specs.Str.Lines.{strip_carriage_return}
+use Rattle.farm_base.proofs.BoolTests.{ltb-false, ltb-true}
 use Rattle.farm_base.specs.Bytes.{parts_at}
 use Rattle.calc_input.specs.Lines.{ended_lines, lines_of}
 
--- what the tests of two numbers say
-lt_from : (n m : ℕ) → nat_lt n m ≡ true → n < m
-lt_from n m test = grind (arith, nat_tests)
-
--- where the test of two numbers fails, the second is at most the first
-not_lt : (n m : ℕ) → nat_lt n m ≡ false → m ≤ n
-not_lt n m test = grind (arith, nat_tests)
-
 -- the first line feed is within, where there is one
 found_within : (n m : ℕ) (b : Bool) (end : ℕ) → nat_lt n m ≡ b → cond b (Some n) None ≡ Some end → (n ≡ end) × (n < m)
-found_within n m true end test found = let same : n ≡ end = cc in (same, lt_from n m test)
+found_within n m true end test found = let same : n ≡ end = cc in (same, ltb-true n m test)
 found_within n m false end test found = cc
 
 -- a place that is not taken as one below a bound is at the bound or beyond
 found_nowhere : (n m : ℕ) (b : Bool) → nat_lt n m ≡ b → cond b (Some n) None ≡ None → m ≤ n
 found_nowhere n m true test none = cc
-found_nowhere n m false test none = not_lt n m test
+found_nowhere n m false test none = ltb-false n m test
 
 -- a text with a separator
 pub parts_split : (separator : ℕ) (bytes : List ℕ) (end : ℕ) → position (λ byte. byte == separator) bytes ≡ Some end →

@@ -1,9 +1,9 @@
 -- The numbers of a list's items, read one after another into eight places.
-use Rattle.std.proofs.Common.{◌≡◌, ℕ, ◌+◌, ◌-◌, ◌<◌, ◌≤◌, nat_lt, true, false, List, [], ◌∷◌, ◌++◌, length, map, take, drop, get_or, replicate, Option, Some, None, option_and_then, option_map, refl, sym, ap, ◌∙◌, add-one, append_assoc, drop-cons, arith, ℤ, pos}
+use Rattle.std.proofs.Common.{◌≡◌, ℕ, ◌+◌, ◌-◌, ◌<◌, ◌≤◌, List, [], ◌∷◌, ◌++◌, length, map, take, drop, get_or, replicate, Option, Some, None, option_and_then, option_map, refl, sym, ap, ◌∙◌, add-one, append_assoc, drop-cons, arith, ℤ, pos}
 use Rattle.std.proofs.Math.ListN.{set, get_or-map}
 use Rattle.std.proofs.Math.Seq.{drop-length}
-use Rattle.std.proofs.lemmas.Bool.Decides.{nat_tests}
 use Rattle.std.proofs.lemmas.List.{append-nil, drop-replicate, drop-set-lt, length-set, length-take-le, take-append-drop, take_more_set}
+use Rattle.farm_base.proofs.BoolTests.{le-ltb, lt-ltb}
 use Rattle.serde_json.specs.Data.{Data}
 use Rattle.serde_json.specs.View.{items_of, view}
 use Rattle.serde_json.specs.declared.value.Value.{Value}
@@ -76,17 +76,9 @@ filled_next items n values value x filled within few found is =
           ∙ ap (λ (f : List ℤ). option_map (λ rest. f ++ rest) (wholes_of (items_of (drop (n + 1) items)))) (sym front);
     }
 
--- at most eight is not more than eight
-not_many : (n : ℕ) → n ≤ 8 → nat_lt 8 n ≡ false
-not_many n few = grind (arith, nat_tests)
-
--- more than eight
-many : (n : ℕ) → 8 < n → nat_lt 8 n ≡ true
-many n long = grind (arith, nat_tests)
-
 -- the short list of this many numbers
 few_from : (numbers : List ℤ) (n : ℕ) (values : List ℤ) → length numbers ≡ n → n ≤ 8 → numbers ++ replicate (8 - n) (pos 0) ≡ values → few_of numbers ≡ Some (record { count = n; values = values })
-few_from numbers n values size few whole = rw (size, not_many n few, whole) refl
+few_from numbers n values size few whole = rw (size, le-ltb 8 n few, whole) refl
 
 -- the numbers in front and the zeros after them are all
 all_of : (items : List Data) (n : ℕ) (values : List ℤ) → IsFilled items n values → take n values ++ replicate (8 - n) (pos 0) ≡ values
@@ -140,7 +132,7 @@ refused : (read : Option (List ℤ)) (n : ℕ) → ((numbers : List ℤ) → rea
 refused None n sizes long = refl
 refused (Some numbers) n sizes long =
     let size : length numbers ≡ n = sizes numbers refl in
-    rw (size, many n long) refl
+    rw (size, lt-ltb 8 n long) refl
 
 -- nor are more than eight items
 pub too_many : (items : List Data) → 8 < length items → few_of_items (items_of items) ≡ None
