@@ -1,9 +1,3 @@
-pub mod Decoded
-pub mod Acceptance
-pub mod OneHistory
-pub mod NotRefused
-pub mod Refusing
-pub mod Judging
 pub mod Made
 pub mod Durable
 pub mod Counting

@@ -9,12 +9,14 @@ use Rattle.farm_history.specs.History.{History, empty_history, last_place}
 use Rattle.farm_history.proofs.Legal.{empty_is_legal}
 use Rattle.farm_journal.specs.Creating.{IsCrashSafe as IsJournalCrashSafe, IsNoneOrEmpty as IsNoneOrEmptyJournal}
 use Rattle.farm_journal.specs.Layout.{IsJournalOf}
-use Rattle.farm_journal.specs.Recovery.{IsRecovered}
+use Rattle.farm_journal.specs.declared.faults.RecoverFault.{RecoverFault}
+use Rattle.farm_journal.specs.Recovery.{IsRecovered, IsRefusal}
 use Rattle.farm_journal.specs.Standing.{IsAnImage, JournalState, Stands, StandsOf}
 use Rattle.farm_journal.proofs.Gates.{stands_on_each}
 use Rattle.farm_site.specs.Described.{Described}
 use Rattle.farm_site.specs.Encoding.{IsSite, site_encoding}
-use Rattle.farm_desk.specs.Accepting.{accepted_next, taken_of}
+use Rattle.farm_recovery.specs.Accepting.{accepted_next, taken_of}
+use Rattle.farm_recovery.specs.Recovery.{IsRefused}
 use Rattle.farm_desk.specs.Asking.{IsCrashSafe, IsNoneOrEmpty}
 use Rattle.farm_records.specs.Histories.{IsRecordable, Recovers, RecoversFront, entry_encodings}
 use Rattle.farm_records.specs.Moments.{EachFrom}
@@ -90,3 +92,11 @@ crash_safe limit site header old new header_is sound safe = λ short.
 pub untouched_safe : (limit : ℕ) (site : Described) (trace : Option (List State)) → IsCrashSafe limit site trace trace
 untouched_safe limit site trace = λ short.
     since_now (IsNoneOrEmpty limit site) trace (now_weaker (λ image. length image < 13) (IsNoneOrEmpty limit site) trace (λ image few. inl (inl few)) short)
+
+-- where the bytes are known, a refusal of the journal is one of recovery
+pub where_refused : (limit : ℕ) (recovered : Option History) (known : Option (List State)) (fault : RecoverFault) →
+    ((bytes : List ℕ) (fault : RecoverFault) → IsRefusal (accepted_next limit) (taken_of recovered) bytes fault → IsRefused limit bytes fault) →
+    WhereKnown known (λ states. IsRefusal (accepted_next limit) (taken_of recovered) (present states).seen fault) →
+    WhereKnown known (λ states. IsRefused limit (present states).seen fault)
+where_refused limit recovered None fault means refused = tt
+where_refused limit recovered (Some states) fault means refused = means (present states).seen fault refused

@@ -5,13 +5,10 @@
 #![tactic(auto)]
 
 mod desk;
-mod desk_laws;
 mod making;
 mod opened;
-mod recovering;
 
 pub use desk::Desk;
-pub use desk_laws::laws;
 pub use farm_journal::{CreateFault, RecoverFault};
 pub use farm_records::Answer;
 pub use opened::Opened;

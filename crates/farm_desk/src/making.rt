@@ -12,17 +12,17 @@ ghost use Rattle.farm_site.specs.Encoding.{IsSite, site_encoding};
 ghost use Rattle.farm_site.specs.Sites.{described};
 ghost use Rattle.farm_desk.specs.Asking.{IsCrashSafe};
 ghost use Rattle.farm_records.specs.Histories.{Recovers};
-ghost use Rattle.farm_desk.specs.Recovery.{IsRefused};
+ghost use Rattle.farm_recovery.specs.Recovery.{IsRefused};
 ghost use Rattle.farm_desk.specs.States.{IsDurable, IsNew, disk_left};
 ghost use Rattle.farm_journal.specs.declared.limits.TheConstants.{MAX_BODY};
 
 use crate::Desk;
-use crate::recovering::Recovering;
 use farm_base::NoMemory;
 use farm_book::Book;
 use farm_disk::Disk;
 use farm_history::MOST_ENTRY_BYTES;
 use farm_journal::{CreateFault, Journal, RecoverFault};
+use farm_recovery::Recovering;
 use farm_site::Site;
 use std::alloc::Global;
 

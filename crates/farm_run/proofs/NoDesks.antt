@@ -3,8 +3,8 @@ use Rattle.std.proofs.Common.{◌≡◌, ◌≢◌, inl, inr, ℕ, List, [], Opt
 use Rattle.farm_base.specs.Counts.{Count, HasRisen, IsQuiet}
 use Rattle.farm_base.specs.Known.{Stays, Stream, WhereKnown}
 use Rattle.farm_records.specs.Histories.{Recovers}
-use Rattle.farm_desk.specs.Laws.{RecoveredIsNotRefused}
-use Rattle.farm_desk.specs.Recovery.{IsRefused}
+use Rattle.farm_recovery.specs.Laws.{RecoveredIsNotRefused}
+use Rattle.farm_recovery.specs.Recovery.{IsRefused}
 use Rattle.farm_disk.specs.Images.{State, present}
 use Rattle.farm_disk.specs.Runs.{WritesNothing}
 use Rattle.farm_history.specs.History.{History}

@@ -10,7 +10,7 @@ use Rattle.farm_batch.specs.Batches.{AskedAll, Asks, GoesOn, IsTooMuch, lines_of
 use Rattle.farm_batch.specs.Outcomes.{Outcome, WereAnswered, outcome}
 use Rattle.farm_records.specs.Histories.{Recovers, RecoversFront, RecoversNow, certain}
 use Rattle.farm_records.specs.Moments.{EachFrom}
-use Rattle.farm_desk.specs.Recovery.{IsDamagedAt}
+use Rattle.farm_recovery.specs.Recovery.{IsDamagedAt}
 use Rattle.farm_disk.specs.Images.{State, present}
 use Rattle.farm_disk.specs.Runs.{EachNow, WritesNothing}
 use Rattle.farm_history.specs.History.{History, last_place}

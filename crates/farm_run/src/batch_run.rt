@@ -38,7 +38,7 @@ pub(crate) fn batch<S: Source, K: Sink, D: Disk, C: Clock>(
     ensures input_never_falls { S.faults input.old ≤ S.faults input.new }
     ensures output_never_falls { K.faults output.old ≤ K.faults output.new }
 {
-    farm_desk::laws();
+    farm_recovery::laws();
     let disk = match on_heap(alloc, disk, output) {
         Ok(disk) => disk,
         Err(done) => return done,

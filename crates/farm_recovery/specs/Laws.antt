@@ -3,7 +3,7 @@ use Rattle.std.specs.Prelude.{◌≡◌, ℕ, List}
 use Rattle.farm_history.specs.History.{History}
 use Rattle.farm_journal.specs.Recovery.{IsNotJournal}
 use Rattle.farm_records.specs.Histories.{Recovers}
-use Rattle.farm_desk.specs.Recovery.{IsDamagedAt}
+use Rattle.farm_recovery.specs.Recovery.{IsDamagedAt}
 
 -- bytes stand for one history at most
 abbrev pub OneHistory : Type 0

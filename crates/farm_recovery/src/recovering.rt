@@ -5,9 +5,9 @@ ghost use Rattle.farm_history.specs.History.{last_place};
 ghost use Rattle.farm_history.specs.declared.limits.TheConstants.{GREATEST_LIMIT, STOPS_BEYOND_LIMIT};
 ghost use Rattle.farm_journal.specs.Recovery.{IsJudged, IsRefusal, TakesNext};
 ghost use Rattle.farm_journal.specs.declared.faults.RecoverFault.{RecoverFault};
-ghost use Rattle.farm_desk.specs.Accepting.{accepted_next, taken_of};
+ghost use Rattle.farm_recovery.specs.Accepting.{accepted_next, taken_of};
 ghost use Rattle.farm_records.specs.Histories.{IsRecordable};
-ghost use Rattle.farm_desk.specs.Recovery.{IsRefused};
+ghost use Rattle.farm_recovery.specs.Recovery.{IsRefused};
 
 use farm_book::{Book, EnterFault};
 use farm_journal::{Taken, Taker};
@@ -18,7 +18,7 @@ use std::marker::Model;
 
 /// The book that a journal's header and bodies have made so far, none before the header.
 #[derive(Drop)]
-pub(crate) struct Recovering<const LIMIT: usize> {
+pub struct Recovering<const LIMIT: usize> {
     alloc: Global,
     book: Option<Book<LIMIT>>,
 }

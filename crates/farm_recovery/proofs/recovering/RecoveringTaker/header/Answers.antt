@@ -2,9 +2,9 @@ use Rattle.std.proofs.Common.{arith}
 use Rattle.site_reading.specs.Readers.{IsBytes}
 use Rattle.farm_site.specs.Sites.{described}
 use Rattle.farm_site.proofs.BytesRead.{PartsAreRead}
-use Rattle.farm_desk.specs.Accepting.{taken_of}
-use Rattle.farm_desk.proofs.Judging.{header_accepted, header_refused}
-use Rattle.farm_desk.proofs.recovering.RecoveringTaker.header.Goals as goal
+use Rattle.farm_recovery.specs.Accepting.{taken_of}
+use Rattle.farm_recovery.proofs.Judging.{header_accepted, header_refused}
+use Rattle.farm_recovery.proofs.recovering.RecoveringTaker.header.Goals as goal
 
 pub returns-in-Ok-new-clause-judged : goal.returns-in-Ok-new-clause-judged
 returns-in-Ok-new-clause-judged g c =

@@ -1,8 +1,8 @@
 use Rattle.farm_site.proofs.BytesRead.{PartsAreRead}
 use Rattle.farm_records.specs.Histories.{IsRecordable}
-use Rattle.farm_desk.proofs.Judging.{of_history}
-use Rattle.farm_desk.proofs.Refusing.{refused_as}
-use Rattle.farm_desk.proofs.recovering.Recovering.refusals.Goals as goal
+use Rattle.farm_recovery.proofs.Judging.{of_history}
+use Rattle.farm_recovery.proofs.Refusing.{refused_as}
+use Rattle.farm_recovery.proofs.recovering.Recovering.refusals.Goals as goal
 
 pub returns : goal.returns
 returns g c =

@@ -12,13 +12,13 @@ use Rattle.farm_journal.specs.Recovery.{Accepts, AreAccepted, IsRecordDamaged, a
 use Rattle.farm_journal.proofs.OneReading.{whole_is_not_refused}
 use Rattle.farm_site.specs.Encoding.{site_encoding}
 use Rattle.farm_site.proofs.BytesRead.{PartsAreRead}
-use Rattle.farm_desk.specs.Accepting.{taken_of}
+use Rattle.farm_recovery.specs.Accepting.{taken_of}
 use Rattle.farm_records.specs.Histories.{IsRecordable, Recovers, entry_encodings}
-use Rattle.farm_desk.specs.Laws.{RecoveredIsNotRefused}
-use Rattle.farm_desk.specs.Recovery.{IsDamagedAfter, IsDamagedAt, IsEntryDamaged, IsSiteDamaged, counting_of}
-use Rattle.farm_desk.proofs.Acceptance.{both_true}
+use Rattle.farm_recovery.specs.Laws.{RecoveredIsNotRefused}
+use Rattle.farm_recovery.specs.Recovery.{IsDamagedAfter, IsDamagedAt, IsEntryDamaged, IsSiteDamaged, counting_of}
+use Rattle.farm_recovery.proofs.Acceptance.{both_true}
 use Rattle.farm_records.proofs.Growing.{front_recordable}
-use Rattle.farm_desk.proofs.OneHistory.{among, same_history}
+use Rattle.farm_recovery.proofs.OneHistory.{among, same_history}
 
 -- a taker that accepts all but these bytes after these
 all_but : List (List ℕ) → List ℕ → Accepts

@@ -7,10 +7,10 @@ use Rattle.farm_journal.proofs.OneReading.{one_reading}
 use Rattle.farm_site.specs.Decoding.{whole_site}
 use Rattle.farm_site.specs.Encoding.{site_encoding}
 use Rattle.farm_site.proofs.BytesRead.{PartsAreRead}
-use Rattle.farm_desk.specs.Accepting.{entries_of, history_with}
+use Rattle.farm_recovery.specs.Accepting.{entries_of, history_with}
 use Rattle.farm_records.specs.Histories.{IsRecordable, entry_encodings}
-use Rattle.farm_desk.specs.Laws.{OneHistory}
-use Rattle.farm_desk.proofs.Decoded.{decoded}
+use Rattle.farm_recovery.specs.Laws.{OneHistory}
+use Rattle.farm_recovery.proofs.Decoded.{decoded}
 
 -- two histories with the same bytes are one
 pub same_history : PartsAreRead → (limit : ℕ) (first second : History) → IsRecordable limit first → IsRecordable limit second →

@@ -15,10 +15,10 @@ use Rattle.farm_history.proofs.EntryReader.{entry_found, entry_only}
 use Rattle.farm_site.specs.Decoding.{whole_site}
 use Rattle.farm_site.specs.Described.{Described}
 use Rattle.farm_site.proofs.BytesRead.{PartsAreRead, site_found, site_only}
-use Rattle.farm_desk.specs.Accepting.{accepted_next, is_next, taken_of}
+use Rattle.farm_recovery.specs.Accepting.{accepted_next, is_next, taken_of}
 use Rattle.farm_records.specs.Histories.{IsRecordable}
-use Rattle.farm_desk.specs.Recovery.{IsSiteEncoding}
-use Rattle.farm_desk.proofs.Decoded.{decoded}
+use Rattle.farm_recovery.specs.Recovery.{IsSiteEncoding}
+use Rattle.farm_recovery.proofs.Decoded.{decoded}
 
 -- a verdict that tests as acceptance is acceptance
 acceptance : (given : Verdict) → is_accepted given ≡ true → given ≡ Accept

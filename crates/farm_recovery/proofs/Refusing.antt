@@ -1,18 +1,16 @@
 -- What a refusal of the journal says, in the words of a history.
 use Rattle.std.proofs.Common.{◌≡◌, ⊎_elim, inl, inr, ℕ, suc, List, [], ◌∷◌, length, drop, Option, Some, None, IfSome, IsFalse, IsTrue, sym, subst, arith}
 use Rattle.std.proofs.lemmas.List.{length-map}
-use Rattle.farm_base.specs.Known.{WhereKnown}
-use Rattle.farm_disk.specs.Images.{State, present}
 use Rattle.farm_history.specs.Encoding.{entry_encoding}
 use Rattle.farm_history.specs.History.{History, last_place}
 use Rattle.farm_journal.specs.declared.faults.RecoverFault.{RecoverFault}
 use Rattle.farm_journal.specs.declared.faults.RecoverFault.TheVariants.{NotJournal, Damaged, DiskFault, NoMemory}
 use Rattle.farm_journal.specs.Recovery.{IsDamagedAt as IsJournalDamagedAt, IsHeaderDamaged, IsRecordDamaged, IsRefusal, after_signature, counted_in}
 use Rattle.farm_site.proofs.BytesRead.{PartsAreRead}
-use Rattle.farm_desk.specs.Accepting.{accepted_next, taken_of}
+use Rattle.farm_recovery.specs.Accepting.{accepted_next, taken_of}
 use Rattle.farm_records.specs.Histories.{IsRecordable}
-use Rattle.farm_desk.specs.Recovery.{IsDamagedAt, IsEntryDamaged, IsRefused, IsSiteDamaged, counting_of}
-use Rattle.farm_desk.proofs.Acceptance.{next_is_accepted, site_is_accepted}
+use Rattle.farm_recovery.specs.Recovery.{IsDamagedAt, IsEntryDamaged, IsRefused, IsSiteDamaged, counting_of}
+use Rattle.farm_recovery.proofs.Acceptance.{next_is_accepted, site_is_accepted}
 
 module _ (laws : PartsAreRead) (limit : ℕ) where
   -- a site is damaged
@@ -71,11 +69,3 @@ module _ (laws : PartsAreRead) (limit : ℕ) where
   refused_as recovered bytes (Damaged place) is refusal = damaged_at recovered bytes place is refusal
   refused_as recovered bytes DiskFault is refusal = tt
   refused_as recovered bytes NoMemory is refusal = tt
-
--- so are those that are known
-pub where_refused : (limit : ℕ) (recovered : Option History) (known : Option (List State)) (fault : RecoverFault) →
-    ((bytes : List ℕ) (fault : RecoverFault) → IsRefusal (accepted_next limit) (taken_of recovered) bytes fault → IsRefused limit bytes fault) →
-    WhereKnown known (λ states. IsRefusal (accepted_next limit) (taken_of recovered) (present states).seen fault) →
-    WhereKnown known (λ states. IsRefused limit (present states).seen fault)
-where_refused limit recovered None fault means refused = tt
-where_refused limit recovered (Some states) fault means refused = means (present states).seen fault refused

@@ -11,7 +11,7 @@ use Rattle.farm_history.proofs.EntryReader.{entry_only}
 use Rattle.farm_site.specs.Decoding.{whole_site}
 use Rattle.farm_site.specs.Encoding.{site_encoding}
 use Rattle.farm_site.proofs.BytesRead.{PartsAreRead, site_only}
-use Rattle.farm_desk.specs.Accepting.{after, entries_of, history_with}
+use Rattle.farm_recovery.specs.Accepting.{after, entries_of, history_with}
 use Rattle.farm_records.specs.Histories.{IsRecordable, entry_encodings}
 
 -- each entry of a legal history is well formed

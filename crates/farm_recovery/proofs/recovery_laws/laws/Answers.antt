@@ -1,6 +1,6 @@
-use Rattle.farm_desk.proofs.NotRefused.{recovered_is_not_refused}
-use Rattle.farm_desk.proofs.OneHistory.{one_history}
-use Rattle.farm_desk.proofs.desk_laws.laws.Goals as goal
+use Rattle.farm_recovery.proofs.NotRefused.{recovered_is_not_refused}
+use Rattle.farm_recovery.proofs.OneHistory.{one_history}
+use Rattle.farm_recovery.proofs.recovery_laws.laws.Goals as goal
 
 pub returns-clause-one_history : goal.returns-clause-one_history
 returns-clause-one_history c =

@@ -1,9 +1,9 @@
 use Rattle.std.proofs.Common.{◌∙◌, Err, ap, arith}
 use Rattle.site_reading.specs.Readers.{IsBytes}
 use Rattle.farm_site.proofs.BytesRead.{PartsAreRead}
-use Rattle.farm_desk.proofs.Acceptance.{next_is_accepted}
-use Rattle.farm_desk.proofs.Judging.{entered_recordable, next_refused, room_left, taken_more}
-use Rattle.farm_desk.proofs.recovering.entered.Goals as goal
+use Rattle.farm_recovery.proofs.Acceptance.{next_is_accepted}
+use Rattle.farm_recovery.proofs.Judging.{entered_recordable, next_refused, room_left, taken_more}
+use Rattle.farm_recovery.proofs.recovering.entered.Goals as goal
 
 pub returns-in-Ok-clause-judged : goal.returns-in-Ok-clause-judged
 returns-in-Ok-clause-judged g c =
