@@ -1,5 +1,6 @@
 pub mod LineParts
 pub mod Meant
+pub mod Pages
 pub mod Moments
 pub mod Timeless
 pub mod TimelessTickets

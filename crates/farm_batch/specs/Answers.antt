@@ -6,6 +6,8 @@ use Rattle.farm_history.specs.Commands.{is_stop}
 use Rattle.farm_history.specs.Desk.{Answered, desk_answer, stamped}
 use Rattle.farm_history.specs.History.{History, last_place}
 use Rattle.farm_history.specs.Verdicts.{is_accepted, verdict}
+use Rattle.farm_records.specs.declared.answer.Answer.{Answer}
+use Rattle.farm_records.specs.declared.answer.Answer.TheVariants as answers
 use Rattle.farm_http.specs.Answers.{body_text}
 use Rattle.farm_http.specs.Requests.{ask_of_line}
 use Rattle.farm_http.specs.declared.page.Page.{Page}
@@ -28,6 +30,18 @@ out_of_memory = pages.Status 507 None
 -- what stands in place of an answer where the disk failed
 abbrev pub disk_fault : Page
 disk_fault = pages.Status 503 None
+
+-- the page of what the desk answered: its reply, a fault of the disk, or out of memory
+abbrev pub page_of : Answer → Page
+page_of (answers.Done reply) = pages.Reply reply
+page_of answers.DiskFault = disk_fault
+page_of answers.NoMemory = out_of_memory
+
+-- whether the batch ends with what the desk answered: with no reply it goes on
+abbrev pub ends_with : Answer → Bool → Bool
+ends_with (answers.Done reply) stops = stops
+ends_with answers.DiskFault stops = false
+ends_with answers.NoMemory stops = false
 
 -- an answer, the history that it leaves, and whether the batch ends with it
 pub record LineAnswer : Type 0 where

@@ -6,7 +6,7 @@ ghost use Rattle.farm_records.specs.Histories.{certain};
 ghost use Rattle.farm_history.specs.Desk.{IsWellFormedAsk};
 ghost use Rattle.farm_history.specs.History.{last_place};
 ghost use Rattle.farm_http.specs.Answers.{IsAnswer, IsErrorStatus};
-ghost use Rattle.farm_batch.specs.Answers.{AsksNothing, IsReply, MeetsLine, answer_to, faults_of, is_stop_ask, line_answer};
+ghost use Rattle.farm_batch.specs.Answers.{AsksNothing, IsReply, MeetsLine, answer_to, ends_with, faults_of, is_stop_ask, line_answer, page_of};
 ghost use Rattle.farm_batch.specs.Desks.{KeepsDesk};
 ghost use Rattle.batch_lines.specs.Reader.{kept};
 
@@ -75,10 +75,21 @@ fn answer_ask<D: Disk, const LIMIT: usize>(desk: &mut Desk<D, LIMIT>, now: i64, 
     ensures acknowledged { IsReply result.page → last_place desk.new.history ≤ certain desk.new.doubt desk.new.history }
 {
     let entries = desk.book().entries().len();
-    match desk.ask(BATCH_CALLER, now, ask) {
+    let answer = desk.ask(BATCH_CALLER, now, ask);
+    let stops = is_stop(ask) && desk.book().entries().len() > entries;
+    meant_by(answer, stops)
+}
+
+// The answer to a line where the desk answered so; a reply ends the batch or not.
+fn meant_by(answer: Answer, stops: bool) -> Meant
+    ensures page { result.page ≡ page_of answer }
+    ensures stops { result.stops ≡ ends_with answer stops }
+    ensures may_be { IsAnswer result.page }
+{
+    match answer {
         Answer::Done(reply) => Meant {
             page: Page::Reply(reply),
-            stops: is_stop(ask) && desk.book().entries().len() > entries,
+            stops,
         },
         Answer::DiskFault => status(503),
         Answer::NoMemory => status(507),
