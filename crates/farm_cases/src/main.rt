@@ -5,16 +5,11 @@
 //! add one.
 #![tactic(auto)]
 
-mod answer;
-mod difference;
-mod disk;
-mod fault;
 mod row;
-mod trial;
 
 use crate::row::has_row_site;
-use crate::trial::Trial;
 use case_files::{Case, CaseFault, Keys, Listing, Sites, read_table, texts_of};
+use case_trials::Trial;
 use farm_ports::{DirFolder, Folder};
 use std::alloc::Global;
 use std::rt::Env;

@@ -10,8 +10,11 @@ use std::alloc::Global;
 /// What a run ends with: its status, the bytes that it put, and those of its disk where they are looked at, and else none.
 #[derive(Debug, Drop)]
 pub struct Answer {
+    /// The status that the program ends with.
     pub status: u64,
+    /// What it printed.
     pub output: Vec<u8>,
+    /// What reads of its disk give, where the case looks at it.
     pub disk: Vec<u8>,
 }
 

@@ -15,8 +15,10 @@ use std::fmt;
 /// A run: the answer that is wanted and the one that came.
 #[derive(Debug, Drop)]
 pub struct Trial {
-    wanted: Answer,
-    came: Answer,
+    /// What the case wants.
+    pub wanted: Answer,
+    /// What the run answered.
+    pub came: Answer,
 }
 
 impl Trial {

@@ -1,0 +1,15 @@
+//! Trials of cases: a case run over ports and a disk in memory, with what came of it beside what is wanted.
+//!
+//! A case is what `case_files` reads. Before it runs, its disk is made: the bytes or the journal that it gives, the runs before it,
+//! each of which has to agree, a crash and a cut. A trial that differs prints the first line and the first byte that do.
+#![tactic(auto)]
+
+mod answer;
+mod difference;
+mod disk;
+mod fault;
+mod trial;
+
+pub use answer::Answer;
+pub use fault::TrialFault;
+pub use trial::Trial;
