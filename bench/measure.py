@@ -80,7 +80,7 @@ compare(
     20,
     FACTORS,
 )
-print(f"memory of one line: {kilobytes(FARM, LINE)} KB, of the greatest input: {kilobytes(FARM, LEVELS)} KB")
+print(f"memory of one line: {kilobytes(FARM, LINE)} KB, of the greatest input: {kilobytes(FARM, LEVELS)} KB, of the 100,000 short lines: {kilobytes(FARM, SHORT_LEVELS)} KB")
 # Plain Rust with the `csv`, `toml` and `itoa` crates, where cargo has them.
 tables = f"{WORK}/tables-target/release/tables"
 if os.path.exists(tables):

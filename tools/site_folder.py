@@ -43,7 +43,7 @@ def one_of(*words):
         if type(value) is not str:
             return 2, "isn't a text"
         if value not in words:
-            return 3, "is none of " + ", ".join(words)
+            return 3, "isn't one of " + ", ".join(words)
     return fault
 
 

@@ -1,3 +1,4 @@
+-- The lemmas of `batch_lines`, by topic.
 pub mod Pieces
 pub mod Kept
 pub mod Cuts

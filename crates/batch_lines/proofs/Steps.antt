@@ -1,7 +1,8 @@
 -- How far a reader has come in a line, cut by cut.
-use Rattle.std.proofs.Common.{◌≡◌, ◌≢◌, ℕ, ◌+◌, ◌-◌, ◌≤◌, List, [], ◌∷◌, ◌++◌, length, Option, Some, None, refl, sym, ap, subst, ◌∙◌, arith, length-append, append_assoc, append-nil, ◌⊎◌, inl, inr, take}
+use Rattle.std.proofs.Common.{◌≡◌, ◌≢◌, ℕ, ◌+◌, ◌-◌, ◌≤◌, List, [], ◌∷◌, ◌++◌, length, Option, refl, sym, ap, subst, ◌∙◌, arith, length-append, append_assoc, append-nil, ◌⊎◌, inl, inr, take}
 use Rattle.std.proofs.lemmas.List.{nil_from_length, take_at}
 use Rattle.std.proofs.lemmas.List.Elements.{All-append, All-nil, All-same, All-take}
+use Rattle.farm_base.proofs.Known.{takes_none}
 use Rattle.farm_base.specs.Counts.{Count, HasRisen}
 use Rattle.farm_base.specs.Known.{Stream, Takes}
 use Rattle.farm_base.proofs.Additions.{takings_add_up}
@@ -9,11 +10,11 @@ use Rattle.batch_lines.specs.declared.limits.TheConstants.{LINE_FEED, MOST_BYTES
 use Rattle.batch_lines.specs.declared.reader.Moved.{Moved}
 use Rattle.batch_lines.specs.declared.reader.Moved.TheVariants as moves
 use Rattle.batch_lines.specs.Lines.{IsOneLine}
-use Rattle.batch_lines.specs.Reader.{AtEnd, Holds, Moves, Reading, ReadsFault, ReadsLast, ReadsLine, ReadsNothing, ReadsTooMuch}
+use Rattle.batch_lines.specs.Reader.{AtEnd, Holds, Moves, ReaderState, ReadsFault, ReadsLast, ReadsLine, ReadsNothing, ReadsTooMuch}
 
 -- what a reader has read of a line: what was in hand and what it took since are that line so far and what is in hand now, and it took
 -- nothing while a line feed was in hand
-pub record Stands (old now : Reading) (from to : Option Stream) : Type 0 where
+pub record Stands (old now : ReaderState) (from to : Option Stream) : Type 0 where
   pub line : List ℕ
   pub taken : List ℕ
   pub moved : Takes from to taken
@@ -24,13 +25,13 @@ pub record Stands (old now : Reading) (from to : Option Stream) : Type 0 where
   pub passed : now.passed ≡ old.passed + length line
 
 -- a reader has cut off all that was in hand, and the line goes on
-pub record GoesOn (old now : Reading) (from to : Option Stream) : Type 0 where
+pub record GoesOn (old now : ReaderState) (from to : Option Stream) : Type 0 where
   pub stands : Stands old now from to
   pub empty : now.in_hand ≡ []
   pub within : now.passed ≤ MOST_BYTES
 
 -- what was read of a line, by what the last cut found
-abbrev pub Comes : Reading → Reading → Option Stream → Option Stream → Moved → Type 0
+abbrev pub Comes : ReaderState → ReaderState → Option Stream → Option Stream → Moved → Type 0
 Comes old new from to moves.Ended = ReadsLine old new from to
 Comes old new from to moves.All = GoesOn old new from to
 Comes old new from to moves.Long = ReadsTooMuch old from to
@@ -41,18 +42,13 @@ cuts_left moves.Ended passed = 0
 cuts_left moves.All passed = MOST_BYTES + 1 - passed
 cuts_left moves.Long passed = 0
 
--- no bytes are taken where nothing is done
-takes_nothing : (stream : Option Stream) → Takes stream stream []
-takes_nothing None = tt
-takes_nothing (Some stream) = record { taken = sym (append-nil stream.taken); left = refl }
-
 -- before its first cut a reader has read nothing of a line
-pub stands_first : (old start : Reading) (stream : Option Stream) →
+pub stands_first : (old start : ReaderState) (stream : Option Stream) →
     start.in_hand ≡ old.in_hand → start.passed ≡ old.passed → Holds start [] → Stands old start stream stream
 stands_first old start stream in_hand_is passed_is holds = record {
   line = [];
   taken = [];
-  moved = takes_nothing stream;
+  moved = takes_none stream;
   none_early = inr refl;
   split = append-nil old.in_hand ∙ sym in_hand_is;
   one_line = All-nil (λ byte. byte ≢ LINE_FEED);
@@ -61,7 +57,7 @@ stands_first old start stream in_hand_is passed_is holds = record {
 }
 
 -- where all is cut off, what was in hand and what was taken are one line
-all_one_line : (old now : Reading) (from to : Option Stream) →
+all_one_line : (old now : ReaderState) (from to : Option Stream) →
     (stands : Stands old now from to) → now.in_hand ≡ [] → IsOneLine (old.in_hand ++ stands.taken)
 all_one_line old now from to stands empty =
     All-same (λ byte. byte ≢ LINE_FEED) (old.in_hand ++ stands.taken) stands.line
@@ -74,7 +70,7 @@ front_of_one_line front back one_line =
     (All-take (λ byte. byte ≢ LINE_FEED) (length front) (front ++ back) one_line)
 
 -- a piece that was taken is in hand, and the line so far stays
-pub stands_refilled : (old now filled : Reading) (from middle to : Option Stream) →
+pub stands_refilled : (old now filled : ReaderState) (from middle to : Option Stream) →
     Stands old now from middle → now.in_hand ≡ [] → Takes middle to filled.in_hand →
     ((line : List ℕ) → Holds now line → Holds filled line) → filled.passed ≡ now.passed → Stands old filled from to
 stands_refilled old now filled from middle to stands empty takes holds passed_is = record {
@@ -91,7 +87,7 @@ stands_refilled old now filled from middle to stands empty takes holds passed_is
 }
 
 -- a cut into what is in hand ends the line, leaves it open, or finds a byte too many
-pub cut_comes : (old start new : Reading) (from to : Option Stream) (moved : Moved) →
+pub cut_comes : (old start new : ReaderState) (from to : Option Stream) (moved : Moved) →
     Stands old start from to → Moves start new moved → Comes old new from to moved
 cut_comes old start new from to moves.Ended stands cut = record {
   line = stands.line ++ cut.text;
@@ -136,7 +132,7 @@ cut_comes old start new from to moves.Long stands cut = record {
 }
 
 -- at the end of the stream the line so far is the last one, where it isn't empty
-pub last_comes : (old now : Reading) (from to : Option Stream) →
+pub last_comes : (old now : ReaderState) (from to : Option Stream) →
     Stands old now from to → now.in_hand ≡ [] → now.passed ≤ MOST_BYTES → AtEnd to → now.length ≢ 0 → ReadsLast old now from to
 last_comes old now from to stands empty within at_end some = record {
   line = stands.line;
@@ -153,7 +149,7 @@ last_comes old now from to stands empty within at_end some = record {
 }
 
 -- at the end of the stream nothing was read, where the line so far is empty
-pub nothing_comes : (old now : Reading) (from to : Option Stream) →
+pub nothing_comes : (old now : ReaderState) (from to : Option Stream) →
     Stands old now from to → now.in_hand ≡ [] → AtEnd to → now.length ≡ 0 → ReadsNothing old now from to
 nothing_comes old now from to stands empty at_end none =
     let line_is : stands.line ≡ [] = nil_from_length stands.line (sym stands.held.length_is ∙ none) in
@@ -168,7 +164,7 @@ nothing_comes old now from to stands empty at_end none =
     }
 
 -- where a take failed there was no whole line yet
-pub fault_comes : (old now : Reading) (from middle to : Option Stream) (source : Count) →
+pub fault_comes : (old now : ReaderState) (from middle to : Option Stream) (source : Count) →
     Stands old now from middle → now.in_hand ≡ [] → Takes middle to [] → HasRisen source → ReadsFault old from to source
 fault_comes old now from middle to source stands empty takes risen = record {
   taken = stands.taken ++ [];

@@ -11,15 +11,11 @@ use Rattle.batch_lines.specs.Lines.{HasByteTooMany, IsOneLine}
 
 -- A reader of lines: what it took and hasn't cut off yet, what it kept of the line that it reads and how long that is, and how many
 -- bytes it has cut off, line feeds counted.
-pub record Reading : Type 0 where
+pub record ReaderState : Type 0 where
   pub in_hand : List ℕ
   pub line : Option (List ℕ)
   pub length : ℕ
   pub passed : ℕ
-
--- a port's count before and after, by what the port counts
-abbrev pub count_of : {P : Type 0} → (P → ℕ) → P → P → Count
-count_of faults old new = record { before = faults old; now = faults new }
 
 -- nothing is left of a stream
 abbrev pub AtEnd : Option Stream → Type 0
@@ -30,16 +26,16 @@ abbrev pub kept : List ℕ → Option (List ℕ)
 kept line = if nat_lt LONGEST_LINE (length line) then None else Some line
 
 -- a reader has read this of a line
-pub record Holds (reading : Reading) (line : List ℕ) : Type 0 where
+pub record Holds (reading : ReaderState) (line : List ℕ) : Type 0 where
   pub line_is : reading.line ≡ kept line
   pub length_is : reading.length ≡ length line
 
 -- what a reader has read of a line became longer by a text
-abbrev pub Extends : Reading → Reading → List ℕ → Type 0
+abbrev pub Extends : ReaderState → ReaderState → List ℕ → Type 0
 Extends old new text = (line : List ℕ) → Holds old line → Holds new (line ++ text)
 
 -- a text before a line feed was cut off, and the line feed
-pub record CutsEnd (old new : Reading) : Type 0 where
+pub record CutsEnd (old new : ReaderState) : Type 0 where
   pub text : List ℕ
   pub split : old.in_hand ≡ text ++ LINE_FEED ∷ new.in_hand
   pub one_line : IsOneLine text
@@ -48,7 +44,7 @@ pub record CutsEnd (old new : Reading) : Type 0 where
   pub within : new.passed ≤ MOST_BYTES
 
 -- all that was in hand was cut off; no line feed is in it
-pub record CutsAll (old new : Reading) : Type 0 where
+pub record CutsAll (old new : ReaderState) : Type 0 where
   pub empty : new.in_hand ≡ []
   pub one_line : IsOneLine old.in_hand
   pub extends : Extends old new old.in_hand
@@ -56,13 +52,13 @@ pub record CutsAll (old new : Reading) : Type 0 where
   pub within : new.passed ≤ MOST_BYTES
 
 -- what one cut into the bytes in hand does
-abbrev pub Moves : Reading → Reading → Moved → Type 0
+abbrev pub Moves : ReaderState → ReaderState → Moved → Type 0
 Moves old new moves.Ended = CutsEnd old new
 Moves old new moves.All = CutsAll old new
 Moves old new moves.Long = HasByteTooMany old.passed old.in_hand
 
 -- a line was read, and the line feed after it; nothing was taken where the whole line was in hand
-pub record ReadsLine (old new : Reading) (from to : Option Stream) : Type 0 where
+pub record ReadsLine (old new : ReaderState) (from to : Option Stream) : Type 0 where
   pub line : List ℕ
   pub taken : List ℕ
   pub moved : Takes from to taken
@@ -74,7 +70,7 @@ pub record ReadsLine (old new : Reading) (from to : Option Stream) : Type 0 wher
   pub within : new.passed ≤ MOST_BYTES
 
 -- the last line was read; it isn't empty, and no line feed is after it
-pub record ReadsLast (old new : Reading) (from to : Option Stream) : Type 0 where
+pub record ReadsLast (old new : ReaderState) (from to : Option Stream) : Type 0 where
   pub line : List ℕ
   pub taken : List ℕ
   pub moved : Takes from to taken
@@ -88,14 +84,14 @@ pub record ReadsLast (old new : Reading) (from to : Option Stream) : Type 0 wher
   pub at_end : AtEnd to
 
 -- nothing was in hand, and nothing was left
-pub record ReadsNothing (old new : Reading) (from to : Option Stream) : Type 0 where
+pub record ReadsNothing (old new : ReaderState) (from to : Option Stream) : Type 0 where
   pub moved : Takes from to []
   pub nothing : old.in_hand ≡ []
   pub empty : new.in_hand ≡ []
   pub at_end : AtEnd to
 
 -- the line holds a byte too many
-pub record ReadsTooMuch (old : Reading) (from to : Option Stream) : Type 0 where
+pub record ReadsTooMuch (old : ReaderState) (from to : Option Stream) : Type 0 where
   pub taken : List ℕ
   pub moved : Takes from to taken
   pub too_many : HasByteTooMany old.passed (old.in_hand ++ taken)
@@ -107,14 +103,14 @@ pub record Fails (from to : Option Stream) (source : Count) : Type 0 where
   pub risen : HasRisen source
 
 -- the source failed before there was a whole line
-pub record ReadsFault (old : Reading) (from to : Option Stream) (source : Count) : Type 0 where
+pub record ReadsFault (old : ReaderState) (from to : Option Stream) (source : Count) : Type 0 where
   pub taken : List ℕ
   pub moved : Takes from to taken
   pub one_line : IsOneLine (old.in_hand ++ taken)
   pub risen : HasRisen source
 
 -- what reading a line does
-abbrev pub Reads : Reading → Reading → Option Stream → Option Stream → Count → Cut → Type 0
+abbrev pub Reads : ReaderState → ReaderState → Option Stream → Option Stream → Count → Cut → Type 0
 Reads old new from to source Line = ReadsLine old new from to
 Reads old new from to source Last = ReadsLast old new from to
 Reads old new from to source End = ReadsNothing old new from to
@@ -122,7 +118,7 @@ Reads old new from to source Long = ReadsTooMuch old from to
 Reads old new from to source Failed = ReadsFault old from to source
 
 -- what was taken came to what was in hand; nothing was cut off, and the line that was read last is kept
-pub record TakesOn (old new : Reading) (from to : Option Stream) : Type 0 where
+pub record TakesOn (old new : ReaderState) (from to : Option Stream) : Type 0 where
   pub taken : List ℕ
   pub moved : Takes from to taken
   pub in_hand : new.in_hand ≡ old.in_hand ++ taken
@@ -130,7 +126,7 @@ pub record TakesOn (old new : Reading) (from to : Option Stream) : Type 0 where
   pub passed : new.passed ≡ old.passed
 
 -- a look for one byte more: there is one, or nothing was in hand and nothing was left, or the source failed
-abbrev pub LooksOn : {E : Type 0} → Reading → Option Stream → Option Stream → Count → Result Bool E → Type 0
+abbrev pub LooksOn : {E : Type 0} → ReaderState → Option Stream → Option Stream → Count → Result Bool E → Type 0
 LooksOn old from to source (Ok true) = (taken : List ℕ) × Takes from to taken × (old.in_hand ++ taken ≢ [])
 LooksOn old from to source (Ok false) = Takes from to [] × (old.in_hand ≡ []) × AtEnd to
 LooksOn old from to source (Err e) = Fails from to source

@@ -1,10 +1,10 @@
 //! Lines out of a source, one after another.
 
 ghost use Rattle.std.specs.Prelude.{◌≡◌, ◌≢◌, ◌+◌, ◌≤◌, ℕ, List, [], length, take, drop, option_map, IfOk, OnErr, OnOk, Ok};
-ghost use Rattle.farm_base.specs.Counts.{HasCause};
+ghost use Rattle.farm_base.specs.Counts.{HasCause, count_of};
 ghost use Rattle.farm_base.specs.Known.{Takes};
 ghost use Rattle.batch_lines.specs.declared.limits.TheConstants.{MOST_BYTES};
-ghost use Rattle.batch_lines.specs.Reader.{AtEnd, Extends, Holds, LooksOn, Moves, Reads, TakesOn, count_of};
+ghost use Rattle.batch_lines.specs.Reader.{AtEnd, Extends, Holds, LooksOn, Moves, Reads, TakesOn};
 
 use crate::limits::{LINE_FEED, LONGEST_LINE, MOST_BYTES};
 use farm_base::NoMemory;
@@ -13,7 +13,7 @@ use memchr::memchr;
 use std::alloc::Global;
 use std::marker::Model;
 
-/// How many bytes are asked for in one take.
+// How many bytes are asked for in one take.
 const PIECE: usize = 8_192;
 
 /// What reading a line found.
@@ -55,10 +55,10 @@ pub struct LineReader {
 
 impl Model for LineReader {
     ghost use Rattle.std.specs.Prelude.{◌≡◌, ◌-◌, ◌≤◌, take, drop, nat_lt, if◌then◌else◌, None, Some, vec_len};
-    ghost use Rattle.batch_lines.specs.Reader.{Reading};
+    ghost use Rattle.batch_lines.specs.Reader.{ReaderState};
     ghost use Rattle.batch_lines.specs.declared.limits.TheConstants.{LONGEST_LINE, MOST_BYTES};
 
-    ghost Value = { Reading };
+    ghost Value = { ReaderState };
 
     ghost view = { λ reader. record {
       in_hand = take (reader.end - reader.start) (drop reader.start reader.piece.items);

@@ -9,7 +9,7 @@ use farm_ticket::{Moved, Side, Ticket, Way};
 use row_checks::{Checks, shared};
 use std::test::Fail;
 
-/// The ticket of a receipt or a delivery that is closed, or the movement where it has to stay open.
+// The ticket of a receipt or a delivery that is closed, or the movement where it has to stay open.
 fn ticket_of(
     movement: OpenMove,
     place: u32,

@@ -11,7 +11,7 @@ use std::alloc::Global;
 use std::test::Fail;
 use text_pieces::{Piece, append};
 
-/// Appends the line of a row: its level in mm, a blank, its litres.
+// Appends the line of a row: its level in mm, a blank, its litres.
 fn write_row(out: &mut Vec<u8>, mm: u64, litres: i64) -> Result<(), NoMemory>
     ensures { Appends out.old.items out.new.items (decimal mm ++ codes " " ++ signed_decimal litres ++ codes "\n") result }
 {

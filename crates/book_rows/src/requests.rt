@@ -1,4 +1,4 @@
-//! Lines of a batch as requests, lines that are none, and the bodies of answers.
+//! Lines of a batch as requests, lines that aren't, and the bodies of answers.
 
 use farm_history::{Ask, Command, Few, Gauged, Plan, Query, Reply, Rule};
 use farm_http::{LineAsked, Page, body, line};

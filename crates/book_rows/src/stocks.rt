@@ -11,7 +11,7 @@ use farm_stock::{Kind, Posting, Stock};
 use row_checks::{Checks, shared};
 use std::test::Fail;
 
-/// Posts what a tank received, and answers what it holds afterwards.
+// Posts what a tank received, and answers what it holds afterwards.
 fn received(stock: &mut Stock, tank: u16, party: u16, amount: Amount) -> Option<Amount>
     requires tank { IsSome (book_of tank stock.old) }
     requires sums { AreWithinSums (added tank amount stock.old) }

@@ -8,7 +8,7 @@ use row_checks::{Checks, shared};
 use std::alloc::Global;
 use std::test::Fail;
 
-/// The side of a receipt into a tank between these figures, unless it went the wrong way.
+// The side of a receipt into a tank between these figures, unless it went the wrong way.
 fn received(tank: u16, opening: Quantities, closing: Quantities) -> Result<Side, WrongWay>
     ensures { IfOk result (λ side. opening.nsv +ℤ side.moved.nsv ≡ closing.nsv) }
 {

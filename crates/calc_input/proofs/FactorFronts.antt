@@ -2,6 +2,7 @@
 use Rattle.std.proofs.Common.{◌≡◌, ℕ, suc, ◌+◌, ◌-◌, ◌<◌, ◌≤◌, min, Bool, true, false, nat_lt, if◌then◌else◌, ◌==◌, List, [], ◌∷◌, length, Option, Some, None, Result, Ok, Err, refl, ap, subst, ◌∙◌, arith}
 use Rattle.std.proofs.lemmas.Bool.Decides.{nat_tests}
 use Rattle.std.specs.Prelude.{MatchOption}
+use Rattle.farm_vcf.specs.declared.grid.TheConstants.{MOST_FACTORS}
 use Rattle.farm_vcf.specs.declared.rows.Listed.{Listed}
 use Rattle.farm_vcf.specs.Faults.{FactorFault, NotGrid}
 use Rattle.farm_vcf.specs.Grid.{Grid}
@@ -134,7 +135,7 @@ goes_by count first i lines grown next None so_far within is on more = cc on
 goes_by count first i lines grown next (Some row) so_far within is on more = grows_on count first i row lines grown next so_far within is on more
 
 -- all lines are rows that went on
-pub ends_with : (count first i : ℕ) (lines : List (List ℕ)) (grown : Grown) (made : Option Grid) → IsGrowing count first i lines grown → i ≡ count → count ≤ 100000 → Finishes grown made →
+pub ends_with : (count first i : ℕ) (lines : List (List ℕ)) (grown : Grown) (made : Option Grid) → IsGrowing count first i lines grown → i ≡ count → count ≤ MOST_FACTORS → Finishes grown made →
     MatchOption made (grid_from count first lines ≡ Err (first + count)) (λ grid. grid_from count first lines ≡ Ok grid)
 ends_with count first i lines grown made so_far all few finishes =
     let left = rows_done count (first + i) i lines (omega arith) in

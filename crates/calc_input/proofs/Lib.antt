@@ -1,3 +1,4 @@
+-- The lemmas of `calc_input`, by topic.
 pub mod Digits
 pub mod Parts
 pub mod LinesTaken
@@ -7,6 +8,7 @@ pub mod TableRead
 pub mod Answering
 pub mod DueBlanks
 pub mod DueVolumes
+pub mod FirstBlocks
 pub mod DueFactors
 pub mod Judging
 pub mod VolumesForm

@@ -4,6 +4,7 @@ use Rattle.std.specs.Str.{bytes_eq}
 use Rattle.std.proofs.lemmas.Bool.Decides.{nat_tests}
 use Rattle.std.specs.Option.{IsSome}
 use Rattle.farm_base.specs.Steps.{◌>>=◌, or_fault}
+use Rattle.farm_vcf.specs.declared.grid.TheConstants.{MOST_FACTORS}
 use Rattle.farm_vcf.specs.Grid.{Grid}
 use Rattle.calc_input.specs.declared.levels_line.Levels.{Levels}
 use Rattle.calc_input.specs.declared.forms.TableInput.{TableInput}
@@ -155,7 +156,7 @@ many_judged lines count rows is volumes None none = record {
 }
 many_judged lines count rows is volumes (Some many) known =
     factors_judged lines count many rows (record { volumes = is; factors = known }) volumes (grid_from many (count + 2) lines)
-    (factors_found lines (count + 2) many (counted_within (codes "factors") 1 100000 many (words_of (line_at lines (count + 1))) known))
+    (factors_found lines (count + 2) many (counted_within (codes "factors") 1 MOST_FACTORS many (words_of (line_at lines (count + 1))) known))
 
 -- the volumes and what follows them
 rows_judged : (lines : List (List ℕ)) (count : ℕ) → volume_count lines ≡ Some count → (answer : Result (List ℤ) ℕ) → FindsVolumes lines 1 (pos 0) count answer →

@@ -6,6 +6,7 @@ use Rattle.strap_table.specs.Faults.{first_outside, first_falling, first_fault, 
 use Rattle.farm_fixed.specs.Range.{is_within}
 use Rattle.farm_fixed.specs.Parsing.{quantity_of}
 use Rattle.farm_fixed.specs.declared.limits.TheConstants.{MOST_LITRES}
+use Rattle.strap_table.specs.declared.faults.TheConstants.{MOST_ROWS}
 use Rattle.std.specs.Result.{result_ok, MatchResult, IsOk}
 use Rattle.strap_table.specs.declared.fault.TableFault.{TableFault}
 use Rattle.calc_input.specs.Lines.{line_at, words_of}
@@ -154,11 +155,11 @@ falling_none before [] rising = refl
 falling_none before (row ∷ rows) rising = falling_behind before row rows (int_lt row before) refl (rising 0)
 
 -- from 2 to 5,001 rows are a right number
-length_right : (n : ℕ) → 2 ≤ n → n ≤ 5001 → wrong_length n ≡ None
+length_right : (n : ℕ) → 2 ≤ n → n ≤ MOST_ROWS → wrong_length n ≡ None
 length_right n least most = grind (arith, nat_tests)
 
 -- rows that are read are a capacity table: they have no fault
-pub rows_are_table : (count : ℕ) (lines : List (List ℕ)) (rows : List ℤ) → 2 ≤ count → count ≤ 5001 → rows_from count 1 (pos 0) lines ≡ Ok rows → first_fault rows ≡ None
+pub rows_are_table : (count : ℕ) (lines : List (List ℕ)) (rows : List ℤ) → 2 ≤ count → count ≤ MOST_ROWS → rows_from count 1 (pos 0) lines ≡ Ok rows → first_fault rows ≡ None
 unfolding first_fault
 rows_are_table count lines rows least most is =
     let good = rows_good count 1 (pos 0) lines rows is in

@@ -12,6 +12,7 @@ use Rattle.calc_input.specs.declared.volumes_line.Volumes.{Volumes}
 use Rattle.calc_input.specs.declared.levels_line.Levels.{Levels}
 use Rattle.calc_input.specs.declared.forms.Input.{Input}
 use Rattle.calc_input.specs.declared.forms.Input.TheVariants as forms
+use Rattle.calc_input.specs.declared.answer.TheConstants.{LIMIT}
 use Rattle.calc_input.specs.declared.refusal.Refused.{Refused}
 use Rattle.calc_input.specs.declared.refusal.Cause.{Cause}
 use Rattle.calc_input.specs.declared.refusal.Cause.TheVariants.{Form, Chain}
@@ -20,7 +21,7 @@ use Rattle.calc_input.specs.Forms.{form_of}
 
 -- an input has at most this many bytes
 abbrev pub limit : ℕ
-limit = 1048576
+limit = LIMIT
 
 -- a refusal at this line
 abbrev pub refused_at : ℕ → Cause → Refused

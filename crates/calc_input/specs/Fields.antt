@@ -1,17 +1,14 @@
 -- The words of an input line as what they stand for.
-use Rattle.std.specs.Prelude.{ℕ, ◌&&◌, Bool, true, false, if◌then◌else◌, List, [], length, Option, Some, None, codes, nat_le, nat_lt, slice_index_or, option_and_then, ℤ, pos, negsuc}
+use Rattle.std.specs.Prelude.{ℕ, ◌&&◌, Bool, true, false, if◌then◌else◌, List, [], length, Option, Some, None, codes, nat_le, nat_lt, slice_index_or, ℤ, pos, negsuc}
 use Rattle.std.specs.Int.RustNames.{unsigned_abs}
 use Rattle.std.specs.Result.{result_ok}
 use Rattle.std.specs.Str.{bytes_eq, all_ascii_digits}
 use Rattle.std.specs.Str.Parse.{digits_value}
+use Rattle.farm_base.specs.Options.{◌>>=◌}
 use Rattle.farm_fixed.specs.Range.{is_within}
 use Rattle.farm_fixed.specs.Parsing.{quantity_of}
 use Rattle.farm_fixed.specs.declared.limits.TheConstants.{MOST_COEFFICIENT, MOST_HEIGHT, MOST_LITRES, MOST_ROOF_MASS}
-
-infixl 10 ◌>>=◌
--- the next step on what the first one gives, where it gives something
-abbrev pub ◌>>=◌ : {A B : Type 0} → Option A → (A → Option B) → Option B
-o >>= f = option_and_then f o
+use Rattle.calc_input.specs.declared.fields.TheConstants.{MOST_DIGITS}
 
 -- a value that is there and in the range
 abbrev pub within : ℤ → ℤ → Option ℤ → Option ℤ
@@ -50,7 +47,7 @@ shell_of word =
 -- a number that is written as 1 to 20 decimal digits
 unfoldable pub digits_of : List ℕ → Option ℕ
 digits_of word =
-    if nat_lt 0 (length word) && nat_le (length word) 20 && all_ascii_digits word then Some (digits_value 10 word) else None
+    if nat_lt 0 (length word) && nat_le (length word) MOST_DIGITS && all_ascii_digits word then Some (digits_value 10 word) else None
 
 -- a shell's coefficient, up to 1,000 ten-millionths per C
 unfoldable pub coefficient_of : List ℕ → Option ℤ

@@ -2,11 +2,12 @@
 use Rattle.std.specs.Prelude.{ℕ, ◌==◌, ◌&&◌, if◌then◌else◌, List, length, Option, Some, None, codes, ℤ, pos, ◌≤ℤ◌}
 use Rattle.std.specs.Int.RustNames.{int_lt}
 use Rattle.std.specs.Str.{bytes_eq}
+use Rattle.farm_base.specs.Options.{◌>>=◌}
 use Rattle.farm_fixed.specs.Range.{IsWithin}
 use Rattle.farm_fixed.specs.declared.limits.TheConstants.{MOST_COEFFICIENT, MOST_ROOF_MASS}
 use Rattle.strap_table.specs.declared.tank.Roof.{Roof}
 use Rattle.calc_input.specs.declared.levels_line.Levels.{Levels}
-use Rattle.calc_input.specs.Fields.{◌>>=◌, word_at, height_of, roof_of, temperature_of, density_of, share_of, shell_of, coefficient_of}
+use Rattle.calc_input.specs.Fields.{word_at, height_of, roof_of, temperature_of, density_of, share_of, shell_of, coefficient_of}
 
 -- a roof whose critical zone isn't upside down
 abbrev pub zoned : ℤ → ℤ → ℤ → Option Roof

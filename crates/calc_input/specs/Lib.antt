@@ -1,3 +1,4 @@
+-- The definitions of `calc_input`, by subject.
 pub mod Lines
 pub mod Fields
 pub mod VolumesLine

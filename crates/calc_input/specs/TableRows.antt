@@ -3,8 +3,9 @@
 use Rattle.std.specs.Prelude.{ℕ, ◌+◌, ◌&&◌, if◌then◌else◌, zero, suc, List, [], ◌∷◌, Option, Some, None, Result, Ok, Err, nat_le, ℤ}
 use Rattle.std.specs.Int.RustNames.{int_lt}
 use Rattle.std.specs.Str.{bytes_eq}
+use Rattle.farm_base.specs.Options.{◌>>=◌}
 use Rattle.calc_input.specs.Lines.{line_at, words_of}
-use Rattle.calc_input.specs.Fields.{◌>>=◌, volume_of, digits_of}
+use Rattle.calc_input.specs.Fields.{volume_of, digits_of}
 
 -- a name and a count in a range
 abbrev pub counted : List ℕ → ℕ → ℕ → List (List ℕ) → Option ℕ

@@ -1,10 +1,11 @@
 -- The form `volumes`: one line of observed volumes.
 use Rattle.std.specs.Prelude.{ℕ, ◌==◌, ◌&&◌, if◌then◌else◌, List, length, Option, Some, None, codes, pos}
 use Rattle.std.specs.Str.{bytes_eq}
+use Rattle.farm_base.specs.Options.{◌>>=◌}
 use Rattle.farm_fixed.specs.Range.{IsWithin}
 use Rattle.farm_fixed.specs.declared.limits.TheConstants.{MOST_COEFFICIENT, MOST_LITRES, MOST_ROOF_MASS}
 use Rattle.calc_input.specs.declared.volumes_line.Volumes.{Volumes}
-use Rattle.calc_input.specs.Fields.{◌>>=◌, word_at, volume_of, roof_of, temperature_of, density_of, factor_of, share_of, shell_of, coefficient_of}
+use Rattle.calc_input.specs.Fields.{word_at, volume_of, roof_of, temperature_of, density_of, factor_of, share_of, shell_of, coefficient_of}
 
 -- the eleven fields after the name of the form
 unfoldable pub fields_of : List (List ℕ) → Option Volumes

@@ -2,6 +2,7 @@
 
 ghost use Rattle.std.specs.Prelude.{◌≡◌, ℕ, ◌+◌, ◌<◌, ◌≤◌, List, drop, length, IfOk, MatchResult, Some, None, Ok, true, false};
 ghost use Rattle.farm_base.specs.Steps.{IsRefusedAs};
+ghost use Rattle.farm_vcf.specs.declared.grid.TheConstants.{MOST_FACTORS};
 ghost use Rattle.calc_input.specs.FactorRows.{grid_from, grown_line, listed_of};
 ghost use Rattle.calc_input.specs.Forms.{refused_line};
 
@@ -19,7 +20,7 @@ pub fn grid_from(
     lines: &mut Lines<'_>,
 ) -> Result<Vcf, FormFault>
     requires some { 0 < count }
-    requires count { count ≤ 100000 }
+    requires count { count ≤ MOST_FACTORS }
     requires first { first ≤ 5003 }
     ensures grid { (all : List (List ℕ)) → lines.old ≡ drop first all → MatchResult result (λ grid. grid_from count first all ≡ Ok grid)
         (λ fault. IsRefusedAs (refused_line fault) (grid_from count first all)) }

@@ -6,9 +6,13 @@ ghost use Rattle.std.specs.Str.{all_ascii_digits};
 ghost use Rattle.std.specs.Str.Parse.{digits_value};
 ghost use Rattle.calc_input.specs.Fields.{coefficient_of, density_of, digits_of, factor_of, roof_of, shell_of, share_of, temperature_of, volume_of, height_of, word_at};
 
+use farm_base::is_all_digits;
 use farm_fixed::{
     Centi, Dens, Fac5, Kg, Litres, MOST_COEFFICIENT, MOST_LITRES, MOST_ROOF_MASS, Mm, Permil5,
 };
+
+// The most digits of a number.
+const MOST_DIGITS: usize = 20;
 
 /// A volume to calculate with.
 #[tactic(auto, unfolding(crate::specs::Fields::volume_of))]
@@ -105,27 +109,15 @@ pub fn coefficient_of(word: &[u8]) -> Option<i64>
 pub fn digits_of(word: &[u8]) -> Option<u128>
     ensures { result ≡ digits_of word.now }
 {
-    if word.is_empty() || word.len() > 20 || !is_digits(word) {
+    if word.is_empty() || word.len() > MOST_DIGITS || !is_all_digits(word) {
         return None;
     }
     Some(number_of(word))
 }
 
-// Whether each byte is a decimal digit.
-fn is_digits(word: &[u8]) -> bool
-    ensures { result ≡ all_ascii_digits word.now }
-{
-    for byte in word {
-        if !byte.is_ascii_digit() {
-            return false;
-        }
-    }
-    true
-}
-
 // The number that up to 20 decimal digits are.
 fn number_of(word: &[u8]) -> u128
-    requires length { length word.now ≤ 20 }
+    requires length { length word.now ≤ MOST_DIGITS }
     requires digits { IsTrue (all_ascii_digits word.now) }
     ensures { result ≡ digits_value 10 word.now }
 {

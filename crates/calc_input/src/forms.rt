@@ -14,9 +14,9 @@ use crate::levels_line::Levels;
 use crate::lines::{Lines, is_blank_line, words_of};
 use crate::table_rows::{counted, rows_of};
 use crate::volumes_line::Volumes;
-use farm_vcf::Vcf;
+use farm_vcf::{MOST_FACTORS, Vcf};
 use std::alloc::{AllocError, Global};
-use strap_table::CapTable;
+use strap_table::{CapTable, MOST_ROWS};
 
 /// The form `table`: levels of a tank, with its capacity table and its factors.
 #[derive(Debug, Drop)]
@@ -58,16 +58,23 @@ impl Input {
 }
 
 impl TableInput {
-    /// What the lines of the form `table` say, from the first one on, or the first line that isn't in form.
+    // What the lines of the form `table` say, from the first one on, or the first line that isn't in form.
     #[tactic(auto, unfolding(crate::specs::Forms::table_input_of))]
     fn of_lines(alloc: Global, lines: &mut Lines<'_>) -> Result<TableInput, FormFault>
         ensures form { MatchResult result (λ input. table_input_of lines.old ≡ Ok input)
             (λ fault. IsRefusedAs (refused_line fault) (table_input_of lines.old)) }
         ensures ranges { IfOk result (λ input. IsGauged input.levels) }
     {
-        let count = count_due(alloc, lines.due(), 1, b"table", 2, 5_001)?;
+        let count = count_due(alloc, lines.due(), 1, b"table", 2, MOST_ROWS as u128)?;
         let table = table_of(alloc, count, lines)?;
-        let many = count_due(alloc, lines.due(), count + 2, b"factors", 1, 100_000)?;
+        let many = count_due(
+            alloc,
+            lines.due(),
+            count + 2,
+            b"factors",
+            1,
+            MOST_FACTORS as u128,
+        )?;
         let vcf = grid_from(alloc, many, count + 2, lines)?;
         let line = count + many + 3;
         let levels = levels_due(alloc, lines.due(), line)?;
@@ -120,7 +127,7 @@ fn count_due(
     least: u128,
     most: u128,
 ) -> Result<usize, FormFault>
-    requires { most ≤ 100000 }
+    requires { most ≤ MOST_FACTORS }
     ensures count { MatchResult result (λ count. or_fault number (counted name.now least most (words_of line.now)) ≡ Ok count)
         (λ fault. IsRefusedAs (refused_line fault) (or_fault number (counted name.now least most (words_of line.now)))) }
     ensures least { IfOk result (λ count. least ≤ count) }
@@ -136,7 +143,7 @@ fn count_due(
 // The capacity table of `count` lines after the first.
 fn table_of(alloc: Global, count: usize, lines: &mut Lines<'_>) -> Result<CapTable, FormFault>
     requires least { 2 ≤ count }
-    requires most { count ≤ 5001 }
+    requires most { count ≤ MOST_ROWS }
     ensures rows { (all : List (List ℕ)) → lines.old ≡ drop 1 all → MatchResult result (λ table. rows_from count 1 (pos 0) all ≡ Ok table)
         (λ fault. IsRefusedAs (refused_line fault) (rows_from count 1 (pos 0) all)) }
     ensures rest { IfOk result (λ _. lines.new ≡ drop count lines.old) }

@@ -3,6 +3,7 @@
 ghost use Rattle.std.specs.Prelude.{◌≡◌, ℕ, ◌≤◌, List, drop, map, pos, IfOk, IfSome, MatchResult, Ok};
 ghost use Rattle.farm_base.specs.Steps.{IsRefusedAs};
 ghost use Rattle.farm_base.specs.Bytes.{is_blank};
+ghost use Rattle.strap_table.specs.declared.faults.TheConstants.{MOST_ROWS};
 ghost use Rattle.calc_input.specs.Lines.{words_of};
 ghost use Rattle.calc_input.specs.Forms.{refused_line};
 ghost use Rattle.calc_input.specs.TableRows.{counted, row_of, rows_from, volume_in};
@@ -35,7 +36,7 @@ pub fn counted(words: &[&[u8]], name: &[u8], least: u128, most: u128) -> Option<
 
 /// The volumes of a capacity table: this many lines after the first.
 pub fn rows_of(alloc: Global, count: usize, lines: &mut Lines<'_>) -> Result<Vec<i64>, FormFault>
-    requires { count ≤ 5001 }
+    requires { count ≤ MOST_ROWS }
     ensures rows { (all : List (List ℕ)) → lines.old ≡ drop 1 all → MatchResult result (λ rows. rows_from count 1 (pos 0) all ≡ Ok rows.items)
         (λ fault. IsRefusedAs (refused_line fault) (rows_from count 1 (pos 0) all)) }
     ensures rest { IfOk result (λ _. lines.new ≡ drop count lines.old) }

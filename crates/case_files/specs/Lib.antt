@@ -1,1 +1,2 @@
+-- The definitions of `case_files`, by subject.
 pub mod Texts

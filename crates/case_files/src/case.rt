@@ -150,7 +150,7 @@ impl<'a> FailingCalls<'a> {
 pub struct Changes<'a> {
     /// Files that the folder has besides, or in place of the site's: a text at each name.
     pub files: Option<&'a Table>,
-    /// Files of the site that the folder hasn't.
+    /// Files of the site that the folder doesn't have.
     pub drop: &'a [Value],
     /// Texts in files, each standing once, and what stands in their place: file, old text, new text.
     pub replace: &'a [Value],

@@ -5,7 +5,7 @@ use farm_ports::{Folder, PortFault};
 use std::alloc::Global;
 use toml::Table;
 
-/// A file of the folder of the cases has at most this many bytes that are read.
+// A file of the folder of the cases has at most this many bytes that are read.
 const LONGEST_FILE: usize = 16_777_216;
 
 /// The bytes of a file.

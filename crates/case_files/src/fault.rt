@@ -22,10 +22,10 @@ pub enum CaseFault {
     /// What stands at a key, or in its list, has another type, or is a number outside the key's range.
     #[error("the value of {0} has the wrong type")]
     WrongType(String),
-    /// The case names a site that the list of sites hasn't.
+    /// The case names a site that isn't in the list of sites.
     #[error("there is no site {0}")]
     NoSite(String),
-    /// The case drops, or replaces a text in, a file that its folder hasn't.
+    /// The case drops, or replaces a text in, a file that its folder doesn't have.
     #[error("there is no file {0}")]
     NoFile(String),
     /// A text to be replaced doesn't stand once in its file.

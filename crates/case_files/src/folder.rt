@@ -13,7 +13,7 @@ use farm_ports::{Files, Folder};
 use std::alloc::Global;
 use toml::Value;
 
-/// A file by its name.
+// A file by its name.
 type NamedFile = (String, Vec<u8>);
 
 /// The folder of a run: the files of its site with these changes, whose reads fail that are to fail; without a site it begins empty.
@@ -63,7 +63,7 @@ fn site_files<'a>(alloc: Global, sites: &'a Sites, site: &str) -> Result<&'a [Va
     }
 }
 
-// Refuses a dropped file that the site hasn't.
+// Refuses a dropped file that the site doesn't have.
 fn check_dropped(alloc: Global, names: &[String], dropped: &[Value]) -> Result<(), CaseFault> {
     for name in &texts_of(alloc, "drop", dropped)? {
         if !names.contains(name) {

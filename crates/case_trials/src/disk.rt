@@ -12,7 +12,7 @@ use farm_ports::Folder;
 use std::alloc::Global;
 use toml::{Table, Value};
 
-/// The words of the run that makes the journal of a site.
+// The words of the run that makes the journal of a site.
 const MAKING: &str = "words = ['init', '--site=s', '--journal=j']";
 
 /// The disk of a case, before the case runs.

@@ -1,1 +1,2 @@
+-- The lemmas of `command_line`, by topic.
 pub mod Fronts

@@ -1,2 +1,3 @@
+-- The definitions of `command_line`, by subject.
 pub mod Options
 pub mod Commands

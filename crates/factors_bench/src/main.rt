@@ -5,7 +5,7 @@ use farm_ports::{StdSource, read_up_to};
 use farm_vcf::Vcf;
 use std::process::ExitCode;
 
-/// A file has at most this many bytes.
+// A file has at most this many bytes.
 const LIMIT: usize = 16_777_216;
 
 fn main(rt: HostRuntime) -> ExitCode {

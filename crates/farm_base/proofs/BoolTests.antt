@@ -1,5 +1,5 @@
 -- Tests: what their answers say of numbers, and of two tests at once. Those that std states are handed on from here.
-use Rattle.std.proofs.Common.{◌≡◌, Bool, true, false, cond, Option, Some, None, ℤ, ◌≤ℤ◌, int_lt, refl, arith}
+use Rattle.std.proofs.Common.{◌≡◌, Bool, true, false, cond, Option, Some, None, ℤ, ◌<ℤ◌, ◌≤ℤ◌, int_lt, refl, arith}
 use Rattle.std.proofs.lemmas.Int.{ints}
 -- less: `nat_lt a b ≡ true → a < b`
 pub use Rattle.std.proofs.lemmas.Bool.{ltb-true}
@@ -33,6 +33,10 @@ passes false fault rest none = cc
 pub passes_not : {A : Type 0} (test : Bool) (fault : A) (rest : Option A) → cond test (Some fault) rest ≡ None → (test ≡ false) × (rest ≡ None)
 passes_not true fault rest none = cc
 passes_not false fault rest none = (refl, none)
+
+-- a whole number that tests as less than another is less
+pub int_lt-true : (a b : ℤ) → int_lt a b ≡ true → a <ℤ b
+int_lt-true a b test = grind (arith, ints)
 
 -- a whole number that isn't less than another is at least that
 pub int_lt-false : (a b : ℤ) → int_lt a b ≡ false → b ≤ℤ a

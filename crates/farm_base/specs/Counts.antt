@@ -24,6 +24,10 @@ pub record Count : Type 0 where
   pub before : ℕ
   pub now : ℕ
 
+-- a port's count before and after, by what the port counts
+abbrev pub count_of : {P : Type 0} → (P → ℕ) → P → P → Count
+count_of faults old new = record { before = faults old; now = faults new }
+
 -- the count rose in the call
 abbrev pub HasRisen : Count → Type 0
 HasRisen count = Rose count.before count.now

@@ -6,7 +6,7 @@ use Rattle.farm_base.specs.Counts.{Count, HasRisen, IsQuiet, Rose}
 use Rattle.farm_base.specs.Known.{Adds, Stream, Takes}
 use Rattle.farm_base.proofs.Additions.{additions_add_up}
 use Rattle.batch_lines.specs.Lines.{HasByteTooMany}
-use Rattle.batch_lines.specs.Reader.{AtEnd, Reading, ReadsLast, ReadsLine, ReadsNothing, ReadsTooMuch}
+use Rattle.batch_lines.specs.Reader.{AtEnd, ReaderState, ReadsLast, ReadsLine, ReadsNothing, ReadsTooMuch}
 use Rattle.farm_desk.specs.States.{DeskState}
 use Rattle.farm_batch.specs.declared.batch.BatchEnd.{BatchEnd}
 use Rattle.farm_batch.specs.declared.batch.BatchEnd.TheVariants.{Done, Long, Failed}
@@ -19,7 +19,7 @@ use Rattle.farm_batch.proofs.Taken.{IsTaken, read_line, taken_last, taken_on, ta
 
 -- The batch ends after the steps so far, and asks none more.
 ends : {D : Type 0} {faults : D → ℕ} {may_give : ℤ → Type 0} {limit : ℕ} {before after : DeskState D} {from between to : Option Stream} {source source_now : Count}
-    {old new : Option (List ℕ)} {sink sink_now : Count} {reading : Reading} {number : ℕ} {end : BatchEnd} (in_hand : List ℕ) →
+    {old new : Option (List ℕ)} {sink sink_now : Count} {reading : ReaderState} {number : ℕ} {end : BatchEnd} (in_hand : List ℕ) →
     (so_far : SoFar faults may_give limit before after from between source old new sink reading number) → number ≤ MOST_LINES + 1 →
     IsTaken from to (lines_of so_far.steps) in_hand → EndsAs in_hand to so_far.steps source_now sink_now end →
     (end ≢ Failed → IsQuiet source_now × IsQuiet sink_now) →
@@ -43,7 +43,7 @@ ends {D} {faults} {may_give} {limit} {before} {after} {from} {between} {to} in_h
 
 -- The batch ends with a step after those so far.
 ends_with : {D : Type 0} {faults : D → ℕ} {may_give : ℤ → Type 0} {limit : ℕ} {before middle after : DeskState D} {from between to : Option Stream} {source source_now : Count}
-    {old held new : Option (List ℕ)} {sink sink_now : Count} {reading : Reading} {number : ℕ} {end : BatchEnd} {line : List ℕ} (in_hand : List ℕ)
+    {old held new : Option (List ℕ)} {sink sink_now : Count} {reading : ReaderState} {number : ℕ} {end : BatchEnd} {line : List ℕ} (in_hand : List ℕ)
     (step : Step) → (so_far : SoFar faults may_give limit before middle from between source old held sink reading number) → number ≤ MOST_LINES →
     WithStep faults may_give limit before after so_far.steps step line → IsTaken from to (lines_of so_far.steps ++ line ∷ []) in_hand →
     Adds old new (answers_text (so_far.steps ++ step ∷ [])) ⊎ ((end ≡ Failed) × HasRisen sink_now × (bytes : List ℕ)
@@ -74,7 +74,7 @@ ends_with {D} {faults} {may_give} {limit} {before} {middle} {after} {from} {betw
 
 -- The batch ends with the answer to a line, or where it can't be put.
 ends_by : {D : Type 0} {faults : D → ℕ} {may_give : ℤ → Type 0} {limit : ℕ} {before middle after : DeskState D} {from between to : Option Stream} {source source_now : Count}
-    {old held new : Option (List ℕ)} {start stop now : ℕ} {reading : Reading} {number : ℕ} (end : BatchEnd) (line in_hand : List ℕ) →
+    {old held new : Option (List ℕ)} {start stop now : ℕ} {reading : ReaderState} {number : ℕ} (end : BatchEnd) (line in_hand : List ℕ) →
     (so_far : SoFar faults may_give limit before middle from between source old held (counts start stop) reading number) → number ≤ MOST_LINES →
     Answers faults may_give limit middle after line held new (counts stop now) (Some end) →
     IsTaken from to (lines_of so_far.steps ++ line ∷ []) in_hand → (end ≢ Failed → IsQuiet source_now × IsQuiet (counts start now)) →
@@ -98,7 +98,7 @@ ends_by {old = old} {held = held} {new = new} {start = start} {stop = stop} {now
 
 -- The batch ends with a line and its line feed.
 pub ends_at_line : {D : Type 0} {faults : D → ℕ} {may_give : ℤ → Type 0} {limit : ℕ} {before middle after : DeskState D} {from between to : Option Stream} {source source_now : Count}
-    {old held new : Option (List ℕ)} {start stop now : ℕ} {reading next_reading : Reading} {number : ℕ} (end : BatchEnd) →
+    {old held new : Option (List ℕ)} {start stop now : ℕ} {reading next_reading : ReaderState} {number : ℕ} (end : BatchEnd) →
     (so_far : SoFar faults may_give limit before middle from between source old held (counts start stop) reading number) → number ≤ MOST_LINES →
     (reads : ReadsLine reading next_reading between to) → Answers faults may_give limit middle after reads.line held new (counts stop now) (Some end) →
     (end ≢ Failed → IsQuiet source_now × IsQuiet (counts start now)) →
@@ -108,7 +108,7 @@ ends_at_line {next_reading = next_reading} end so_far few reads answers quiet =
 
 -- The batch ends with the last line, which has no line feed.
 pub ends_at_last : {D : Type 0} {faults : D → ℕ} {may_give : ℤ → Type 0} {limit : ℕ} {before middle after : DeskState D} {from between to : Option Stream} {source source_now : Count}
-    {old held new : Option (List ℕ)} {start stop now : ℕ} {reading next_reading : Reading} {number : ℕ} (answered : Option BatchEnd) (end : BatchEnd) →
+    {old held new : Option (List ℕ)} {start stop now : ℕ} {reading next_reading : ReaderState} {number : ℕ} (answered : Option BatchEnd) (end : BatchEnd) →
     (so_far : SoFar faults may_give limit before middle from between source old held (counts start stop) reading number) → number ≤ MOST_LINES →
     (reads : ReadsLast reading next_reading between to) → Answers faults may_give limit middle after reads.line held new (counts stop now) answered →
     option_or answered (Some Done) ≡ Some end → (end ≢ Failed → IsQuiet source_now × IsQuiet (counts start now)) →
@@ -134,7 +134,7 @@ ends_at_last {D} {faults} {may_give} {limit} {before} {middle} {after} {from} {b
 
 -- The batch ends where the source does.
 pub ends_at_end : {D : Type 0} {faults : D → ℕ} {may_give : ℤ → Type 0} {limit : ℕ} {before after : DeskState D} {from between to : Option Stream} {source source_now : Count}
-    {old new : Option (List ℕ)} {sink sink_now : Count} {reading next_reading : Reading} {number : ℕ} →
+    {old new : Option (List ℕ)} {sink sink_now : Count} {reading next_reading : ReaderState} {number : ℕ} →
     (so_far : SoFar faults may_give limit before after from between source old new sink reading number) → number ≤ MOST_LINES →
     ReadsNothing reading next_reading between to → IsQuiet source_now → IsQuiet sink_now →
     Batch faults may_give limit before after from to source_now old new sink_now Done
@@ -145,7 +145,7 @@ ends_at_end {to = to} {reading = reading} so_far few reads source_quiet sink_qui
 
 -- The batch ends at a line that holds a byte too many.
 pub ends_too_long : {D : Type 0} {faults : D → ℕ} {may_give : ℤ → Type 0} {limit : ℕ} {before after : DeskState D} {from between to : Option Stream} {source source_now : Count}
-    {old new : Option (List ℕ)} {sink sink_now : Count} {reading : Reading} {number : ℕ} →
+    {old new : Option (List ℕ)} {sink sink_now : Count} {reading : ReaderState} {number : ℕ} →
     (so_far : SoFar faults may_give limit before after from between source old new sink reading number) → number ≤ MOST_LINES →
     ReadsTooMuch reading between to → IsQuiet source_now → IsQuiet sink_now →
     Batch faults may_give limit before after from to source_now old new sink_now (Long number)
@@ -157,7 +157,7 @@ ends_too_long {reading = reading} so_far few reads source_quiet sink_quiet =
 
 -- The batch ends where the source fails.
 pub ends_at_fault : {D : Type 0} {faults : D → ℕ} {may_give : ℤ → Type 0} {limit : ℕ} {before after : DeskState D} {from between to : Option Stream} {start stop now : ℕ}
-    {old new : Option (List ℕ)} {sink sink_now : Count} {reading : Reading} {number : ℕ} →
+    {old new : Option (List ℕ)} {sink sink_now : Count} {reading : ReaderState} {number : ℕ} →
     (so_far : SoFar faults may_give limit before after from between (counts start stop) old new sink reading number) → number ≤ MOST_LINES + 1 →
     (more : List ℕ) → Takes between to more → Rose stop now →
     Batch faults may_give limit before after from to (counts start now) old new sink_now Failed
@@ -167,7 +167,7 @@ ends_at_fault {start = start} {stop = stop} {now = now} {reading = reading} so_f
 
 -- The batch ends at the line after as many as there may be.
 pub ends_too_many : {D : Type 0} {faults : D → ℕ} {may_give : ℤ → Type 0} {limit : ℕ} {before after : DeskState D} {from between to : Option Stream} {source source_now : Count}
-    {old new : Option (List ℕ)} {sink sink_now : Count} {reading : Reading} {number : ℕ} →
+    {old new : Option (List ℕ)} {sink sink_now : Count} {reading : ReaderState} {number : ℕ} →
     (so_far : SoFar faults may_give limit before after from between source old new sink reading number) → number ≡ MOST_LINES + 1 →
     (more : List ℕ) → Takes between to more → reading.in_hand ++ more ≢ [] → IsQuiet source_now → IsQuiet sink_now →
     Batch faults may_give limit before after from to source_now old new sink_now (Long (MOST_LINES + 1))
@@ -178,7 +178,7 @@ ends_too_many {reading = reading} so_far all more moved some source_quiet sink_q
 
 -- The batch ends where the source does, after as many lines as there may be.
 pub ends_at_most : {D : Type 0} {faults : D → ℕ} {may_give : ℤ → Type 0} {limit : ℕ} {before after : DeskState D} {from between to : Option Stream} {source source_now : Count}
-    {old new : Option (List ℕ)} {sink sink_now : Count} {reading : Reading} {number : ℕ} →
+    {old new : Option (List ℕ)} {sink sink_now : Count} {reading : ReaderState} {number : ℕ} →
     (so_far : SoFar faults may_give limit before after from between source old new sink reading number) → number ≡ MOST_LINES + 1 →
     Takes between to [] → reading.in_hand ≡ [] → AtEnd to → IsQuiet source_now → IsQuiet sink_now →
     Batch faults may_give limit before after from to source_now old new sink_now Done

@@ -1,7 +1,7 @@
 -- What a batch keeps of a desk over one line after another.
 use Rattle.std.proofs.Common.{ℕ, List, Option, refl, ◌∙◌, arith}
 use Rattle.farm_disk.specs.Images.{State}
-use Rattle.farm_journal.proofs.MakingSteps.{extends_more}
+use Rattle.farm_disk.proofs.Extending.{extends_more}
 use Rattle.farm_records.proofs.Traces.{extends_same}
 use Rattle.farm_desk.specs.States.{DeskState}
 use Rattle.farm_batch.specs.Desks.{KeepsDesk}

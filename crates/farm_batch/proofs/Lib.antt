@@ -1,3 +1,4 @@
+-- The lemmas of `farm_batch`, by topic.
 pub mod LineParts
 pub mod Meant
 pub mod Pages

@@ -1,10 +1,11 @@
 -- A batch so far, and how it goes on.
-use Rattle.std.proofs.Common.{◌≡◌, ℕ, ◌+◌, ◌≤◌, All, false, List, [], ◌∷◌, ◌++◌, length, Option, None, Some, ℤ, refl, sym, ap, subst, ◌∙◌, append-nil, arith}
+use Rattle.std.proofs.Common.{◌≡◌, ℕ, ◌+◌, ◌≤◌, All, false, List, [], ◌∷◌, ◌++◌, length, Option, None, ℤ, refl, sym, ap, subst, ◌∙◌, arith}
 use Rattle.std.proofs.lemmas.List.Elements.{All-nil}
+use Rattle.farm_base.proofs.Known.{adds_none}
 use Rattle.farm_base.specs.Counts.{Count, IsQuiet, Rose, raised}
 use Rattle.farm_base.specs.Known.{Adds, Stream}
 use Rattle.farm_base.proofs.Additions.{additions_add_up}
-use Rattle.batch_lines.specs.Reader.{Reading, ReadsLine}
+use Rattle.batch_lines.specs.Reader.{ReaderState, ReadsLine}
 use Rattle.farm_records.specs.Histories.{certain}
 use Rattle.farm_desk.specs.States.{DeskState}
 use Rattle.farm_history.specs.History.{History, last_place}
@@ -16,7 +17,7 @@ use Rattle.farm_batch.proofs.Taken.{IsRead, read_line, read_none}
 
 -- The batch so far: the lines that were asked, of which none ended it, what was read and what was put. The line of this number is next.
 pub record SoFar {D : Type 0} (faults : D → ℕ) (may_give : ℤ → Type 0) (limit : ℕ) (before after : DeskState D) (from to : Option Stream) (source : Count)
-    (old new : Option (List ℕ)) (sink : Count) (reading : Reading) (number : ℕ) : Type 0 where
+    (old new : Option (List ℕ)) (sink : Count) (reading : ReaderState) (number : ℕ) : Type 0 where
   pub steps : List Step
   pub answered : AnswersEach may_give limit before.history steps
   pub goes_on : GoesOn steps
@@ -35,14 +36,9 @@ pub record SoFar {D : Type 0} (faults : D → ℕ) (may_give : ℤ → Type 0) (
 abbrev pub counts : ℕ → ℕ → Count
 counts before now = record { before = before; now = now }
 
--- nothing is added to what stays
-adds_none : (held : Option (List ℕ)) → Adds held held []
-adds_none None = tt
-adds_none (Some held) = sym (append-nil held)
-
 -- the batch before its first line
 pub at_start : {D : Type 0} (faults : D → ℕ) (may_give : ℤ → Type 0) (limit : ℕ) (desk : DeskState D) (from : Option Stream) (source_faults : ℕ) (old : Option (List ℕ))
-    (sink_faults : ℕ) (reading : Reading) → reading.in_hand ≡ [] → reading.passed ≡ 0 →
+    (sink_faults : ℕ) (reading : ReaderState) → reading.in_hand ≡ [] → reading.passed ≡ 0 →
     SoFar faults may_give limit desk desk from from (counts source_faults source_faults) old old (counts sink_faults sink_faults) reading 1
 at_start faults may_give limit desk from source_faults old sink_faults reading in_hand passed =
     record {
@@ -73,7 +69,7 @@ pub record WithStep {D : Type 0} (faults : D → ℕ) (may_give : ℤ → Type 0
 
 -- a line was answered after those so far
 pub with_step : {D : Type 0} {faults : D → ℕ} {may_give : ℤ → Type 0} {limit : ℕ} {before middle after : DeskState D} {from between : Option Stream} {source : Count}
-    {old held new : Option (List ℕ)} {sink sink_step : Count} {reading : Reading} {number : ℕ} {line : List ℕ} {end : Option BatchEnd} →
+    {old held new : Option (List ℕ)} {sink sink_step : Count} {reading : ReaderState} {number : ℕ} {line : List ℕ} {end : Option BatchEnd} →
     (so_far : SoFar faults may_give limit before middle from between source old held sink reading number) →
     (answers : Answers faults may_give limit middle after line held new sink_step end) →
     WithStep faults may_give limit before after so_far.steps answers.step line
@@ -109,7 +105,7 @@ risen_since before middle now quiet rose = subst (λ (count : ℕ). Rose count n
 
 -- The batch goes on after a line.
 pub goes_on : {D : Type 0} {faults : D → ℕ} {may_give : ℤ → Type 0} {limit : ℕ} {before middle after : DeskState D} {from between to : Option Stream}
-    {source source_now : Count} {old held new : Option (List ℕ)} {sink sink_step sink_now : Count} {reading next_reading : Reading} {number : ℕ} →
+    {source source_now : Count} {old held new : Option (List ℕ)} {sink sink_step sink_now : Count} {reading next_reading : ReaderState} {number : ℕ} →
     (so_far : SoFar faults may_give limit before middle from between source old held sink reading number) →
     (reads : ReadsLine reading next_reading between to) →
     Answers faults may_give limit middle after reads.line held new sink_step None → IsQuiet source_now → IsQuiet sink_now →

@@ -1,16 +1,17 @@
 -- What was taken of a source, cut into lines.
-use Rattle.std.proofs.Common.{◌≡◌, inl, inr, ℕ, ◌+◌, ◌≤◌, All, List, [], ◌∷◌, ◌++◌, length, Option, None, Some, refl, sym, ap, ◌∙◌, append_assoc, append-nil, arith, length-append}
+use Rattle.std.proofs.Common.{◌≡◌, inl, inr, ℕ, ◌+◌, ◌≤◌, All, List, [], ◌∷◌, ◌++◌, length, Option, refl, sym, ap, ◌∙◌, append_assoc, arith, length-append}
 use Rattle.std.proofs.lemmas.List.Elements.{All-append, All-cons, All-nil}
+use Rattle.farm_base.proofs.Known.{takes_none}
 use Rattle.farm_base.specs.Known.{Stream, Takes}
 use Rattle.farm_base.proofs.Additions.{takings_add_up}
 use Rattle.batch_lines.specs.declared.limits.TheConstants.{LINE_FEED, MOST_BYTES}
 use Rattle.batch_lines.specs.Lines.{BeginsWith, IsOneLine, ended}
-use Rattle.batch_lines.specs.Reader.{Reading, ReadsLast, ReadsLine}
+use Rattle.batch_lines.specs.Reader.{ReaderState, ReadsLast, ReadsLine}
 use Rattle.farm_batch.specs.Batches.{TakesLines}
 use Rattle.farm_batch.proofs.MoreSteps.{ended-more}
 
 -- what was taken is these lines, each with its line feed, and what a reader has in hand
-pub record IsRead (from to : Option Stream) (lines : List (List ℕ)) (reading : Reading) : Type 0 where
+pub record IsRead (from to : Option Stream) (lines : List (List ℕ)) (reading : ReaderState) : Type 0 where
   pub taken : List ℕ
   pub moved : Takes from to taken
   pub begins : BeginsWith taken lines reading.in_hand
@@ -24,13 +25,8 @@ pub record IsTaken (from to : Option Stream) (lines : List (List ℕ)) (in_hand 
   pub takes : TakesLines taken in_hand to lines
   pub short : length taken ≤ MOST_BYTES + length in_hand
 
--- nothing is taken of a stream that stays
-pub takes_none : (stream : Option Stream) → Takes stream stream []
-takes_none None = tt
-takes_none (Some stream) = record { taken = sym (append-nil stream.taken); left = refl }
-
 -- nothing was read at the start
-pub read_none : (from : Option Stream) (reading : Reading) → reading.in_hand ≡ [] → reading.passed ≡ 0 → IsRead from from [] reading
+pub read_none : (from : Option Stream) (reading : ReaderState) → reading.in_hand ≡ [] → reading.passed ≡ 0 → IsRead from from [] reading
 read_none from reading in_hand passed =
     record {
       taken = [];
@@ -62,7 +58,7 @@ length-ended-more lines line =
     omega (arith, more, length-append (ended lines) (line ++ LINE_FEED ∷ []), length-append line (LINE_FEED ∷ []))
 
 -- a line was read, and its line feed
-pub read_line : {from middle to : Option Stream} {lines : List (List ℕ)} {old new : Reading} → IsRead from middle lines old →
+pub read_line : {from middle to : Option Stream} {lines : List (List ℕ)} {old new : ReaderState} → IsRead from middle lines old →
     (reads : ReadsLine old new middle to) → IsRead from to (lines ++ reads.line ∷ []) new
 read_line {from} {middle} {to} {lines} {old} {new} read reads =
     record {
@@ -78,7 +74,7 @@ length-begins : (text : List ℕ) (lines : List (List ℕ)) (rest : List ℕ) �
 length-begins text lines rest begins = ap length begins.split ∙ length-append (ended lines) rest
 
 -- what was read is taken
-pub taken_read : {from to : Option Stream} {lines : List (List ℕ)} {reading : Reading} → IsRead from to lines reading →
+pub taken_read : {from to : Option Stream} {lines : List (List ℕ)} {reading : ReaderState} → IsRead from to lines reading →
     IsTaken from to lines reading.in_hand
 taken_read {from} {to} {lines} {reading} read =
     record {
@@ -89,7 +85,7 @@ taken_read {from} {to} {lines} {reading} read =
     }
 
 -- what is taken after that is in hand
-pub taken_on : {from middle to : Option Stream} {lines : List (List ℕ)} {reading : Reading} (more : List ℕ) → IsRead from middle lines reading →
+pub taken_on : {from middle to : Option Stream} {lines : List (List ℕ)} {reading : ReaderState} (more : List ℕ) → IsRead from middle lines reading →
     Takes middle to more → IsTaken from to lines (reading.in_hand ++ more)
 taken_on {from} {middle} {to} {lines} {reading} more read then =
     let begins : BeginsWith (read.taken ++ more) lines (reading.in_hand ++ more) = record {
@@ -104,7 +100,7 @@ taken_on {from} {middle} {to} {lines} {reading} more read then =
     }
 
 -- a line was read that has no line feed after it
-pub taken_last : {from middle to : Option Stream} {lines : List (List ℕ)} {old new : Reading} → IsRead from middle lines old →
+pub taken_last : {from middle to : Option Stream} {lines : List (List ℕ)} {old new : ReaderState} → IsRead from middle lines old →
     (reads : ReadsLast old new middle to) → IsTaken from to (lines ++ reads.line ∷ []) []
 taken_last {from} {middle} {to} {lines} {old} {new} read reads =
     let begins : BeginsWith (read.taken ++ reads.taken) lines reads.line = record {

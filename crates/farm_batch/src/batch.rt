@@ -1,11 +1,11 @@
 //! The lines of a batch, one after another.
 
 ghost use Rattle.std.specs.Prelude.{◌≡◌, ◌≢◌, ◌≤◌, ℕ, List, Some, option_map, IfOk, IsFalse, IsTrue, OnErr, OnOk};
-ghost use Rattle.farm_base.specs.Counts.{HasCause};
+ghost use Rattle.farm_base.specs.Counts.{HasCause, count_of};
 ghost use Rattle.farm_http.specs.Answers.{IsAnswer};
 ghost use Rattle.farm_batch.specs.Answers.{answer_text, disk_fault};
 ghost use Rattle.farm_batch.specs.Desks.{KeepsDesk};
-ghost use Rattle.batch_lines.specs.Reader.{count_of, kept};
+ghost use Rattle.batch_lines.specs.Reader.{kept};
 ghost use Rattle.farm_batch.specs.Batches.{Answers, Batch, PutsPage};
 
 use crate::answers::answer;
@@ -18,9 +18,9 @@ use farm_http::{Page, body};
 use farm_ports::{Clock, Failed, Sink, Source, put_all};
 use std::alloc::Global;
 
-/// The answer of a line for which there is no memory, with its line feed.
+// The answer of a line for which there is no memory, with its line feed.
 const OUT_OF_MEMORY: &[u8] = b"{\"error\":507}\n";
-/// The answer of a line in which the disk failed, with its line feed.
+// The answer of a line in which the disk failed, with its line feed.
 const DISK_FAULT: &[u8] = b"{\"error\":503}\n";
 
 /// How a batch ended.

@@ -1,9 +1,10 @@
 -- A book stays sound with one entry more, and has the moment of its last entry.
-use Rattle.std.proofs.Common.{◌≡◌, ◌⊎◌, inl, inr, ℕ, suc, take, drop, get_or, ◌+◌, ◌-◌, ◌<◌, ◌≤◌, Bool, true, false, List, [], ◌∷◌, ◌++◌, length, Option, Some, None, ℤ, refl, arith, ap, sym, ◌∙◌, length-append}
+use Rattle.std.proofs.Common.{◌≡◌, ℕ, suc, take, drop, get_or, ◌+◌, ◌-◌, ◌<◌, ◌≤◌, Bool, true, false, List, [], ◌∷◌, ◌++◌, length, Option, Some, None, ℤ, refl, arith, ap, sym, ◌∙◌, length-append}
 use Rattle.std.specs.Prelude.{if◌then◌else◌, option_and_then, option_map, slice_get}
 use Rattle.std.proofs.Math.Seq.{split_at}
 use native.Mathlib.Numerals.{unary_clauses}
 use Rattle.std.proofs.lemmas.Bool.Decides.{nat_tests}
+use Rattle.farm_base.proofs.Steps.{or_else-none}
 use Rattle.farm_base.specs.Steps.{or_else}
 use Rattle.farm_site.specs.Described.{Described}
 use Rattle.farm_history.specs.declared.command.Command.{Command}
@@ -20,37 +21,10 @@ use Rattle.farm_history.specs.History.{History, empty_history, last_place, momen
 use Rattle.farm_history.specs.Rules.{broken_by_command, broken_by_movement, broken_by_names, broken_by_ticket, broken_rule, out_of_range, refused_gauging, unknown_tank, history_full, is_full, key_reused}
 use Rattle.farm_history.specs.Sites.{AreComputable, AreRising}
 use Rattle.farm_history.specs.Verdicts.{IsLegal, IsNext, verdict}
-use Rattle.farm_history.proofs.Accepted.{both_none, unbroken}
+use Rattle.farm_history.proofs.Accepted.{unbroken}
+use Rattle.farm_history.proofs.Legal.{empty_is_legal, with_next}
 use Rattle.farm_entries.specs.Pasts.{IsInRange, IsReadable}
 use Rattle.farm_book.specs.Kept.{IsSound}
-
--- entries with one among them aren't none
-some_entries : (front : List Entry) (here : Entry) (back : List Entry) → [] ≡ front ++ here ∷ back → ⊥
-some_entries [] here back is = cc
-some_entries (first ∷ front) here back is = cc
-
--- a place among entries and one more is that one's, or a place among the entries
-place_of_more : (entries : List Entry) (entry : Entry) (front : List Entry) (here : Entry) (back : List Entry) →
-    entries ++ entry ∷ [] ≡ front ++ here ∷ back →
-    ((front ≡ entries) × (here ≡ entry)) ⊎ ((rest : List Entry) × (entries ≡ front ++ here ∷ rest))
-place_of_more [] entry [] here back is = inl (refl, cc)
-place_of_more [] entry (first ∷ front) here back is = absurd (some_entries front here back (cc))
-place_of_more (other ∷ entries) entry [] here back is = inr (entries, cc)
-place_of_more (other ∷ entries) entry (first ∷ front) here back is = elim (place_of_more entries entry front here back (cc)) [
-  | inl last ↦ let same : front ≡ entries = last.0 in inl (cc, last.1)
-  | inr among ↦ let split : entries ≡ front ++ here ∷ among.0 = among.1 in inr (among.0, cc)
-]
-
--- a history without entries is legal
-legal_empty : (limit : ℕ) (site : Described) → IsLegal limit (empty_history site)
-legal_empty limit site front back here is = absurd (some_entries front here back is)
-
--- a legal history with an entry that could come next is legal
-legal_more : (limit : ℕ) (history : History) (entry : Entry) → IsLegal limit history → IsNext limit history entry → IsLegal limit (with_entry history entry)
-legal_more limit history entry legal next front back here is = elim (place_of_more history.entries entry front here back is) [
-  | inl last ↦ rw (last.0, last.1) next
-  | inr among ↦ legal front among.0 here among.1
-]
 
 -- a history that isn't full
 not_full : (full : Bool) → (if full then Some HistoryFull else None) ≡ None → full ≡ false
@@ -68,8 +42,8 @@ unfolding broken_rule
 room_and_command limit history entry accepted =
     let full : Option Rule = history_full limit history entry.cmd in
     let command : Option Rule = broken_by_command history entry.cmd in
-    let later = both_none (key_reused history entry) (or_else full command) (unbroken limit history entry accepted) in
-    both_none full command later.1
+    let later = or_else-none (key_reused history entry) (or_else full command) (unbroken limit history entry accepted) in
+    or_else-none full command later.1
 
 -- an entry is accepted only where the history has fewer entries than it may have
 room_of_accepted : (limit : ℕ) (history : History) (entry : Entry) → verdict limit history entry ≡ Accept →
@@ -94,10 +68,10 @@ fields_and_movements history command none =
     let after : Option Rule = or_else gauging moving in
     let ranges : Option Rule = option_map OutOfRange (first_bad_field command) in
     let parties : Option Rule = or_else (unknown_party history command) (or_else ranges after) in
-    let with_tanks = (both_none (unknown_tank history command) parties none).1 in
-    let with_party = (both_none (unknown_party history command) (or_else ranges after) with_tanks).1 in (
-      no_field (first_bad_field command) (both_none ranges after with_party).0,
-      (both_none gauging moving (both_none ranges after with_party).1).1,
+    let with_tanks = (or_else-none (unknown_tank history command) parties none).1 in
+    let with_party = (or_else-none (unknown_party history command) (or_else ranges after) with_tanks).1 in (
+      no_field (first_bad_field command) (or_else-none ranges after with_party).0,
+      (or_else-none gauging moving (or_else-none ranges after with_party).1).1,
     )
 
 -- a command that breaks no rule on movements gives no tank twice
@@ -107,7 +81,7 @@ gives_two_tanks history command none =
     let names : Option Rule = or_else (broken_by_names history command) (broken_by_ticket history command) in
     let movements : Option Rule = or_else (no_movement history command) names in
     let products : Option Rule = or_else (other_product history command) (or_else (tank_busy history command) movements) in
-    (both_none (same_tank command) products none).0
+    (or_else-none (same_tank command) products none).0
 
 -- an entry that could come next is in range
 next_in_range : (limit : ℕ) (history : History) (entry : Entry) → IsNext limit history entry → IsInRange entry
@@ -129,7 +103,7 @@ sound_readable limit history sound = record {
 -- a history without entries is sound
 pub sound_empty : (limit : ℕ) (site : Described) → limit ≤ GREATEST_LIMIT → AreComputable site → AreRising site → IsSound limit (empty_history site)
 sound_empty limit site within computable rising =
-    record { limit_within = within; legal = legal_empty limit site; few = omega arith; computable = computable; rising = rising }
+    record { limit_within = within; legal = empty_is_legal limit site; few = omega arith; computable = computable; rising = rising }
 
 -- a sound history with an entry that could come next is sound
 pub sound_more : (limit : ℕ) (history : History) (entry : Entry) → IsSound limit history → IsNext limit history entry → IsSound limit (with_entry history entry)
@@ -137,7 +111,7 @@ sound_more limit history entry sound next =
     let room = room_of_accepted limit history entry next.accepted in
     record {
       limit_within = sound.limit_within;
-      legal = legal_more limit history entry sound.legal next;
+      legal = with_next limit history entry sound.legal next;
       few = omega (arith, length-append {A = Entry}, room);
       computable = sound.computable;
       rising = sound.rising;

@@ -1,3 +1,4 @@
+-- The lemmas of `farm_book`, by topic.
 pub mod Entered
 pub mod Entries
 pub mod Replies

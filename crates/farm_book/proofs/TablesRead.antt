@@ -7,7 +7,7 @@ use Rattle.std.proofs.Math.Nat.{eq-or-lt_of_le}
 use Rattle.std.proofs.lemmas.Bool.{and_parts, ltb-true}
 use Rattle.std.proofs.lemmas.List.Sums.{AllPass-from_list_all}
 use Rattle.std.proofs.lemmas.Option.{slice_get-get_or}
-use Rattle.modbus_poll.specs.Maps.{is_between}
+use Rattle.farm_fixed.specs.Range.{is_between}
 use Rattle.strap_table.specs.Capacity.{IsCapTable}
 use Rattle.site_keys.specs.Lists.{are_numbered, rises, rises_from}
 use Rattle.site_items.proofs.TankParts.{product_there}

@@ -1,3 +1,4 @@
+-- The definitions of `farm_book`, by subject.
 pub mod Kept
 pub mod Refusals
 pub mod Replies

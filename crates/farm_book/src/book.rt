@@ -224,7 +224,7 @@ impl<const LIMIT: usize> Book<LIMIT> {
         &self.site
     }
 
-    /// The moment of the last entry, 0 where there is no entry.
+    /// The moment of the last entry, in seconds since 1970-01-01 00:00:00 UTC; 0 where there is no entry.
     pub fn last_moment(&self) -> i64
         ensures moment { result ≡ last_moment self.now.history }
         ensures within { IsMoment result }

@@ -203,7 +203,7 @@ fn settled_after(past: &Past<'_>, place: u32, ticket: &Ticket) -> Option<u32>
 
 // The place of a Settle, where it is later than a ticket.
 fn settled_later(ticket: u32, settle: Option<u32>) -> Option<u32>
-    ensures later { result ≡ settled_later ticket settle }
+    ensures settled_later { result ≡ settled_later ticket settle }
 {
     match settle {
         Some(place) if ticket < place => Some(place),

@@ -16,7 +16,7 @@ use std::rt::Env;
 use std::{env, io};
 use toml::{Table, Value};
 
-/// The file that lists the files of cases and the sites.
+// The file that lists the files of cases and the sites.
 const LISTING: &str = "cases.toml";
 
 // The words are the folder of the cases and the files to run; without them it is the folder where the program runs, and all.

@@ -1,2 +1,3 @@
+-- The lemmas of `farm_chain`, by topic.
 pub mod Rounded
 pub mod Squares

@@ -8,7 +8,7 @@ use Rattle.csv.specs.declared.error.ErrorKind.TheVariants as kind
 use Rattle.csv.specs.declared.parser.State.{State}
 use Rattle.csv.specs.declared.reader.Reader.{Reader}
 use Rattle.csv.proofs.ReadFacts.{rows-end, rows-more}
-use Rattle.farm_csv.specs.Left.{IsReading, bytes_left, fault_of, have_length, is_even_left, left_from, left_of}
+use Rattle.farm_csv.specs.Reader.{IsReading, bytes_left, fault_of, have_length, is_even_left, left_from, left_of}
 use Rattle.farm_csv.specs.Records.{equal_lengths}
 use Rattle.farm_csv.specs.Rows.{IsFaultOfLengths}
 use Rattle.farm_csv.proofs.NextRecords.{first_of, none_of}

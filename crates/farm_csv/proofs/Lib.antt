@@ -1,3 +1,4 @@
+-- The lemmas of `farm_csv`, by topic.
 pub mod Ends
 pub mod NextRecords
 pub mod Lefts

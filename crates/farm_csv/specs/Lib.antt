@@ -1,4 +1,5 @@
+-- The definitions of `farm_csv`, by subject.
 pub mod Blanks
 pub mod Records
-pub mod Left
+pub mod Reader
 pub mod Rows

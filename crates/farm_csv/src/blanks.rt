@@ -13,7 +13,7 @@ pub fn without_blanks(text: &[u8]) -> &[u8]
     &text[..length_before_blanks(text)]
 }
 
-/// How many blanks a text begins with.
+// How many blanks a text begins with.
 fn blanks_at_start(text: &[u8]) -> usize
     ensures rest { drop result text.now ≡ drop_blanks text.now }
     ensures within { result ≤ length text.now }
@@ -26,7 +26,7 @@ fn blanks_at_start(text: &[u8]) -> usize
     text.len()
 }
 
-/// How many bytes of a text stand before the blanks at its end.
+// How many bytes of a text stand before the blanks at its end.
 fn length_before_blanks(text: &[u8]) -> usize
     ensures length { result ≡ length_before_blanks text.now }
     ensures within { result ≤ length text.now }

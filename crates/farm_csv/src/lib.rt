@@ -6,7 +6,7 @@
 
 mod blanks;
 mod fault;
-mod reading;
+mod reader;
 mod rows;
 
 pub use blanks::without_blanks;

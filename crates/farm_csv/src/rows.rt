@@ -2,13 +2,13 @@
 
 ghost use Rattle.std.specs.Prelude.{◌≡◌, ◌<◌, ◌^◌, ℕ, Err, List, length, MatchResult, Option};
 ghost use Rattle.csv.specs.Records.{fields_of};
-ghost use Rattle.farm_csv.specs.Left.{IsReading, is_even_left, left_of};
+ghost use Rattle.farm_csv.specs.Reader.{IsReading, is_even_left, left_of};
 ghost use Rattle.farm_csv.specs.Records.{equal_lengths, records_of};
 ghost use Rattle.farm_csv.specs.Rows.{AreRows, IsFaultOfRows, IsFirstNoRow, below_header};
 ghost use Rattle.farm_csv.specs.declared.fault.CsvFault.TheVariants.{NoRow};
 
 use crate::CsvFault;
-use crate::reading::{next, read_on, reader_of};
+use crate::reader::{next, read_on, reader_of};
 use csv::{ByteRecord, Reader};
 use std::alloc::Global;
 
@@ -21,7 +21,7 @@ pub trait RowOf {
 
     /// The row of a record that stands below `above` rows, if it is one.
     fn read(above: usize, fields: &ByteRecord) -> Option<Self::Row>
-        ensures { result ≡ read above (fields_of fields.now) };
+        ensures row { result ≡ read above (fields_of fields.now) };
 }
 
 /// The rows of the records below the header of a text; none where there is no header.
@@ -42,9 +42,9 @@ pub fn rows_below_header<R: RowOf>(alloc: Global, text: &[u8]) -> Result<Vec<R::
     }
 }
 
-/// The rows of the records that a reader has left.
-///
-/// After the first that is no row nothing is made any more, and the rest is read for the lengths of its records alone.
+// The rows of the records that a reader has left.
+//
+// After the first that is no row nothing is made any more, and the rest is read for the lengths of its records alone.
 fn rows_left<R: RowOf>(
     alloc: Global,
     reader: &mut Reader<&[u8]>,

@@ -5,12 +5,12 @@ ghost use Rattle.farm_csv.specs.Records.{records_of};
 ghost use Rattle.farm_csv.specs.Rows.{below_header, rows_from};
 
 use super::*;
-use crate::reading::{next, reader_of};
+use crate::reader::{next, reader_of};
 use csv::ByteRecord;
 use std::alloc::Global;
 use std::test::Fail;
 
-/// Two records are rows, each the number of those above it.
+// Two records are rows, each the number of those above it.
 struct FirstTwo;
 
 impl RowOf for FirstTwo {
@@ -23,7 +23,7 @@ impl RowOf for FirstTwo {
     }
 }
 
-/// The rows of a text.
+// The rows of a text.
 fn first_two(alloc: Global, text: &[u8]) -> Result<Vec<usize>, CsvFault>
     ensures { IfOk result (λ rows. rows_from (λ above fields. if above == 2 then None else Some above) 0 (below_header (records_of text.now)) ≡ Ok rows.items) }
 {
@@ -45,7 +45,7 @@ fn rows_stand_below_a_header(rt: HostRuntime) -> Result<(), Fail> {
     Ok(())
 }
 
-/// The records of a text, each field after a bar and each record before a slash.
+// The records of a text, each field after a bar and each record before a slash.
 fn shown(alloc: Global, text: &[u8]) -> Result<Vec<u8>, Fail> {
     let mut shown = Vec::new(alloc);
     let mut reader = reader_of(alloc, text);

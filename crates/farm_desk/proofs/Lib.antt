@@ -1,3 +1,4 @@
+-- The lemmas of `farm_desk`, by topic.
 pub mod Made
 pub mod Durable
 pub mod Counting

@@ -131,7 +131,7 @@ free_before at size state i before (inr (inl here)) = absurd (omega (arith, here
 free_before at size state i before (inr (inr earlier)) = inr earlier
 
 -- writes reach no less far than the base
-reach_least : (least : ℕ) (ranges : List Range) → least ≤ reach_from least ranges
+pub reach_least : (least : ℕ) (ranges : List Range) → least ≤ reach_from least ranges
 reach_least least [] = omega arith
 reach_least least (range ∷ ranges) = omega (arith, reach_least least ranges)
 

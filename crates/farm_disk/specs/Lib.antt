@@ -1,3 +1,4 @@
+-- The definitions of `farm_disk`, by subject.
 pub mod Images
 pub mod Calls
 pub mod Laws

@@ -9,7 +9,7 @@ use std::marker::Model;
 use std::os::unix::fs::FileExt;
 use std::rt::Files;
 
-/// The greatest offset that the system takes.
+// The greatest offset that the system takes.
 const LAST_OFFSET: u64 = i64::MAX as u64;
 
 /// The file at a path. A call on it opens it where it isn't open, and leaves it closed where it can't.

@@ -59,7 +59,7 @@ impl MemDisk {
     /// The bytes that a crash at a moment leaves, by what it leaves where it may leave any byte.
     #[tactic(auto, using(crate::proofs::Rebuilt::image_is_image, crate::proofs::Rebuilt::image_is_filled))]
     pub fn image(&self, alloc: Global, moment: u64, fill: Fill) -> Result<Vec<u8>, NoMemory>
-        requires { moment ≤ ⟦<MemDisk as Disk>⟧.moment self.now }
+        requires reached { moment ≤ ⟦<MemDisk as Disk>⟧.moment self.now }
         ensures image { IfOk result (λ image. WhereKnown (⟦<MemDisk as Disk>⟧.trace self.now) (λ states. IsCrashImage (state_at states moment) image.items)) }
         ensures filled { IfOk result (λ image. IsFilled fill self.now moment image.items) }
     {

@@ -5,7 +5,7 @@ use std::io::{self, ErrorKind};
 use std::os::fd::AsRawFd;
 use std::rt::Files;
 
-/// The greatest descriptor of a standard stream.
+// The greatest descriptor of a standard stream.
 const STANDARD_ERROR: i32 = 2;
 
 /// Opens the file at a path for reads and writes, and creates it empty where it is missing. A link is followed.

@@ -5,7 +5,7 @@ ghost use Rattle.farm_disk.specs.Images.{overlaid};
 
 use farm_base::NoMemory;
 
-/// Makes a file as long as `end`, with `filler` past its end, where it is shorter.
+// Makes a file as long as `end`, with `filler` past its end, where it is shorter.
 fn lengthen(file: &mut Vec<u8>, end: usize, filler: u8) -> Result<(), NoMemory>
     ensures longer { OnOk result (file.new.items ≡ file.old.items ++ replicate (end - length file.old.items) filler) }
     ensures stays { OnErr result (file.new.items ≡ file.old.items) }
@@ -16,7 +16,7 @@ fn lengthen(file: &mut Vec<u8>, end: usize, filler: u8) -> Result<(), NoMemory>
     Ok(())
 }
 
-/// Puts bytes in the place of as many that stand at an offset.
+// Puts bytes in the place of as many that stand at an offset.
 fn put(file: &mut [u8], from: usize, bytes: &[u8])
     requires { from + length bytes.now ≤ length file.old }
     ensures { file.new ≡ take from file.old ++ bytes.now ++ drop (from + length bytes.now) file.old }

@@ -8,7 +8,7 @@ use crate::{DiskCall, Fill};
 use farm_base::NoMemory;
 use std::alloc::Global;
 
-/// What reads give, and what a crash leaves by a fill, as far as the calls were gone through.
+// What reads give, and what a crash leaves by a fill, as far as the calls were gone through.
 #[derive(Drop)]
 struct Rebuilding {
     alloc: Global,
@@ -17,7 +17,7 @@ struct Rebuilding {
     image: Vec<u8>,
 }
 
-/// Puts into an image what a fill leaves where a write has begun.
+// Puts into an image what a fill leaves where a write has begun.
 fn fill_at(
     alloc: Global,
     fill: Fill,
@@ -39,7 +39,7 @@ fn fill_at(
 }
 
 impl Rebuilding {
-    /// Before the first call.
+    // Before the first call.
     fn new(alloc: Global, start: &[u8], fill: Fill) -> Result<Self, NoMemory>
         ensures seen { IfOk result (λ rebuilding. rebuilding.seen.items ≡ start.now) }
         ensures image { IfOk result (λ rebuilding. rebuilding.image.items ≡ start.now) }
@@ -53,7 +53,7 @@ impl Rebuilding {
         })
     }
 
-    /// Goes through a write.
+    // Goes through a write.
     fn write(&mut self, at: u64, bytes: &[u8], done: bool) -> Result<(), NoMemory>
         ensures seen { OnOk result (self.new.seen.items ≡ seen_by (DiskCall.Write at bytes.now done) self.old.seen.items) }
         ensures image { OnOk result (self.new.image.items ≡ filled self.old.fill at bytes.now self.old.image.items) }
@@ -65,7 +65,7 @@ impl Rebuilding {
         fill_at(self.alloc, self.fill, at, bytes, &mut self.image)
     }
 
-    /// Goes through a call that is over or has only begun.
+    // Goes through a call that is over or has only begun.
     fn call(&mut self, call: &DiskCall, over: bool) -> Result<(), NoMemory>
         ensures seen { OnOk result (self.new.seen.items ≡ seen_by (as_found over call.now) self.old.seen.items) }
         ensures image { OnOk result (self.new.image.items ≡ image_by self.old.fill (as_found over call.now) self.old.seen.items self.old.image.items) }

@@ -1,3 +1,4 @@
+-- The lemmas of `farm_entries`, by topic.
 pub mod Ranges
 pub mod Givens
 pub mod WrongWays

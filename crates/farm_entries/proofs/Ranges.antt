@@ -1,5 +1,5 @@
 -- What holds of the fields of a command of which none is out of range.
-use Rattle.std.proofs.Common.{◌≡◌, ℕ, ◌+◌, ◌≤◌, Bool, true, false, not, ◌&&◌, ◌||◌, IsTrue, List, [], ◌∷◌, length, Option, Some, None, ℤ, pos, negsuc, refl, arith}
+use Rattle.std.proofs.Common.{◌≡◌, ℕ, ◌+◌, ◌≤◌, Bool, true, false, ◌&&◌, IsTrue, List, [], ◌∷◌, length, Option, Some, None, ℤ, pos, negsuc, refl, arith}
 use Rattle.std.specs.Prelude.{if◌then◌else◌, ◌==◌}
 use Rattle.std.specs.List.{list_all}
 use Rattle.std.proofs.lemmas.Bool.Decides.{nat_tests}
@@ -9,6 +9,7 @@ use Rattle.farm_history.specs.declared.command.Command.TheVariants.{Gauge, Dip, 
 use Rattle.farm_history.specs.Commands.{numbers_of}
 use Rattle.farm_history.specs.Fields.{Field, fields_of, first_bad_field, heights, is_out_of_range, temperatures}
 use Rattle.farm_history.specs.Places.{first_from}
+use Rattle.farm_history.proofs.Ranges.{neither}
 
 -- a test fails for each item
 abbrev pub NoneOf : {A : Type 0} → (A → Bool) → List A → Type 0
@@ -26,11 +27,6 @@ none_found holds place [] none = tt
 none_found holds place (item ∷ items) none =
     let both = skipped (holds item) place (first_from (place + 1) holds items) none in
     (both.0, none_found holds (place + 1) items both.1)
-
--- neither of two tests holds
-neither : (a b : Bool) → (not a || b) ≡ false → (a ≡ true) × (b ≡ false)
-neither true b is = (refl, is)
-neither false b is = cc
 
 -- a test of a list that isn't empty
 not_empty : (count : ℕ) → (true && count == 0) ≡ false → 1 ≤ count

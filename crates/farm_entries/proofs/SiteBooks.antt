@@ -6,9 +6,9 @@ use Rattle.std.proofs.lemmas.Int.{ints}
 use Rattle.std.proofs.lemmas.List.Elements.{All-map, All-weaker}
 use Rattle.std.proofs.lemmas.List.Sums.{AllPass-from_list_all}
 use Rattle.farm_fixed.proofs.ParsingLaws.{is_within-true}
+use Rattle.farm_fixed.specs.Range.{is_between}
 use Rattle.farm_stock.specs.Books.{tanks_of}
 use Rattle.farm_stock.specs.declared.book.Book.{Book}
-use Rattle.modbus_poll.specs.Maps.{is_between}
 use Rattle.site_keys.specs.Lists.{are_numbered, is_among, rises}
 use Rattle.site_keys.specs.declared.lists.TheConstants.{GREATEST_NUMBER}
 use Rattle.site_items.specs.declared.records.Tank.{Tank}

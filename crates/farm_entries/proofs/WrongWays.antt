@@ -1,26 +1,17 @@
 -- A side of a movement goes the wrong way exactly where what moved on it is refused.
-use Rattle.std.proofs.Common.{◌≡◌, ◌⊎◌, inl, inr, Bool, true, false, Option, Some, None, Ok, Err, ℤ, pos, ◌-ℤ◌, ◌<ℤ◌, int_lt, refl, arith, ◌∙◌}
-use Rattle.std.specs.Prelude.{if◌then◌else◌, ◌||◌}
+use Rattle.std.proofs.Common.{◌≡◌, ◌⊎◌, inl, inr, Bool, true, false, Option, Some, None, ℤ, pos, ◌-ℤ◌, ◌<ℤ◌, int_lt, refl, arith, ◌∙◌}
+use Rattle.std.proofs.lemmas.Bool.{or_from}
+use Rattle.std.specs.Prelude.{◌||◌}
 use Rattle.std.proofs.lemmas.Int.{ints}
 use Rattle.farm_fixed.specs.declared.records.Quantities.{Quantities}
 use Rattle.farm_movement.specs.declared.leg.Leg.{Leg}
 use Rattle.farm_movement.specs.Closing.{GoesWrong, SecondGoesWrong}
 use Rattle.farm_movement.specs.Movements.{OpenMove}
 use Rattle.farm_ticket.specs.Amounts.{IsWrongWay, change, differences, moved}
-use Rattle.farm_ticket.specs.declared.amounts.WrongWay.{WrongWay}
-use Rattle.farm_ticket.specs.declared.side.Moved.{Moved}
 use Rattle.farm_ticket.specs.declared.side.Way.{Way}
 use Rattle.farm_ticket.specs.declared.side.Way.TheVariants.{Inward, Outward}
-use Rattle.farm_history.specs.Tickets.{any_goes_wrong, goes_wrong, is_refused, second_goes_wrong}
-
--- what is refused by a test is refused where it holds
-refused_by : (test : Bool) (wrong : WrongWay) (amounts : Moved) → is_refused (if test then Err wrong else Ok amounts) ≡ test
-refused_by true wrong amounts = refl
-refused_by false wrong amounts = refl
-
--- a change below zero
-below : (a b : ℤ) → a <ℤ b → int_lt (a -ℤ b) (pos 0) ≡ true
-below a b less = grind (arith, ints)
+use Rattle.farm_history.specs.Tickets.{any_goes_wrong, goes_wrong, second_goes_wrong}
+use Rattle.farm_history.proofs.WrongWays.{below_to, refused_where}
 
 -- a change that isn't below zero
 not_below : (a b : ℤ) → (a <ℤ b → ⊥) → int_lt (a -ℤ b) (pos 0) ≡ false
@@ -28,8 +19,8 @@ not_below a b least = grind (arith, ints)
 
 -- a change is below zero on the wrong way
 wrong_change : (way : Way) (opening closing : Quantities) → IsWrongWay way opening closing → int_lt (change way opening.nsv closing.nsv) (pos 0) ≡ true
-wrong_change Inward opening closing wrong = below closing.nsv opening.nsv wrong
-wrong_change Outward opening closing wrong = below opening.nsv closing.nsv wrong
+wrong_change Inward opening closing wrong = below_to closing.nsv opening.nsv wrong
+wrong_change Outward opening closing wrong = below_to opening.nsv closing.nsv wrong
 
 -- and isn't on the right one
 right_change : (way : Way) (opening closing : Quantities) → (IsWrongWay way opening closing → ⊥) → int_lt (change way opening.nsv closing.nsv) (pos 0) ≡ false
@@ -39,7 +30,7 @@ right_change Outward opening closing right = not_below opening.nsv closing.nsv r
 -- the test of a side is that of the change of its net standard volume
 side_test : (leg : Leg) (closing : Quantities) → goes_wrong leg closing ≡ int_lt (change leg.way leg.opening.nsv closing.nsv) (pos 0)
 unfolding moved differences
-side_test leg closing = refused_by (int_lt (change leg.way leg.opening.nsv closing.nsv) (pos 0)) (record {}) (differences leg.way leg.opening closing)
+side_test leg closing = refused_where (int_lt (change leg.way leg.opening.nsv closing.nsv) (pos 0)) (record {}) (differences leg.way leg.opening closing)
 
 -- a side that goes the wrong way tests so
 side_wrong : (leg : Leg) (closing : Quantities) → GoesWrong leg closing → goes_wrong leg closing ≡ true
@@ -67,11 +58,6 @@ either true second holds = refl
 either false second (inl first) = cc
 either false second (inr second_holds) = second_holds
 
--- neither does
-neither : (first second : Bool) → first ≡ false → second ≡ false → (first || second) ≡ false
-neither true second first_is second_is = cc
-neither false second first_is second_is = second_is
-
 -- a movement of which a side goes the wrong way tests so
 pub any_wrong : (movement : OpenMove) (first : Quantities) (second : Option Quantities) →
     (GoesWrong movement.first first ⊎ SecondGoesWrong movement.second second) → any_goes_wrong (movement, first, second) ≡ true
@@ -82,4 +68,4 @@ any_wrong movement first second (inr wrong) = either _ _ (inr (second_wrong move
 pub none_wrong : (movement : OpenMove) (first : Quantities) (second : Option Quantities) →
     ((GoesWrong movement.first first ⊎ SecondGoesWrong movement.second second) → ⊥) → any_goes_wrong (movement, first, second) ≡ false
 none_wrong movement first second right =
-    neither _ _ (side_right movement.first first (λ wrong. right (inl wrong))) (second_right movement.second second (λ wrong. right (inr wrong)))
+    or_from _ _ (side_right movement.first first (λ wrong. right (inl wrong))) (second_right movement.second second (λ wrong. right (inr wrong)))

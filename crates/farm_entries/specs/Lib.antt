@@ -1,3 +1,4 @@
+-- The definitions of `farm_entries`, by subject.
 pub mod Pasts
 pub mod Pairs
 pub mod Bounds

@@ -38,7 +38,7 @@ pub fn opposite(amount: Amount) -> Amount
     }
 }
 
-/// An amount less another, litres and kg apart.
+/// An amount less another, litres and kg each by itself.
 pub fn less(amount: Amount, other: Amount) -> Amount
     requires amount { IsAtMost most_posted amount }
     requires other { IsAtMost most_posted other }

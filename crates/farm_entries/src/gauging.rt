@@ -3,6 +3,7 @@
 ghost use Rattle.std.specs.Prelude.{◌≡◌, IsTrue, None, option_and_then, take, pos, negsuc};
 ghost use Rattle.std.specs.List.{list_all};
 ghost use Rattle.farm_fixed.specs.Range.{is_within};
+ghost use Rattle.farm_fixed.specs.declared.limits.TheConstants.{MOST_HEIGHT};
 ghost use Rattle.farm_readings.specs.Readings.{AreTemperatures, tape_reading};
 ghost use Rattle.farm_history.specs.Commands.{IsShortList, IsWellFormedCommand, numbers_of};
 ghost use Rattle.farm_history.specs.Fields.{first_bad_field};
@@ -177,7 +178,7 @@ fn top_of(table: &CapTable) -> i64
 // The heights of a list of a command, and zeros after them.
 fn heights_of(few: &Few) -> [Mm; 8]
     requires short { IsShortList few.now }
-    requires in_range { IsTrue (list_all (λ number. is_within (pos 0) (pos 50000) number) (numbers_of few.now)) }
+    requires in_range { IsTrue (list_all (λ number. is_within (pos 0) MOST_HEIGHT number) (numbers_of few.now)) }
     ensures heights { take few.now.count result ≡ numbers_of few.now }
 {
     let mut heights = [height_of(0); 8];
@@ -202,7 +203,7 @@ fn temperatures_of(few: &Few) -> [Centi; 8]
 
 // A height that is known to be in range.
 fn height_of(number: i64) -> Mm
-    requires { IsTrue (is_within (pos 0) (pos 50000) number) }
+    requires { IsTrue (is_within (pos 0) MOST_HEIGHT number) }
     ensures height { result ≡ number }
 {
     Mm::new(number).unwrap()

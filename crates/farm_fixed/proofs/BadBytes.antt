@@ -43,7 +43,7 @@ bad_later p b t q offset e bad = record {
       bad.too_short (omega arith) (subst (λ k. Rest k t) same w.2);
 }
 
--- an answer tells whether a text may follow at a position, and else where it goes wrong
+-- an answer says whether a text may follow at a position, and else where it goes wrong
 abbrev IsRight : Position → ℕ → List ℕ → Option ℕ → Type 0
 IsRight p before t None = Rest p t
 IsRight p before t (Some n) = (offset : ℕ) × (n ≡ before + offset) × IsBadAfter p t offset
@@ -64,7 +64,7 @@ right_then : (p : Position) (before b : ℕ) (t : List ℕ) (next : Option Posit
 right_then p before b t None later e = (0, omega arith, bad_byte p b t e)
 right_then p before b t (Some q) later e = right_later p before b t q (bad_from q (before + 1) t) e (later q)
 
--- `bad_from` tells whether the text may follow, and else where it goes wrong
+-- `bad_from` says whether the text may follow, and else where it goes wrong
 pub right_answer : (p : Position) (before : ℕ) (t : List ℕ) → IsRight p before t (bad_from p before t)
 right_answer p before [] = right_end p before (may_end p) refl
 right_answer p before (b ∷ t) = right_then p before b t (after p b) (λ q. right_answer q (before + 1) t) refl

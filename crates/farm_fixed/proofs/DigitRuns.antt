@@ -168,7 +168,7 @@ whole_numeral text negative whole [] end numeral split some none decimals value 
     (value ∙ ap (λ ds. min (digits_value 10 ds) (10 ^ 18)) (sym (append-nil whole)))
 
 -- decimals with their point
-with_point : (t : List ℕ) → 0 < length t → fraction_text t ≡ 46 ∷ t
+pub with_point : (t : List ℕ) → 0 < length t → fraction_text t ≡ 46 ∷ t
 with_point [] some = absurd (omega arith)
 with_point (d ∷ ds) some = refl
 

@@ -1,3 +1,4 @@
+-- The lemmas of `farm_fixed`, by topic.
 pub mod TextLaws
 pub mod BadBytes
 pub mod Parts

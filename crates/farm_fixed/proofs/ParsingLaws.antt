@@ -5,6 +5,7 @@ use Rattle.std.proofs.lemmas.Int.{ints}
 use Rattle.std.specs.Int.RustNames.{unsigned_abs}
 use Rattle.std.specs.Result.{OkIff, MatchResult, IsErrAnd}
 use Rattle.std.specs.Str.Parse.{digits_value}
+use Rattle.farm_base.proofs.BoolTests.{lt-ltb, le-ltb}
 use Rattle.farm_fixed.specs.declared.fault.ReadFault.{ReadFault}
 use Rattle.farm_fixed.specs.declared.fault.ReadFault.TheVariants.{Empty, BadByte, TooFine, OutOfRange}
 use Rattle.farm_fixed.specs.Range.{IsWithin, is_within, IsSmall}
@@ -14,7 +15,7 @@ use Rattle.farm_fixed.proofs.BadBytes.{bad_at_from_some}
 use Rattle.farm_fixed.proofs.Parts.{text_of_parts}
 use Rattle.farm_fixed.proofs.Values.{cut_scaled}
 
--- the test of the range tells it
+-- what passes the test is within the range
 pub is_within-true : (least most value : ℤ) → is_within least most value ≡ true → IsWithin least most value
 is_within-true least most value e = record { low = grind (arith, ints); high = grind (arith, ints) }
 
@@ -64,14 +65,6 @@ within_cut least most places negative n v small is = (
   λ within. is ∙ ap (signed negative) (cut_same n (small_within least most places negative n small within)),
 )
 
--- the test of few enough decimals
-fits_test : (places n : ℕ) → n ≤ places → nat_lt places n ≡ false
-fits_test places n h = grind (arith, nat_tests)
-
--- the test of too many decimals
-fine_test : (places n : ℕ) → places < n → nat_lt places n ≡ true
-fine_test places n h = grind (arith, nat_tests)
-
 -- a value outside its range fails the test
 outside_test : (least most value : ℤ) (b : Bool) → is_within least most value ≡ b → ¬ (IsWithin least most value) → b ≡ false
 outside_test least most value true e outside = absurd (outside (is_within-true least most value e))
@@ -81,19 +74,19 @@ outside_test least most value false e outside = refl
 pub from_within : (places : ℕ) (least most : ℤ) (number : Number) → length number.fraction ≤ places → IsWithin least most (value_of places number) →
     quantity_from places least most number ≡ Ok (value_of places number)
 unfolding quantity_from
-from_within places least most number fits within = simp (fits_test places (length number.fraction) fits, is_within-from least most (value_of places number) within)
+from_within places least most number fits within = simp (le-ltb places (length number.fraction) fits, is_within-from least most (value_of places number) within)
 
 -- a number outside the range is refused
 pub from_outside : (places : ℕ) (least most : ℤ) (number : Number) → length number.fraction ≤ places → ¬ (IsWithin least most (value_of places number)) →
     quantity_from places least most number ≡ Err OutOfRange
 unfolding quantity_from
 from_outside places least most number fits outside =
-    simp (fits_test places (length number.fraction) fits, outside_test least most (value_of places number) (is_within least most (value_of places number)) refl outside)
+    simp (le-ltb places (length number.fraction) fits, outside_test least most (value_of places number) (is_within least most (value_of places number)) refl outside)
 
 -- a number with too many decimals is refused
 pub from_fine : (places : ℕ) (least most : ℤ) (number : Number) → places < length number.fraction → quantity_from places least most number ≡ Err TooFine
 unfolding quantity_from
-from_fine places least most number fine = simp (fine_test places (length number.fraction) fine)
+from_fine places least most number fine = simp (lt-ltb places (length number.fraction) fine)
 
 -- the same by the value as it was cut off
 pub from_cut_within : (places : ℕ) (least most : ℤ) (number : Number) (v : ℤ) → IsSmall least most places → length number.fraction ≤ places →
@@ -190,7 +183,7 @@ some_length text b e h = grind (arith, nat_tests)
 abbrev pub Answered : ℕ → ℤ → ℤ → Number → Result ℤ ReadFault → Type 0
 Answered places least most number answer = answer ≡ quantity_from places least most number
 
--- `new` tells whether the value is in range
+-- `new` says whether the value is in range
 pub from_new : {E : Type 0} (places : ℕ) (least most : ℤ) (number : Number) (v : ℤ) (new : Result ℤ E) → IsSmall least most places → length number.fraction ≤ places →
     v ≡ signed number.negative (min (digits_value 10 (number.whole ++ number.fraction ++ replicate (places - length number.fraction) 48)) (10 ^ 18)) →
     OkIff new (IsWithin least most v) v → MatchResult new (λ x. Answered places least most number (Ok x)) (λ _. Answered places least most number (Err OutOfRange))

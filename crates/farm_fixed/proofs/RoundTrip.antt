@@ -20,6 +20,7 @@ use Rattle.farm_fixed.proofs.ParsingLaws.{from_within, quantity_of-number}
 use Rattle.farm_fixed.proofs.TextLaws.{Digits}
 use Rattle.farm_fixed.proofs.BadBytes.{none_from_number}
 use Rattle.farm_fixed.proofs.Values.{value-append}
+use Rattle.farm_fixed.proofs.DigitRuns.{with_point}
 
 -- the digits of a numeral have its value
 own : IsNumeralModel Digits (digits_value 10)
@@ -91,11 +92,6 @@ record AreParts (places n : ℕ) (fraction : List ℕ) : Type 0 where
   fits : length fraction ≤ places
   value : digits_value 10 (decimal (n / 10 ^ places) ++ fraction ++ replicate (places - length fraction) 48) ≡ n
 
--- the text of some decimals
-point_and : (ds : List ℕ) → 0 < length ds → fraction_text ds ≡ 46 ∷ ds
-point_and [] some = absurd (omega arith)
-point_and (d ∷ ds) some = refl
-
 -- a numeral is of digits
 decimal_digits : (n : ℕ) → n ≤ 10 ^ 17 → Digits (decimal n)
 decimal_digits n small = digits_decimal own n (omega arith)
@@ -109,7 +105,7 @@ parts_with_point places n some few small =
     let long : length (padded places r) ≡ places = length-padded places r some few below in
     let whole = decimal (n / 10 ^ places) in
     record {
-      text = (let point = some_places places some in simp point (ap (λ t. whole ++ t) (sym (point_and (padded places r) (omega arith)))));
+      text = (let point = some_places places some in simp point (ap (λ t. whole ++ t) (sym (with_point (padded places r) (omega arith)))));
       digits = digits_after_zeros (places - length (decimal r)) (decimal r) (decimal_digits r (omega arith));
       fits = omega arith;
       value =

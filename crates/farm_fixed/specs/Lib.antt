@@ -1,3 +1,4 @@
+-- The definitions of `farm_fixed`, by subject.
 pub mod Range
 pub mod Text
 pub mod Parsing

@@ -1,4 +1,4 @@
-//! Why a number is no quantity, and why a text is none.
+//! Why a number, or a text, isn't a quantity.
 
 use thiserror::Error;
 

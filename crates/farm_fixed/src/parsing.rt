@@ -5,10 +5,10 @@ ghost use Rattle.farm_fixed.specs.Text.{bad_offset, signed};
 ghost use Rattle.farm_fixed.specs.Parsing.{unsigned_text};
 ghost use Rattle.farm_fixed.specs.Numerals.{IsDigitRun, IsNumeralOf};
 
-/// More than any quantity has units. A greater number counts as this one, so that no text is too long to read.
+// More than any quantity has units. A greater number counts as this one, so that no text is too long to read.
 const CEILING: u64 = 1_000_000_000_000_000_000;
 
-/// The powers of ten, up to that of the most decimals of a unit.
+// The powers of ten, up to that of the most decimals of a unit.
 const POWERS: [u64; 6] = [1, 10, 100, 1_000, 10_000, 100_000];
 
 /// The digits that a text begins with.

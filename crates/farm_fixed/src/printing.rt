@@ -9,7 +9,7 @@ use itoa::write_digits;
 /// The size of the buffer. The longest text, of a minus, 18 digits, a point and 5 decimals, has 25 bytes.
 pub const ROOM: usize = 32;
 
-/// Writes the decimals at the end of a buffer of zeros, and returns where they start.
+// Writes the decimals at the end of a buffer of zeros, and returns where they start.
 fn write_decimals(decimals: u64, places: usize, buffer: &mut [u8]) -> usize
     requires some { 0 < places }
     requires places { places ≤ 5 }
@@ -22,7 +22,7 @@ fn write_decimals(decimals: u64, places: usize, buffer: &mut [u8]) -> usize
     ROOM - places
 }
 
-/// Writes a magnitude at the end of a buffer of zeros, and returns where it starts.
+// Writes a magnitude at the end of a buffer of zeros, and returns where it starts.
 fn write_magnitude(units: u64, places: usize, buffer: &mut [u8]) -> usize
     requires units { units ≤ 10 ^ 17 }
     requires places { places ≤ 5 }

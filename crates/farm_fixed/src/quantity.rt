@@ -55,7 +55,7 @@ impl<U: Unit> Model for Quantity<U> {
 impl<U: Unit> Quantity<U> {
     /// This many units. `OutOfRange` exactly outside the range.
     pub fn new(v: i64) -> Result<Self, OutOfRange>
-        ensures { OkIff result (IsWithin U.LEAST U.MOST v) v }
+        ensures in_range { OkIff result (IsWithin U.LEAST U.MOST v) v }
     {
         if v < U::LEAST || v > U::MOST {
             return Err(OutOfRange);
@@ -102,7 +102,7 @@ impl<U: Unit> Quantity<U> {
         Ok(())
     }
 
-    /// The quantity that a number's text writes, from its digits.
+    // The quantity that a number's text writes, from its digits.
     fn from_numeral(text: &[u8], numeral: Numeral) -> Result<Self, ReadFault>
         requires { IsNumeralOf text.now numeral }
         ensures { result ≡ quantity_from U.PLACES U.LEAST U.MOST (number_of text.now) }

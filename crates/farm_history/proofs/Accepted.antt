@@ -3,6 +3,7 @@ use Rattle.std.proofs.Common.{◌≡◌, ℕ, ◌||◌, not, Bool, true, false, 
 use Rattle.std.specs.List.{list_any}
 use Rattle.std.proofs.lemmas.Bool.{not-false, or_parts}
 use Rattle.std.proofs.lemmas.List.Elements.{All-contains}
+use Rattle.farm_base.proofs.Steps.{or_else-none}
 use Rattle.farm_base.specs.Steps.{or_else}
 use Rattle.farm_history.specs.declared.command.Command.{Command}
 use Rattle.farm_history.specs.declared.entry.Entry.{Entry}
@@ -18,11 +19,6 @@ use Rattle.farm_history.specs.Rules.{broken_by_command, broken_by_figures, broke
 use Rattle.farm_history.specs.Verdicts.{refused_or_accepted, repeated_or, verdict}
 use Rattle.farm_history.specs.declared.rule.Rule.TheVariants.{CriticalZone, Negative, NoEntry, UnknownReading, UnknownSample}
 use Rattle.farm_history.proofs.OpenMovements.{none_passes}
-
--- where the first of two rules that is broken is missing, neither is broken
-pub both_none : (first second : Option Rule) → or_else first second ≡ None → (first ≡ None) × (second ≡ None)
-both_none None second e = (refl, e)
-both_none (Some rule) second e = cc
 
 -- an accepted entry breaks no rule
 pub unbroken : (limit : ℕ) (history : History) (entry : Entry) → verdict limit history entry ≡ Accept → broken_rule limit history entry ≡ None
@@ -49,13 +45,13 @@ breaks_none limit history entry accepted =
     let all = unbroken limit history entry accepted in
     let gauging = option_and_then refused_gauging (gauging_after history entry.cmd) in
     let moving = broken_by_movement history entry.cmd in
-    let r1 = both_none (key_reused history entry) (or_else (history_full limit history entry.cmd) (broken_by_command history entry.cmd)) all in
-    let r2 = both_none (history_full limit history entry.cmd) (broken_by_command history entry.cmd) r1.1 in
-    let r3 = both_none (unknown_tank history entry.cmd)
+    let r1 = or_else-none (key_reused history entry) (or_else (history_full limit history entry.cmd) (broken_by_command history entry.cmd)) all in
+    let r2 = or_else-none (history_full limit history entry.cmd) (broken_by_command history entry.cmd) r1.1 in
+    let r3 = or_else-none (unknown_tank history entry.cmd)
     (or_else (unknown_party history entry.cmd) (or_else (out_of_range entry.cmd) (or_else gauging moving))) r2.1 in
-    let r4 = both_none (unknown_party history entry.cmd) (or_else (out_of_range entry.cmd) (or_else gauging moving)) r3.1 in
-    let r5 = both_none (out_of_range entry.cmd) (or_else gauging moving) r4.1 in
-    let r6 = both_none gauging moving r5.1 in
+    let r4 = or_else-none (unknown_party history entry.cmd) (or_else (out_of_range entry.cmd) (or_else gauging moving)) r3.1 in
+    let r5 = or_else-none (out_of_range entry.cmd) (or_else gauging moving) r4.1 in
+    let r6 = or_else-none gauging moving r5.1 in
     record { tank = r3.0; range = r5.0; gauging = r6.0; movement = r6.1 }
 
 -- a command breaks none of the rules on movements and tickets
@@ -72,12 +68,12 @@ moves_well history command all =
     let ticket = or_else (unknown_ticket history command) reversed in
     let names = or_else (broken_by_names history command) ticket in
     let movement = or_else (no_movement history command) names in
-    let r9 = both_none (same_tank command) (or_else (other_product history command) (or_else (tank_busy history command) movement)) all in
-    let r10 = both_none (other_product history command) (or_else (tank_busy history command) movement) r9.1 in
-    let r11 = both_none (tank_busy history command) movement r10.1 in
-    let r12 = both_none (no_movement history command) names r11.1 in
-    let r13 = both_none (broken_by_names history command) ticket r12.1 in
-    let r20 = both_none (unknown_ticket history command) reversed r13.1 in
+    let r9 = or_else-none (same_tank command) (or_else (other_product history command) (or_else (tank_busy history command) movement)) all in
+    let r10 = or_else-none (other_product history command) (or_else (tank_busy history command) movement) r9.1 in
+    let r11 = or_else-none (tank_busy history command) movement r10.1 in
+    let r12 = or_else-none (no_movement history command) names r11.1 in
+    let r13 = or_else-none (broken_by_names history command) ticket r12.1 in
+    let r20 = or_else-none (unknown_ticket history command) reversed r13.1 in
     record { movement = r12.0; names = r13.0; ticket = r20.0 }
 
 -- a command breaks none of the rules on what it names
@@ -99,12 +95,12 @@ names_well history command all =
     let figures = or_else (no_entry history command) zone in
     let stale = or_else (stale_reading history command) figures in
     let sample = or_else (unknown_sample history command) stale in
-    let r13 = both_none (unknown_reading history command) sample all in
-    let r14 = both_none (unknown_sample history command) stale r13.1 in
-    let r15 = both_none (stale_reading history command) figures r14.1 in
-    let r16 = both_none (no_entry history command) zone r15.1 in
-    let r17 = both_none (critical_zone history command) below r16.1 in
-    let r18 = both_none (negative history command) way r17.1 in
+    let r13 = or_else-none (unknown_reading history command) sample all in
+    let r14 = or_else-none (unknown_sample history command) stale r13.1 in
+    let r15 = or_else-none (stale_reading history command) figures r14.1 in
+    let r16 = or_else-none (no_entry history command) zone r15.1 in
+    let r17 = or_else-none (critical_zone history command) below r16.1 in
+    let r18 = or_else-none (negative history command) way r17.1 in
     record { reading = r13.0; sample = r14.0; entry = r16.0; zone = r17.0; below = r18.0; way = r18.1 }
 
 -- where a rule isn't broken, its test fails

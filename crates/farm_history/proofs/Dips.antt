@@ -1,5 +1,6 @@
 -- A dip has no reading exactly where something is wrong with its tapes in the words of the rule, and has the number of the first.
 use Rattle.std.proofs.Common.{◌≡◌, ◌≢◌, ◌⊎◌, ◌↔◌, inl, inr, ℕ, Bool, true, false, List, [], ◌∷◌, Result, Ok, Err, ℤ, ◌-ℤ◌, int_lt, refl, ap, sym, ◌∙◌, subst}
+use Rattle.farm_base.proofs.BoolTests.{int_lt-true}
 use Rattle.farm_base.specs.Steps.{◌>>=◌}
 use Rattle.farm_fixed.specs.declared.records.Reading.{Reading}
 use Rattle.farm_readings.specs.declared.tapes.TapeFault.{TapeFault}
@@ -8,7 +9,7 @@ use Rattle.farm_readings.specs.Readings.{mean_temperature, tape_reading}
 use Rattle.farm_rounding.specs.Table.{Row}
 use Rattle.farm_history.specs.declared.rule.TheConstants.{BELOW_DATUM, TAPE_COUNT, TAPE_SPREAD, WATER_TAPE_COUNT, WATER_TAPE_SPREAD}
 use Rattle.farm_history.specs.Gauging.{IsBelowDatum, IsDipFault, IsTapeNumber, dip_level, dip_reading, dip_water, tapes_numbered}
-use Rattle.farm_history.proofs.GaugingRules.{less, not_less}
+use Rattle.farm_history.proofs.GaugingRules.{not_less}
 
 -- tapes have no reading exactly where they have the number of their count or of their spread
 tapes_mean : (count spread : ℕ) (rounding : List Row) (tapes : List ℤ) (number : ℕ) →
@@ -53,7 +54,7 @@ level_is height true tape = by (int_lt height tape) refl
       fault = λ number f.
           let low : dip_level height true tape ≡ Err BELOW_DATUM = rw e refl in
           let same : number ≡ BELOW_DATUM = cc in
-          ((refl, less height tape e), same);
+          ((refl, int_lt-true height tape e), same);
       below = λ low. rw e refl;
     }
     by false e = record {

@@ -1,6 +1,7 @@
 -- The rules of gaugings: the definition answers exactly where the entry breaks one of them in its own words.
 use Rattle.std.proofs.Common.{◌≡◌, ℕ, ◌<◌, ◌≤◌, Bool, true, false, if◌then◌else◌, Option, Some, None, option_and_then, Result, Ok, Err, ℤ, ◌<ℤ◌, int_lt, refl, ap, subst, arith}
 use Rattle.std.proofs.lemmas.Int.{ints}
+use Rattle.farm_base.proofs.BoolTests.{int_lt-true}
 use Rattle.farm_fixed.specs.declared.records.Reading.{Reading}
 use Rattle.farm_history.specs.declared.entry.Entry.{Entry}
 use Rattle.farm_history.specs.declared.rule.Rule.{Rule}
@@ -12,11 +13,7 @@ use Rattle.farm_history.specs.Rules.{refused_gauging, refused_in, refused_readin
 use Rattle.farm_history.specs.Breaking.{Breaks, HasFaultyTapes, HasReading}
 use Rattle.farm_history.proofs.Says.{Says}
 
--- one number tests as less than another: it is
-pub less : (a b : ℤ) → int_lt a b ≡ true → a <ℤ b
-less a b test = grind (arith, ints)
-
--- it doesn't: it isn't
+-- one number doesn't test as less than another: it isn't
 pub not_less : (a b : ℤ) → int_lt a b ≡ false → ¬ (a <ℤ b)
 not_less a b test less = grind (arith, ints)
 
@@ -110,7 +107,7 @@ reading_says limit history entry gauging reading read =
         of_command = read.of_command;
         reading = reading;
         given = read.given;
-        there = less (top_of gauging.tank.table) reading.level high_is;
+        there = int_lt-true (top_of gauging.tank.table) reading.level high_is;
       };
       above = omega arith;
       within = omega arith;
@@ -122,7 +119,7 @@ reading_says limit history entry gauging reading read =
         of_command = read.of_command;
         reading = reading;
         given = read.given;
-        there = less reading.level reading.water wet_is;
+        there = int_lt-true reading.level reading.water wet_is;
       };
       above = omega arith;
       within = omega arith;

@@ -1,3 +1,4 @@
+-- The lemmas of `farm_history`, by topic.
 pub mod Above
 pub mod Accepted
 pub mod At

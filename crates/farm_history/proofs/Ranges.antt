@@ -2,19 +2,15 @@
 use Rattle.std.proofs.Common.{◌≡◌, ◌≢◌, Bool, true, false, not, ◌&&◌, ◌||◌, All, IsTrue, List, [], ◌∷◌, length, ℤ, refl, arith}
 use Rattle.std.specs.Prelude.{◌==◌}
 use Rattle.std.specs.List.{list_all}
-use Rattle.std.proofs.lemmas.Bool.{and_parts}
+use Rattle.std.proofs.lemmas.Bool.{and_from, and_parts}
 use Rattle.std.proofs.lemmas.Bool.Decides.{nat_tests}
 use Rattle.std.proofs.lemmas.List.Elements.{All-cons, All-head, All-nil, All-tail}
 use Rattle.farm_fixed.specs.Range.{IsWithin, is_within}
 use Rattle.farm_fixed.proofs.ParsingLaws.{is_within-from, is_within-true}
 use Rattle.farm_history.specs.Laws.{RangesMean}
 
--- two tests that hold
-joined : (a b : Bool) → a ≡ true → b ≡ true → (a && b) ≡ true
-joined a b first second = simp (first, second)
-
 -- neither of two tests holds
-neither : (a b : Bool) → (not a || b) ≡ false → (a ≡ true) × (b ≡ false)
+pub neither : (a b : Bool) → (not a || b) ≡ false → (a ≡ true) × (b ≡ false)
 neither true b is = (refl, is)
 neither false b is = cc
 
@@ -33,7 +29,7 @@ within_true least most (number ∷ numbers) pass =
 within_from : (least most : ℤ) (numbers : List ℤ) → All (IsWithin least most) numbers → list_all (λ number. is_within least most number) numbers ≡ true
 within_from least most [] all = refl
 within_from least most (number ∷ numbers) all =
-    joined (is_within least most number) (list_all (λ number. is_within least most number) numbers)
+    and_from (is_within least most number) (list_all (λ number. is_within least most number) numbers)
     (is_within-from least most number (All-head (IsWithin least most) number numbers all))
     (within_from least most numbers (All-tail (IsWithin least most) number numbers all))
 

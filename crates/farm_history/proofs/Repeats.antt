@@ -2,6 +2,7 @@
 use Rattle.std.proofs.Common.{All, ◌≡◌, ℕ, ◌+◌, ◌≤◌, ◌&&◌, ◌==◌, IsFalse, IsTrue, Contains, List, [], ◌∷◌, ◌++◌, Option, Some, None, ℤ, option_map, refl, ap, ap₂, sym, ◌∙◌, append_assoc, length-append, subst, arith}
 use Rattle.std.proofs.lemmas.Bool.{and_from, and_parts, both_ways, eq-eqb, eqb-true}
 use Rattle.std.proofs.lemmas.List.Elements.{All-contains, Contains-append_right}
+use Rattle.farm_base.proofs.Steps.{or_else-none}
 use Rattle.farm_base.specs.Steps.{or_else}
 use Rattle.farm_history.specs.declared.ask.Ask.TheVariants.{Do}
 use Rattle.farm_history.specs.declared.command.Command.{Command}
@@ -17,7 +18,7 @@ use Rattle.farm_history.specs.Places.{first_place}
 use Rattle.farm_history.specs.Rules.{broken_by_command, broken_rule, history_full, is_repeat, key_reused, same_key}
 use Rattle.farm_history.specs.Verdicts.{IsLegal, refused_or_accepted, repeated_or, verdict}
 use Rattle.farm_history.proofs.Places.{none_before, place_after}
-use Rattle.farm_history.proofs.Accepted.{both_none, unbroken}
+use Rattle.farm_history.proofs.Accepted.{unbroken}
 use Rattle.farm_history.proofs.PostingsStay.{gain_stays}
 use Rattle.farm_history.proofs.SameCommands.{commands_decided}
 use Rattle.farm_history.proofs.Stays.{ticket_stays}
@@ -45,7 +46,7 @@ unfolding broken_rule key_reused
 key_new limit history entry none =
     let key = first_place (same_key entry) history.entries in
     let rest = or_else (history_full limit history entry.cmd) (broken_by_command history entry.cmd) in
-    no_key key (both_none (option_map KeyReused key) rest none).0
+    no_key key (or_else-none (option_map KeyReused key) rest none).0
 
 -- no entry has the account and the key of an accepted one
 pub new_key : (limit : ℕ) (history : History) (entry : Entry) → verdict limit history entry ≡ Accept →

@@ -1,18 +1,16 @@
 -- Roundings and volumes rise: what is more is rounded to no less, and the volume at a greater height of a tank is no less.
-use Rattle.std.proofs.Common.{◌≡◌, ◌⊎◌, inl, inr, ℕ, zero, suc, ◌+◌, ◌-◌, ◌*◌, ◌/◌, ◌%◌, ◌<◌, ◌≤◌, ◌==◌, Bool, true, false, cond, if◌then◌else◌, List, length, Some, ℤ, pos, ◌+ℤ◌, ◌-ℤ◌, ◌*ℤ◌, ◌≤ℤ◌, refl, ap, ap₂, sym, ◌∙◌, subst, mul_assoc, arith}
+use Rattle.std.proofs.Common.{◌≡◌, inl, inr, ℕ, zero, suc, ◌+◌, ◌-◌, ◌*◌, ◌/◌, ◌%◌, ◌<◌, ◌≤◌, ◌==◌, Bool, true, false, cond, if◌then◌else◌, List, length, Some, ℤ, pos, ◌+ℤ◌, ◌-ℤ◌, ◌*ℤ◌, ◌≤ℤ◌, refl, ap, ap₂, sym, ◌∙◌, subst, mul_assoc, arith}
 use Rattle.std.proofs.Math.Nat.{mul-le-mul_left, mul-le-mul_right}
 use Rattle.std.proofs.lemmas.Nat.{div-add-mod', mod_below, le-div, div-mul-add, mod-mul-add}
-use Rattle.std.proofs.lemmas.Bool.Decides.{leb_tells, nat_tests}
+use Rattle.std.proofs.lemmas.Bool.Decides.{nat_tests}
 use Rattle.std.proofs.lemmas.Int.{ints}
 use Rattle.std.specs.Int.RustNames.{unsigned_abs}
 use Rattle.farm_rounding.specs.declared.mode.Mode.{Mode}
 use Rattle.farm_rounding.specs.declared.mode.Mode.TheVariants.{HalfAway, TowardZero}
 use Rattle.farm_rounding.specs.Multiple.{nearest_multiple, rounds_up, steps_to}
+use Rattle.farm_rounding.proofs.Steps.{either_side}
 use Rattle.strap_table.specs.Capacity.{IsCapTable, row_at, table_volume, tenths_between, volume_at}
-
--- j is at most q or above it
-either_side : (j q : ℕ) → (j ≤ q) ⊎ (q + 1 ≤ j)
-either_side j q = elim (leb_tells j q) [ inl t ↦ inl (t.1) | inr t ↦ inr (omega arith) ]
+use Rattle.strap_table.proofs.Rows.{of_covered}
 
 -- where more is left over, no less is added
 left_rises : (mode : Mode) (q p r s w : ℕ) → r ≤ s → cond (rounds_up mode q r w) 1 0 ≤ cond (rounds_up mode p s w) 1 0
@@ -184,12 +182,6 @@ pub record HaveVolumes (mode : Mode) (step : ℕ) (rows : List ℤ) (lower upper
   pub high_is : table_volume mode step rows upper ≡ Some high
   pub rise : low ≤ℤ high
 
--- a level up to the top of a table has a volume
-covered : (mode : Mode) (step : ℕ) (rows : List ℤ) (level : ℤ) → unsigned_abs level ≤ 10 * (length rows - 1) →
-    table_volume mode step rows level ≡ Some (volume_at mode step rows (unsigned_abs level))
-unfolding table_volume
-covered mode step rows level within = grind (arith, nat_tests)
-
 -- two levels from 0 up to the top of a table do
 pub have_volumes : (mode : Mode) (step : ℕ) (rows : List ℤ) (lower upper : ℤ) → IsCapTable rows → pos 0 ≤ℤ lower → lower ≤ℤ upper →
     upper ≤ℤ pos (10 * (length rows - 1)) → HaveVolumes mode step rows lower upper
@@ -199,7 +191,7 @@ have_volumes mode step rows lower upper table some below within =
     record {
       low = volume_at mode step rows (unsigned_abs lower);
       high = volume_at mode step rows (unsigned_abs upper);
-      low_is = covered mode step rows lower (omega arith);
-      high_is = covered mode step rows upper top;
+      low_is = of_covered mode step rows lower (omega arith);
+      high_is = of_covered mode step rows upper top;
       rise = volumes_rise mode step rows (unsigned_abs lower) (unsigned_abs upper) table order top;
     }

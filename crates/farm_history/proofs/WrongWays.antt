@@ -1,8 +1,7 @@
 -- The rule on the way that a volume goes: the definition answers exactly where the entry breaks the rule in its own words.
-use Rattle.std.proofs.Common.{◌≡◌, inl, inr, ℕ, Bool, true, false, ◌||◌, if◌then◌else◌, Option, Some, None, option_and_then, Result, Ok, Err, ℤ, pos, ◌-ℤ◌, ◌<ℤ◌, int_lt, refl, ap, sym, ◌∙◌, arith}
+use Rattle.std.proofs.Common.{◌≡◌, inl, inr, ℕ, Bool, true, false, ◌||◌, if◌then◌else◌, Option, Some, None, option_and_then, Ok, Err, ℤ, pos, ◌-ℤ◌, ◌<ℤ◌, int_lt, refl, ap, sym, ◌∙◌, arith}
 use Rattle.std.proofs.lemmas.Bool.{or_cases, or_left, or_right}
 use Rattle.std.proofs.lemmas.Int.{ints}
-use Rattle.farm_fixed.specs.declared.records.ChainRule.{ChainRule}
 use Rattle.farm_fixed.specs.declared.records.Quantities.{Quantities}
 use Rattle.farm_ticket.specs.Amounts.{IsWrongWay, differences, moved}
 use Rattle.farm_ticket.specs.declared.amounts.WrongWay.{WrongWay as NoMove}
@@ -26,17 +25,18 @@ use Rattle.farm_history.specs.Tickets.{is_refused, plan_to_close, to_close}
 use Rattle.farm_history.proofs.OneRule.{test_says}
 use Rattle.farm_history.proofs.Says.{Says}
 use Rattle.farm_history.proofs.SideTests.{none_closes, one_wrong, outside_test, side_wrong, transfer_test}
+use Rattle.farm_history.proofs.Sides.{figures_known}
 
 -- one number less another tests as below zero: it is below the other
 below_from : (a b : ℤ) → int_lt (a -ℤ b) (pos 0) ≡ true → a <ℤ b
 below_from a b test = grind (arith, ints)
 
 -- and one below the other tests so
-below_to : (a b : ℤ) → a <ℤ b → int_lt (a -ℤ b) (pos 0) ≡ true
+pub below_to : (a b : ℤ) → a <ℤ b → int_lt (a -ℤ b) (pos 0) ≡ true
 below_to a b less = grind (arith, ints)
 
 -- what is refused where a test passes
-refused_where : (test : Bool) (wrong : NoMove) (amounts : Moved) → is_refused (if test then Err wrong else Ok amounts) ≡ test
+pub refused_where : (test : Bool) (wrong : NoMove) (amounts : Moved) → is_refused (if test then Err wrong else Ok amounts) ≡ test
 refused_where true wrong amounts = refl
 refused_where false wrong amounts = refl
 
@@ -56,19 +56,7 @@ wrong_to Inward opening closing wrong =
 wrong_to Outward opening closing wrong =
     refused_where (int_lt (opening.nsv -ℤ closing.nsv) (pos 0)) _ _ ∙ below_to opening.nsv closing.nsv wrong
 
--- figures that are known are those of a calculation
-known_from : (history : History) (pair : Named) (figures : Quantities) →
-    figures_at history pair ≡ Some figures → calculated_at history pair ≡ Some (Ok figures)
-unfolding figures_at
-known_from history pair figures = by (calculated_at history pair) refl
-  where
-    by : (o : Option (Result Quantities ChainRule)) → calculated_at history pair ≡ o →
-        option_and_then figures_of o ≡ Some figures → calculated_at history pair ≡ Some (Ok figures)
-    by None is known = cc
-    by (Some (Err rule)) is known = cc
-    by (Some (Ok others)) is known = let same : others ≡ figures = cc in cc
-
--- and those of a calculation are known
+-- the figures of a calculation are known
 known_to : (history : History) (pair : Named) (figures : Quantities) →
     calculated_at history pair ≡ Some (Ok figures) → figures_at history pair ≡ Some figures
 unfolding figures_at
@@ -81,8 +69,8 @@ went_from : (history : History) (way : Way) (at_opening at_closing : Named) (ope
 went_from history way at_opening at_closing opening closing opened closed test = record {
   opening = opening;
   closing = closing;
-  opened = known_from history at_opening opening opened;
-  closed = known_from history at_closing closing closed;
+  opened = figures_known history at_opening opening opened;
+  closed = figures_known history at_closing closing closed;
   wrong = wrong_from way opening closing test;
 }
 
@@ -118,10 +106,10 @@ transfer_from : (history : History) (first second : Gauged) (from to : ℕ) (fro
     figures_at history (named from first) ≡ closing → figures_at history (named to second) ≡ last →
     one_wrong opening other closing last ≡ true → TransferWrong history first second from to from_gauged to_gauged
 transfer_from history first second from to from_gauged to_gauged (Some opening) (Some other) (Some closing) (Some last) is_opening is_other is_closing is_last test = (
-  (opening, known_from history (named from from_gauged) opening is_opening),
-  (closing, known_from history (named from first) closing is_closing),
-  (other, known_from history (named to to_gauged) other is_other),
-  (last, known_from history (named to second) last is_last),
+  (opening, figures_known history (named from from_gauged) opening is_opening),
+  (closing, figures_known history (named from first) closing is_closing),
+  (other, figures_known history (named to to_gauged) other is_other),
+  (last, figures_known history (named to second) last is_last),
   elim (or_cases (is_refused (moved Outward opening closing)) (is_refused (moved Inward other last)) test) [
     | inl e ↦ inl (went_from history Outward (named from from_gauged) (named from first) opening closing is_opening is_closing e)
     | inr e ↦ inr (went_from history Inward (named to to_gauged) (named to second) other last is_other is_last e)

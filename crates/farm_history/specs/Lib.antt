@@ -1,3 +1,4 @@
+-- The definitions of `farm_history`, by subject.
 pub mod Commands
 pub mod Places
 pub mod Given

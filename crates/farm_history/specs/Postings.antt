@@ -33,7 +33,7 @@ amount_held figures = record { litres = figures.nsv; kg = figures.mass }
 abbrev pub opposite : Amount → Amount
 opposite amount = record { litres = neg_ℤ amount.litres; kg = neg_ℤ amount.kg }
 
--- an amount less another, litres and kg apart
+-- an amount less another, litres and kg each by itself
 abbrev pub less : Amount → Amount → Amount
 less amount other = record { litres = amount.litres -ℤ other.litres; kg = amount.kg -ℤ other.kg }
 

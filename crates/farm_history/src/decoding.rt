@@ -26,7 +26,7 @@ impl Entry {
         ensures found { IfOk result (λ entry. IsWellFormed entry × (bytes.now ≡ entry_encoding entry)) }
         ensures typed { IfOk result (λ entry. IsTyped entry) }
         ensures only { (entry : Entry) → IsTyped entry → IsWellFormed entry → bytes.now ≡ entry_encoding entry → result ≡ Ok entry }
-        ensures place { IfErr result (λ bad. IsBadEntryAt bytes.now bad.0) }
+        ensures offset { IfErr result (λ bad. IsBadEntryAt bytes.now bad.0) }
     {
         match whole_entry(bytes) {
             Ok(entry) => Ok(entry),

@@ -3,7 +3,7 @@
 use crate::Command;
 
 /// A command as it stands in a history.
-#[derive(Debug, Drop, PartialEq, Eq)]
+#[derive(Clone, Copy, Debug, PartialEq, Eq)]
 pub struct Entry {
     /// The number of the caller that made it.
     pub caller: u32,

@@ -1,3 +1,4 @@
+-- The lemmas of `farm_http`, by topic.
 pub mod ShortLists
 pub mod Lines
 pub mod NoFloats

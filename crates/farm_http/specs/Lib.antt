@@ -1,3 +1,4 @@
+-- The definitions of `farm_http`, by subject.
 pub mod Members
 pub mod Objects
 pub mod Requests

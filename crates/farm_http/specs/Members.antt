@@ -5,20 +5,16 @@ use Rattle.std.specs.Str.{is_utf8}
 use Rattle.serde_json.specs.Data.{Data, Items, no_items, item}
 use Rattle.serde_json.specs.Find.{as_array, as_i64, as_number, as_str, get}
 use Rattle.serde_json.specs.Read.{read}
+use Rattle.farm_base.specs.Options.{◌>>=◌}
 use Rattle.farm_fixed.specs.Range.{is_within}
 use Rattle.farm_history.specs.declared.few.Few.{Few}
 use Rattle.farm_history.specs.declared.limits.TheConstants.{LONGEST_LIST}
-
-infixl 10 ◌>>=◌
--- the next step on what the first one gives; nothing where one gives nothing
-abbrev pub ◌>>=◌ : {A B : Type 0} → Option A → (A → Option B) → Option B
-value >>= next = option_and_then next value
 
 -- the value that bytes are: UTF-8, and a JSON text that nests at most 127 deep
 unfoldable pub value_of : List ℕ → Option Data
 value_of bytes = if is_utf8 bytes then read bytes else None
 
--- the whole number of 64 bits that a value is; one with a point or an exponent and -0 are none
+-- the whole number of 64 bits that a value is; one with a point or an exponent, or -0, isn't one
 abbrev pub whole_of : Data → Option ℤ
 whole_of value = option_and_then as_i64 (as_number value)
 

@@ -2,6 +2,7 @@
 use Rattle.std.specs.Prelude.{◌≡◌, ◌||◌, ℕ, Bool, true, false, if◌then◌else◌, List, codes, Option, Some, None, is_some, option_and_then, option_map}
 use Rattle.std.specs.Str.{bytes_eq}
 use Rattle.serde_json.specs.Data.{Data}
+use Rattle.farm_base.specs.Options.{◌>>=◌}
 use Rattle.farm_history.specs.declared.ask.Ask.{Ask}
 use Rattle.farm_history.specs.declared.ask.Ask.TheVariants.{Do, Look}
 use Rattle.farm_history.specs.declared.command.Command.{Command}
@@ -11,7 +12,7 @@ use Rattle.farm_history.specs.declared.plan.Plan.TheVariants.{Outside, Transfer}
 use Rattle.farm_history.specs.declared.query.Query.TheVariants as queries
 use Rattle.farm_ticket.specs.declared.side.Way.{Way}
 use Rattle.farm_ticket.specs.declared.side.Way.TheVariants.{Inward, Outward}
-use Rattle.farm_http.specs.Members.{◌>>=◌, few_at, natural_at, text_at, value_of, whole_at}
+use Rattle.farm_http.specs.Members.{few_at, natural_at, text_at, value_of, whole_at}
 use Rattle.serde_json.specs.Find.{get}
 use Rattle.farm_http.specs.declared.requests.LineAsked.{LineAsked}
 use Rattle.farm_http.specs.declared.requests.LineAsked.TheVariants as lines

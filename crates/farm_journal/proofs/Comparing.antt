@@ -8,7 +8,8 @@ use Rattle.farm_journal.specs.Layout.{IsClosed, IsShort, counted, counting, open
 use Rattle.farm_journal.specs.Recovery.{Accepts, AreAccepted, IsRecordDamaged, IsWhole, counted_in}
 use Rattle.farm_journal.specs.Windows.{BeginsWith, IsCounted}
 use Rattle.farm_journal.proofs.Fronts.{begins_first, begins_second, begins_with_1}
-use Rattle.farm_journal.proofs.Records.{counted_length, whole_left}
+use Rattle.farm_journal.proofs.JournalBytes.{length-counted}
+use Rattle.farm_journal.proofs.Records.{whole_left}
 
 -- bytes that are short are counted in what begins with their length and them
 pub whole_of : (bytes left : List ℕ) → IsShort bytes → BeginsWith (counted bytes) left → IsWhole left × (counted_in left ≡ bytes)
@@ -17,7 +18,7 @@ whole_of bytes left short begins =
     let length_bytes = to_be_bytes w32 (length bytes) in
     let is : IsCounted (length bytes) (counted bytes) = record {
       within = short;
-      has_all = omega (arith, counted_length bytes);
+      has_all = omega (arith, length-counted bytes);
       counts = take_at length_bytes bytes 4 refl;
     } in
     let whole = whole_left (length bytes) (counted bytes) left is begins in

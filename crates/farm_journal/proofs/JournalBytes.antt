@@ -26,7 +26,7 @@ unfolding opening signature
 length-opening header = omega (arith, length-counted header)
 
 -- open records, and then one more
-open_records-push : (bodies : List (List ℕ)) (body : List ℕ) → open_records (bodies ++ body ∷ []) ≡ open_records bodies ++ open_record body
+pub open_records-push : (bodies : List (List ℕ)) (body : List ℕ) → open_records (bodies ++ body ∷ []) ≡ open_records bodies ++ open_record body
 open_records-push [] body = append-nil (open_record body)
 open_records-push (first ∷ bodies) body =
     ap (λ records. open_record first ++ records) (open_records-push bodies body)

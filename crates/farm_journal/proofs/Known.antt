@@ -13,12 +13,6 @@ pub known_still : {A : Type 0} (old new : Option A) (P : A → Type 0) → Stays
 known_still old None P stays holds = tt
 known_still old (Some new) P stays holds = subst (λ known. WhereKnown known P) stays holds
 
--- nothing changed in two calls
-pub stays_then : {A : Type 0} (first middle last : Option A) → Stays first middle → Stays middle last → Stays first last
-stays_then first middle None stays then = tt
-stays_then first None (Some states) stays then = cc
-stays_then first (Some other) (Some states) stays then = stays ∙ then
-
 -- a moment from the last of n states on, of two states more
 moments : (n moment : ℕ) → n ≤ moment + 1 → moment < n + 2 →
     ((moment < n) × (moment ≡ n - 1)) ⊎ ((moment ≡ n + 0) ⊎ (moment ≡ n + 1))
@@ -99,8 +93,3 @@ pub unsynced_writes_nothing : (old new : Option (List State)) → AddedIsPresent
 unsynced_writes_nothing None new is_present added = added_nothing unchanged None new is_present (λ state. refl) tt added
 unsynced_writes_nothing (Some old) new is_present added =
     added_nothing unchanged (Some old) new is_present (λ state. refl) (λ image is. is) added
-
--- what is known is what is known
-pub stays_same : {A : Type 0} (known : Option A) → Stays known known
-stays_same None = tt
-stays_same (Some states) = refl

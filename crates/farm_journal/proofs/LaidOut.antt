@@ -8,7 +8,8 @@ use Rattle.farm_journal.specs.Creating.{GivesNone, IsCrashSafe, IsNoneOrEmpty, I
 use Rattle.farm_journal.specs.Layout.{opening, signature}
 use Rattle.farm_journal.specs.Standing.{IsAtRest}
 use Rattle.farm_journal.specs.Steps.{WritesSynced}
-use Rattle.farm_journal.proofs.MakingSteps.{IsNow, each_more, extends_more, extends_of, first_each, first_ends, gate_each, gate_rests, rest_each, rest_ends}
+use Rattle.farm_disk.proofs.Extending.{each_more, extends_more}
+use Rattle.farm_journal.proofs.MakingSteps.{IsNow, extends_of, first_each, first_ends, gate_each, gate_rests, rest_each, rest_ends}
 use Rattle.farm_journal.proofs.JournalBytes.{length-opening}
 
 -- an opening begins with the open gate
@@ -31,6 +32,7 @@ module _ {T E : Type 0} (header bytes : List ℕ) (opening_is : IsOpening header
       WritesSynced 1 (drop 1 bytes) old new result
   rest_step old new result step = subst (λ rest. WritesSynced 1 rest old new result) (take_rest bytes 1) step
 
+  -- and the one that opens the gate
   gate_step : (old new : Option (List State)) (result : Result T E) → WritesSynced 0 (take 1 bytes) old new result →
       WritesSynced 0 (1 ∷ []) old new result
   gate_step old new result step =
@@ -39,9 +41,11 @@ module _ {T E : Type 0} (header bytes : List ℕ) (opening_is : IsOpening header
   module _ (start first second : Option (List State)) (first_result second_result : Result T E) (none : GivesNone start) (first_done : IsOk first_result)
       (first_step : WritesSynced 0 (0 ∷ []) start first first_result)
       (second_step : WritesSynced 1 (take (length bytes - 1) (drop 1 bytes)) first second second_result) where
+    -- after the first step the closed gate stands
     gate_stands : IsNow (at_rest (0 ∷ [])) first
     gate_stands = first_ends header start first first_result first_done none first_step
 
+    -- after two steps a crash leaves no journal, or the one of the header
     pub two_safe : IsCrashSafe header start second
     two_safe short =
         each_more (IsNoneOrEmpty header) start first second (extends_of 1 (take (length bytes - 1) (drop 1 bytes)) first second second_result second_step)
@@ -51,16 +55,19 @@ module _ {T E : Type 0} (header bytes : List ℕ) (opening_is : IsOpening header
 
     module _ (third : Option (List State)) (third_result : Result T E) (second_done : IsOk second_result)
         (third_step : WritesSynced 0 (take 1 bytes) second third third_result) where
+      -- after the second step the rest stands too
       rest_stands : IsNow (at_rest (0 ∷ drop 1 bytes)) second
       rest_stands =
           rest_ends header (drop 1 bytes) first second second_result second_done (some_rest header bytes opening_is) gate_stands
           (rest_step first second second_result second_step)
 
+      -- and after three
       pub three_safe : IsCrashSafe header start third
       three_safe short =
           each_more (IsNoneOrEmpty header) start second third (extends_of 0 (take 1 bytes) second third third_result third_step) (two_safe short)
           (gate_each header (drop 1 bytes) second third third_result (is_split header bytes opening_is) rest_stands (gate_step second third third_result third_step))
 
+      -- after the third step the disk is at rest with the journal of the header
       pub three_rests : IsOk third_result → WhereKnown third (λ states. IsAtRest header [] (present states))
       three_rests third_done =
           gate_rests header (drop 1 bytes) second third third_result third_done (is_split header bytes opening_is) rest_stands (gate_step second third third_result third_step)

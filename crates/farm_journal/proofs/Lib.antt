@@ -1,3 +1,4 @@
+-- The lemmas of `farm_journal`, by topic.
 pub mod JournalBytes
 pub mod Gates
 pub mod Steps

@@ -6,6 +6,7 @@ use Rattle.std.proofs.lemmas.List.Elements.{All-nil}
 use Rattle.std.proofs.Math.ListN.{replicate}
 use Rattle.std.specs.Prelude.{All}
 use Rattle.farm_disk.specs.Images.{IsCrashImage, Range, State, at_rest, overlaid, reach, reach_from, synced, written, written_at}
+use Rattle.farm_disk.proofs.Rebuilt.{reach_least}
 use Rattle.farm_journal.specs.Creating.{IsNoneOrEmpty, IsOpening}
 use Rattle.farm_journal.specs.Layout.{IsJournalOf, IsShort, signature}
 use Rattle.farm_journal.specs.Recovery.{IsNotJournal}
@@ -15,17 +16,12 @@ use Rattle.farm_journal.proofs.Gates.{IsGate, gate_reach, other_uncovered, set_p
 use Rattle.farm_journal.proofs.JournalBytes.{counting-empty, journal_of, with_open_seam, written_seam}
 use Rattle.farm_journal.proofs.Writes.{at_rest_synced, synced-written, writing_ranges}
 
--- the writes reach no less far than the base
-base_reach : (least : ℕ) (ranges : List Range) → least ≤ reach_from least ranges
-base_reach least [] = omega arith
-base_reach least (range ∷ ranges) = omega (arith, base_reach least ranges)
-
 -- some image is as long as the writes reach
 reached : (state : State) (limit : ℕ) → ((image : List ℕ) → IsCrashImage state image → length image < limit) → reach state < limit
 reached state limit each =
     let size = length state.base in
     let zeros : List ℕ = replicate (reach state - size) 0 in
-    let least : size ≤ reach state = base_reach size state.ranges in
+    let least : size ≤ reach state = reach_least size state.ranges in
     let long : length (state.base ++ zeros) ≡ reach state =
     omega (arith, least, length-append state.base zeros, length-replicate {A = ℕ} (reach state - size) 0) in
     let image : IsCrashImage state (state.base ++ zeros) = record {

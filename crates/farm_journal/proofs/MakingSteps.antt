@@ -1,9 +1,7 @@
 -- The three synced writes in which a journal is made, one after another.
-use Rattle.std.proofs.Common.{◌≡◌, ⊎_elim, ℕ, ◌<◌, ◌≤◌, List, [], ◌∷◌, length, take, Option, Some, None, Result, Ok, Err, IsOk, OnOk, inr, refl, sym, ap, ◌∙◌, subst, arith}
-use Rattle.std.proofs.lemmas.Bool.{cases_lt}
-use Rattle.std.proofs.lemmas.List.{get_or-take, length-take, take-take}
+use Rattle.std.proofs.Common.{◌≡◌, ℕ, ◌<◌, List, [], ◌∷◌, length, Option, Some, None, Result, Ok, Err, IsOk, OnOk, inr, refl, sym, ap, ◌∙◌, subst}
 use Rattle.farm_base.specs.Known.{WhereKnown}
-use Rattle.farm_disk.specs.Images.{IsCrashImage, State, at_rest, present, state_at, synced, written}
+use Rattle.farm_disk.specs.Images.{IsCrashImage, State, at_rest, present, synced, written}
 use Rattle.farm_disk.specs.Runs.{EachNow, EachSince, Extends}
 use Rattle.farm_journal.specs.Creating.{GivesNone, IsNoneOrEmpty, IsOpening}
 use Rattle.farm_journal.specs.Standing.{IsAtRest}
@@ -22,29 +20,6 @@ pub extends_of : {T E : Type 0} (at : ℕ) (bytes : List ℕ) (old new : Option 
 extends_of at bytes old None result step = tt
 extends_of at bytes None (Some new) result step = step
 extends_of at bytes (Some old) (Some new) result step = step.extends
-
--- states that extend those that extend others extend these
-pub extends_more : (old mid new : Option (List State)) → Extends old mid → Extends mid new → Extends old new
-extends_more old mid None first second = tt
-extends_more old None (Some new) first second = absurd second
-extends_more None (Some mid) (Some new) first second = absurd first
-extends_more (Some old) (Some mid) (Some new) first second =
-    let shorter : length old ≤ length mid = omega (arith, ap length first, length-take (length old) mid) in
-    sym (take-take (length old) (length mid) new shorter) ∙ ap (λ states. take (length old) states) second ∙ first
-
--- what holds of each image over a run and over the next one holds over both
-pub each_more : (P : List ℕ → Type 0) (old mid new : Option (List State)) → Extends mid new → EachSince old mid P → EachSince mid new P → EachSince old new P
-each_more P old mid None extends first second = tt
-each_more P old None (Some new) extends first second = absurd extends
-each_more P None (Some mid) (Some new) extends first second = absurd first
-each_more P (Some old) (Some mid) (Some new) extends first second = λ moment since within image is.
-    ⊎_elim
-    (λ before.
-    let same : state_at new moment ≡ state_at mid moment =
-    sym (get_or-take (length mid) new moment (at_rest []) before) ∙ ap (λ states. state_at states moment) extends in
-    first moment since before image (subst (λ state. IsCrashImage state image) same is))
-    (λ later. second moment (omega arith) within image is)
-    (cases_lt moment (length mid))
 
 -- the last state is this one
 abbrev pub IsNow : State → Option (List State) → Type 0
@@ -81,6 +56,7 @@ module _ (header : List ℕ) where
       (λ state writing. first_writing header (present old) state short writing)
       (λ image left. closed_image header [] image (subst (λ state. IsCrashImage state image) (first_synced header (present old) none) left))
 
+  -- and at its end the disk is at rest with the closed gate alone
   pub first_ends : {T E : Type 0} (old new : Option (List State)) (result : Result T E) → IsOk result → GivesNone old →
       WritesSynced 0 (0 ∷ []) old new result → IsNow (at_rest (0 ∷ [])) new
   first_ends old None result done none step = tt
@@ -95,6 +71,7 @@ module _ (header : List ℕ) where
       each_from 1 bytes (at_rest (0 ∷ [])) (at_rest (0 ∷ bytes)) old new result (IsNoneOrEmpty header) now (rest_synced header bytes some)
       (λ state writing. rest_writing header bytes state some writing) (closed_image header bytes) step
 
+  -- and at its end the disk is at rest with the closed gate and the rest
   pub rest_ends : {T E : Type 0} (bytes : List ℕ) (old new : Option (List State)) (result : Result T E) → IsOk result → 0 < length bytes →
       IsNow (at_rest (0 ∷ [])) old → WritesSynced 1 bytes old new result → IsNow (at_rest (0 ∷ bytes)) new
   rest_ends bytes old new result done some now step =
@@ -108,6 +85,7 @@ module _ (header : List ℕ) where
       (λ state writing. gate_writing header rest state opening_is writing)
       (λ image left. inr (at_rest_image header [] _ image (gate_synced header rest opening_is) left)) step
 
+  -- and at its end the disk is at rest with the journal of the header
   pub gate_rests : {T E : Type 0} (rest : List ℕ) (old new : Option (List State)) (result : Result T E) → IsOk result → IsOpening header (1 ∷ rest) →
       IsNow (at_rest (0 ∷ rest)) old → WritesSynced 0 (1 ∷ []) old new result → WhereKnown new (λ states. IsAtRest header [] (present states))
   gate_rests rest old None result done opening_is now step = tt

@@ -8,7 +8,7 @@ use Rattle.farm_journal.specs.Recovery.{Accepts, AreAccepted, IsDamagedAfter, Is
 use Rattle.farm_journal.specs.Windows.{BeginsWith}
 use Rattle.farm_journal.proofs.Comparing.{IsLonger, closed_not_next, compare, counted_same, counting_begins, damaged_not_next, next_accepted, next_is, next_short, whole_of}
 use Rattle.farm_journal.proofs.Fronts.{begins_size}
-use Rattle.farm_journal.proofs.Records.{counted_length}
+use Rattle.farm_journal.proofs.JournalBytes.{length-counted}
 
 -- two journals that the same bytes begin with have one header, and one list of bodies or one that goes on
 compared : (header other : List ℕ) (bodies others : List (List ℕ)) (bytes : List ℕ) → IsShort header → IsShort other →
@@ -56,7 +56,7 @@ unfolding signature
 begins_as_journal header bodies bytes begins not =
     let first = counting_begins header bodies bytes begins in
     let size = begins_size (counted header) (drop 9 bytes) first.1 in
-    ⊎_elim (λ short. omega (arith, size, counted_length header, length-drop 9 bytes)) (λ other. other first.0) not
+    ⊎_elim (λ short. omega (arith, size, length-counted header, length-drop 9 bytes)) (λ other. other first.0) not
 
 -- a header that is accepted isn't damaged
 header_not_damaged : (accepts : Accepts) (header : List ℕ) (bodies : List (List ℕ)) (bytes : List ℕ) → IsShort header →

@@ -51,14 +51,17 @@ module _ (header : List ℕ) (bodies : List (List ℕ)) (body : List ℕ) where
   module _ {D T E : Type 0} (trace : D → Option (List State)) (view old : JournalState D) (disk : D) (result : Result T E)
       (same : view ≡ old) (stands : Stands trace header bodies (Some body) old)
       (step : WritesSynced view.gate (1 ∷ []) (trace view.disk) (trace disk) result) where
+    -- the step writes at the gate of the body
     at_gate : WritesSynced (length (counting header bodies)) (1 ∷ []) (trace old.disk) (trace disk) result
     at_gate =
         subst (λ gate. WritesSynced gate (1 ∷ []) (trace old.disk) (trace disk) result) stands.gate
         (subst (λ journal. WritesSynced journal.gate (1 ∷ []) (trace journal.disk) (trace disk) result) same step)
 
+    -- each image while a gate is opened has the body, or doesn't
     pub open_images : EachSince (trace old.disk) (trace disk) (IsEither header bodies body)
     open_images = open_each (trace old.disk) (trace disk) result stands.kept at_gate
 
+    -- where the step fails, the body is still pending
     pub open_stays : (new : JournalState D) → IsErr result → new.disk ≡ disk → new.gate ≡ view.gate → new.count ≡ view.count →
         new.next_gate ≡ view.next_gate → Stands trace header bodies (Some body) new
     open_stays new failed is_disk is_gate is_count is_next = record {
@@ -69,6 +72,7 @@ module _ (header : List ℕ) (bodies : List (List ℕ)) (body : List ℕ) where
           (open_fails (trace old.disk) (trace disk) result failed stands.kept at_gate);
     }
 
+    -- where it succeeds, the body is in the journal
     pub open_stands : (new : JournalState D) (next : ℕ) → IsOk result → new.disk ≡ disk → view.next_gate ≡ Some next → new.gate ≡ next →
         new.count ≡ view.count + 1 → new.next_gate ≡ None → Stands trace header (bodies ++ body ∷ []) None new
     open_stands new next done is_disk was_next is_gate is_count is_next =

@@ -106,15 +106,19 @@ module _ (header : List ℕ) (bodies : List (List ℕ)) (body : List ℕ) where
   module _ {D T E : Type 0} (trace : D → Option (List State)) (old : JournalState D) (disk : D) (result : Result T E)
       (stands : Stands trace header bodies None old)
       (step : WritesSynced (old.gate + 1) (counted body ++ 0 ∷ []) (trace old.disk) (trace disk) result) where
+    -- the step writes after the gate
     at_gate : WritesSynced (length (counting header bodies) + 1) (counted body ++ 0 ∷ []) (trace old.disk) (trace disk) result
     at_gate = subst (λ gate. WritesSynced (gate + 1) (counted body ++ 0 ∷ []) (trace old.disk) (trace disk) result) stands.gate step
 
+    -- each image while a body is put is one of the journal without it
     pub put_images : EachSince (trace old.disk) (trace disk) (IsJournalOf header bodies)
     put_images = put_each (trace old.disk) (trace disk) result stands.kept at_gate
 
+    -- where the put fails, the disk is at rest with the bodies that there were
     pub put_kept : IsErr result → WhereKnown (trace disk) (λ states. IsAtRest header bodies (present states))
     put_kept failed = put_fails (trace old.disk) (trace disk) result failed stands.kept at_gate
 
+    -- where it succeeds, the body is pending
     pub put_stands : (new : JournalState D) → IsOk result → IsShort body → new.disk ≡ disk → new.gate ≡ old.gate → new.count ≡ old.count →
         new.next_gate ≡ Some (old.gate + 5 + length body) → Stands trace header bodies (Some body) new
     put_stands new done short is_disk is_gate is_count is_next = record {
@@ -125,6 +129,7 @@ module _ (header : List ℕ) (bodies : List (List ℕ)) (body : List ℕ) where
           (put_done (trace old.disk) (trace disk) result done short stands.kept at_gate);
     }
 
+    -- where it fails, the journal stands as it did
     pub put_stays : (new : JournalState D) → IsErr result → new.disk ≡ disk → new.gate ≡ old.gate → new.count ≡ old.count →
         new.next_gate ≡ old.next_gate → Stands trace header bodies None new
     put_stays new failed is_disk is_gate is_count is_next = record {

@@ -8,10 +8,11 @@ use Rattle.std.proofs.lemmas.Nat.{from_be_bytes-to_be_bytes_4}
 use Rattle.std.proofs.Math.Seq.{take-add}
 use Rattle.farm_journal.specs.declared.limits.TheConstants.{MAX_BODY}
 use Rattle.farm_journal.specs.Layout.{IsShort, counted, counting, open_record, open_records, opening, signature}
-use Rattle.farm_journal.specs.Reading.{counting_of}
+use Rattle.farm_journal.specs.Progress.{counting_of}
 use Rattle.farm_journal.specs.Recovery.{Accepts, AreAccepted, IsWhole, counted_in, size_at}
 use Rattle.farm_journal.specs.Windows.{BeginsWith, IsCounted}
 use Rattle.farm_journal.proofs.Fronts.{begins_append, begins_front, begins_size, begins_take, begins_then}
+use Rattle.farm_journal.proofs.JournalBytes.{length-counted, open_records-push}
 
 -- the bytes that are counted are as many as their length says
 pub counted_size : (size : ℕ) (ahead : List ℕ) → IsCounted size ahead → length (take size (drop 4 ahead)) ≡ size
@@ -41,20 +42,13 @@ whole_left size ahead left is begins =
       ap (λ size. take size (drop 4 left)) counts ∙ sym (drop-take 4 size left) ∙ ap (λ bytes. drop 4 bytes) all ∙ drop-take 4 size ahead,
     )
 
--- one record more
-open_records_push : (bodies : List (List ℕ)) (body : List ℕ) → open_records (bodies ++ body ∷ []) ≡ open_records bodies ++ open_record body
-open_records_push [] body = append-nil (open_record body)
-open_records_push (first ∷ bodies) body =
-    ap (λ records. open_record first ++ records) (open_records_push bodies body)
-    ∙ sym (append_assoc (open_record first) (open_records bodies) (open_record body))
-
 -- what counts once one body more was taken
 pub counting_push : (taken : List (List ℕ)) (body : List ℕ) → taken ≢ [] →
     counting_of (taken ++ body ∷ []) ≡ counting_of taken ++ open_record body
 unfolding counting
 counting_push [] body some = absurd (some refl)
 counting_push (header ∷ bodies) body some =
-    ap (λ records. opening header ++ records) (open_records_push bodies body)
+    ap (λ records. opening header ++ records) (open_records-push bodies body)
     ∙ sym (append_assoc (opening header) (open_records bodies) (open_record body))
 
 -- of what was taken there is something, once there is one more
@@ -138,11 +132,6 @@ header_size size ahead is =
     omega (arith, ap length (counted_ahead size ahead is), length-take (4 + size) ahead, is.has_all) in
     omega (arith, ap length (counting_header header), length-append signature (counted header), counts)
 
--- what is counted has its length in 4 bytes before it
-pub counted_length : (bytes : List ℕ) → length (counted bytes) ≡ 4 + length bytes
-unfolding counted
-counted_length bytes = length-append (to_be_bytes w32 (length bytes)) bytes
-
 -- open records of short bodies
 records_within : (bodies : List (List ℕ)) → All IsShort bodies → length (open_records bodies) ≤ length bodies * 2 ^ 25
 unfolding open_record
@@ -150,7 +139,7 @@ records_within [] short = omega arith
 records_within (body ∷ bodies) short =
     let rest = records_within bodies (λ k d within. short (suc k) d (omega arith)) in
     let first : length body ≤ MAX_BODY = short 0 [] (omega arith) in
-    omega (arith, rest, first, length-append (open_record body) (open_records bodies), counted_length body)
+    omega (arith, rest, first, length-append (open_record body) (open_records bodies), length-counted body)
 
 -- each header and each body takes at most 2 ^ 25 bytes
 pub counting_within : (taken : List (List ℕ)) → All IsShort taken → length (counting_of taken) ≤ length taken * 2 ^ 25
@@ -159,4 +148,4 @@ counting_within [] short = omega arith
 counting_within (header ∷ bodies) short =
     let rest = records_within bodies (λ k d within. short (suc k) d (omega arith)) in
     let first : length header ≤ MAX_BODY = short 0 [] (omega arith) in
-    omega (arith, rest, first, length-append (opening header) (open_records bodies), length-append signature (counted header), counted_length header)
+    omega (arith, rest, first, length-append (opening header) (open_records bodies), length-append signature (counted header), length-counted header)

@@ -5,7 +5,7 @@ use Rattle.std.proofs.lemmas.List.Elements.{All-nil}
 use Rattle.farm_base.specs.Known.{WhereKnown}
 use Rattle.farm_disk.specs.Images.{Range, State, at_rest, present}
 use Rattle.farm_journal.specs.Layout.{IsClosed, IsJournalOf, IsShort, counting}
-use Rattle.farm_journal.specs.Reading.{HasTakenAll, IsAllSynced}
+use Rattle.farm_journal.specs.Progress.{HasTakenAll, IsAllSynced}
 use Rattle.farm_journal.specs.Recovery.{Accepts, IsRecovered}
 use Rattle.farm_journal.specs.Standing.{IsAtRest, IsWithinOffsets, JournalState, StandsOf}
 use Rattle.farm_journal.specs.Windows.{BeginsWith}

@@ -11,7 +11,7 @@ use Rattle.farm_journal.specs.declared.faults.RecoverFault.TheVariants.{NotJourn
 use Rattle.farm_journal.specs.declared.taker.Taken.{Taken}
 use Rattle.farm_journal.specs.declared.taker.Taken.TheVariants.{Go, Bad, NoMemory as Lacking}
 use Rattle.farm_journal.specs.Layout.{IsShort}
-use Rattle.farm_journal.specs.Reading.{HasTaken, IsAnswer, IsDamageOr, IsRefusedWith, counting_of}
+use Rattle.farm_journal.specs.Progress.{HasTaken, IsAnswer, IsDamageOr, IsRefusedWith, counting_of}
 use Rattle.farm_journal.specs.Recovery.{Accepts, AreAccepted, IsDamagedAt, IsJudged, IsNotJournal, IsRecordDamaged, IsWhole, TakesNext}
 use Rattle.farm_journal.specs.Windows.{BeginsWith, IsCounted, WhereLeft}
 use Rattle.farm_journal.proofs.Fronts.{begins_then, begins_with_1}

@@ -10,7 +10,7 @@ use Rattle.farm_disk.specs.Images.{State, present}
 use Rattle.farm_journal.specs.declared.taker.Taken.{Taken}
 use Rattle.farm_journal.specs.declared.taker.Taken.TheVariants.{Go, Bad, NoMemory as Lacking}
 use Rattle.farm_journal.specs.Layout.{IsShort, signature}
-use Rattle.farm_journal.specs.Reading.{HasTaken, IsAnswer, IsGate, counting_of}
+use Rattle.farm_journal.specs.Progress.{HasTaken, IsAnswer, IsGate, counting_of}
 use Rattle.farm_journal.specs.Recovery.{Accepts, IsJudged, IsNotJournal, TakesNext}
 use Rattle.farm_journal.specs.Windows.{BeginsWith, IsCounted, Shows, WhereLeft, WindowState}
 use Rattle.farm_journal.proofs.Fronts.{begins_then}

@@ -1,8 +1,9 @@
+-- The definitions of `farm_journal`, by subject.
 pub mod Layout
 pub mod Buffers
 pub mod Recovery
 pub mod Windows
-pub mod Reading
+pub mod Progress
 pub mod Steps
 pub mod Standing
 pub mod Creating

@@ -135,7 +135,7 @@ impl<D: Disk> Journal<D> {
 
     /// Its disk. Takes no memory and makes no call on it.
     pub fn into_disk(self) -> D
-        ensures { result ≡ self.disk }
+        ensures disk { result ≡ self.disk }
     {
         self.disk
     }

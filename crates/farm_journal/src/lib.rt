@@ -18,5 +18,5 @@ mod writing;
 pub use faults::{CreateFault, DiskFault, RecoverFault};
 pub use journal::Journal;
 pub use laws::journal_laws;
-pub use limits::{MAX_BODIES, MAX_BODY};
+pub use limits::{BEFORE_HEADER, MAX_BODIES, MAX_BODY};
 pub use taker::{Taken, Taker};

@@ -2,15 +2,13 @@
 
 ghost use Rattle.std.specs.Prelude.{◌≡◌, ◌≤◌, ◌+◌, ◌-◌, ◌++◌, [], ◌∷◌, IfOk, OnErr, OnOk, length, max, take};
 ghost use Rattle.farm_journal.specs.Layout.{open_record};
-ghost use Rattle.farm_journal.specs.declared.limits.TheConstants.{MAX_BODY};
+ghost use Rattle.farm_journal.specs.declared.limits.TheConstants.{AROUND_BODY, MAX_BODY};
 
 use crate::MAX_BODY;
+use crate::limits::AROUND_BODY;
 use farm_base::NoMemory;
 use std::alloc::Global;
 use std::marker::Model;
-
-// A gate, a length, and the gate after the body.
-const AROUND_BODY: usize = 6;
 
 /// Room for a record with the gate after it, and the record that was last made.
 #[derive(Drop)]
@@ -22,12 +20,13 @@ pub struct RecordBuffer {
 impl Model for RecordBuffer {
     ghost use Rattle.std.specs.Prelude.{◌-◌, ◌≤◌, length, take};
     ghost use Rattle.farm_journal.specs.Buffers.{BufferState};
+    ghost use Rattle.farm_journal.specs.declared.limits.TheConstants.{AROUND_BODY};
 
     ghost Value = { BufferState };
 
-    ghost view = { λ buffer. record { room = length buffer.bytes.items - 6; made = take buffer.made buffer.bytes.items } };
+    ghost view = { λ buffer. record { room = length buffer.bytes.items - AROUND_BODY; made = take buffer.made buffer.bytes.items } };
 
-    ghost invariant = { λ buffer. (6 ≤ length buffer.bytes.items) × (buffer.made ≤ length buffer.bytes.items) };
+    ghost invariant = { λ buffer. (AROUND_BODY ≤ length buffer.bytes.items) × (buffer.made ≤ length buffer.bytes.items) };
 }
 
 impl RecordBuffer {
@@ -74,9 +73,9 @@ impl RecordBuffer {
 
 // Lays the record of a body out at the front, with its gate open, and a closed gate after it.
 fn lay_record(bytes: &mut [u8], body: &[u8])
-    requires room { length body.now + 6 ≤ length bytes.old }
+    requires room { length body.now + AROUND_BODY ≤ length bytes.old }
     requires short { length body.now ≤ MAX_BODY }
-    ensures { take (length body.now + 6) bytes.new ≡ open_record body.now ++ 0 ∷ [] }
+    ensures { take (length body.now + AROUND_BODY) bytes.new ≡ open_record body.now ++ 0 ∷ [] }
 {
     let end = body.len() + 5;
     bytes[0] = 1;

@@ -5,20 +5,18 @@ ghost use Rattle.farm_base.specs.Counts.{Rose};
 ghost use Rattle.farm_base.specs.Known.{KeepsKnown, WhereKnown};
 ghost use Rattle.farm_disk.specs.Images.{present};
 ghost use Rattle.farm_disk.specs.Runs.{Extends, WritesNothing};
-ghost use Rattle.farm_journal.specs.Reading.{GoesOn, HasTaken, HasTakenAll, IsAllSynced, IsAnswer, IsDamageOr, IsGate, IsNoJournalOr, IsRefusedWith};
+ghost use Rattle.farm_journal.specs.Progress.{GoesOn, HasTaken, HasTakenAll, IsAllSynced, IsAnswer, IsDamageOr, IsGate, IsNoJournalOr, IsRefusedWith};
 ghost use Rattle.farm_journal.specs.Recovery.{IsNotJournal, IsRecovered, IsRefusal, IsWhole};
 ghost use Rattle.farm_journal.specs.Standing.{StandsOf, disk_left};
 ghost use Rattle.farm_journal.specs.Windows.{IsCounted, Shows};
+ghost use Rattle.farm_journal.specs.declared.limits.TheConstants.{SIGNATURE_BYTES};
 
-use crate::limits::SIGNATURE;
+use crate::limits::{BEFORE_HEADER, LENGTH_BYTES, SIGNATURE};
 use crate::record_buffer::RecordBuffer;
 use crate::window::Window;
 use crate::{Journal, RecoverFault, Taken, Taker};
 use farm_disk::Disk;
 use std::alloc::Global;
-
-// How many bytes an opening has before its header.
-const LEAST: usize = 13;
 
 impl<D: Disk> Journal<D> {
     /// Opens the journal that stands on a disk: it gives the header and the bodies to a taker, in their order, each once.
@@ -94,8 +92,8 @@ fn take_header<D: Disk, T: Taker>(window: &mut Window<D>, taker: &mut T) -> Resu
 {
     pass_signature(window)?;
     let size = counted_at(window, 0)?;
-    let answer = taker.header(&window.ahead()[4..4 + size]);
-    window.pass(4 + size);
+    let answer = taker.header(&window.ahead()[LENGTH_BYTES..LENGTH_BYTES + size]);
+    window.pass(LENGTH_BYTES + size);
     or_refused(answer, 0)
 }
 
@@ -104,14 +102,14 @@ fn pass_signature<D: Disk>(window: &mut Window<D>) -> Result<(), RecoverFault>
     requires start { window.old.offset ≡ 0 }
     requires shows { Shows D.trace window.old }
     ensures shows { Shows D.trace window.new }
-    ensures offset { OnOk result (window.new.offset ≡ 9) }
+    ensures offset { OnOk result (window.new.offset ≡ SIGNATURE_BYTES) }
     ensures is_journal { OnOk result (WhereKnown (D.trace window.new.disk) (λ states. IsNotJournal (present states).seen → ⊥)) }
     ensures refused { IfErr result (IsNoJournalOr (D.trace window.new.disk)) }
     ensures keeps { KeepsKnown (D.trace window.old.disk) (D.trace window.new.disk) (D.faults window.old.disk) (D.faults window.new.disk)
         RecoverFault.DiskFault result }
     ensures moment { D.moment window.old.disk ≤ D.moment window.new.disk }
 {
-    if !window.look(LEAST)? {
+    if !window.look(BEFORE_HEADER)? {
         return Err(RecoverFault::NotJournal);
     }
     if !window.ahead().starts_with(&SIGNATURE) {
@@ -163,8 +161,8 @@ fn take_body<D: Disk, T: Taker>(
     }
     window.pass(1);
     let size = counted_at(window, place)?;
-    let answer = taker.body(place, &window.ahead()[4..4 + size]);
-    window.pass(4 + size);
+    let answer = taker.body(place, &window.ahead()[LENGTH_BYTES..LENGTH_BYTES + size]);
+    window.pass(LENGTH_BYTES + size);
     or_refused(answer, place)?;
     Ok(true)
 }

@@ -5,11 +5,12 @@ ghost use Rattle.farm_base.specs.Counts.{HasCause};
 ghost use Rattle.farm_base.specs.Known.{KeepsKnown};
 ghost use Rattle.farm_disk.specs.Calls.{Reads};
 ghost use Rattle.farm_disk.specs.Runs.{Extends, WritesNothing};
-ghost use Rattle.farm_journal.specs.Reading.{IsAllSynced};
+ghost use Rattle.farm_journal.specs.Progress.{IsAllSynced};
 ghost use Rattle.farm_journal.specs.Recovery.{size_at};
 ghost use Rattle.farm_journal.specs.Windows.{BeginsWith, Counts, IsOutside, Looks, Shows};
 ghost use Rattle.std.specs.Int.{to_be_bytes, w32};
 
+use crate::limits::LENGTH_BYTES;
 use crate::{MAX_BODY, RecoverFault};
 use farm_base::NoMemory;
 use farm_disk::{Disk, disk_laws};
@@ -127,11 +128,11 @@ impl<D: Disk> Window<D> {
         ensures moment { D.moment self.old.disk ≤ D.moment self.new.disk }
         ensures offset { self.new.offset ≡ self.old.offset }
     {
-        if !self.look(4)? {
+        if !self.look(LENGTH_BYTES)? {
             return Ok(None);
         }
         let size = size_at(self.ahead());
-        if size > MAX_BODY || !self.look(4 + size)? {
+        if size > MAX_BODY || !self.look(LENGTH_BYTES + size)? {
             return Ok(None);
         }
         Ok(Some(size))
@@ -207,9 +208,9 @@ fn lengthen(bytes: &mut Vec<u8>, need: usize) -> Result<(), NoMemory>
 
 // The number that these bytes begin with.
 fn size_at(bytes: &[u8]) -> usize
-    requires { 4 ≤ length bytes.now }
+    requires { LENGTH_BYTES ≤ length bytes.now }
     ensures size { result ≡ size_at bytes.now }
-    ensures counts { take 4 bytes.now ≡ to_be_bytes w32 result }
+    ensures counts { take LENGTH_BYTES bytes.now ≡ to_be_bytes w32 result }
 {
     u32::from_be_bytes([bytes[0], bytes[1], bytes[2], bytes[3]]) as usize
 }

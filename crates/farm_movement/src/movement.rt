@@ -34,7 +34,7 @@ impl Model for OpenMove {
 impl OpenMove {
     /// The movement that was opened at a place, for a party, on these legs.
     pub fn new(place: u32, party: u16, first: Leg, second: Option<Leg>) -> OpenMove
-        ensures { result ≡ record { place = place; party = party; first = first; second = second } }
+        ensures opened { result ≡ record { place = place; party = party; first = first; second = second } }
     {
         OpenMove {
             place,
@@ -46,7 +46,7 @@ impl OpenMove {
 
     /// The movement cancelled at a place.
     pub fn cancel(self, place: u32) -> CancelledMove
-        ensures { result ≡ record { place = place; movement = self } }
+        ensures cancelled { result ≡ record { place = place; movement = self } }
     {
         CancelledMove {
             place,

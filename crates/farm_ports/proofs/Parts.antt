@@ -6,7 +6,7 @@ use Rattle.farm_base.specs.Known.{Adds}
 use Rattle.farm_base.proofs.Additions.{additions_add_up}
 
 -- a front of a text, and then a front of its rest, are a front of it
-fronts_join : (text : List ℕ) (done count : ℕ) →
+pub fronts_join : (text : List ℕ) (done count : ℕ) →
     take done text ++ take count (take (length text - done) (drop done text)) ≡ take (done + count) text
 fronts_join text done count =
     ap (λ t. take done text ++ take count t) (take_rest text done) ∙ sym (take-add done count text)

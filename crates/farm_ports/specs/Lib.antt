@@ -1,3 +1,4 @@
+-- The definitions of `farm_ports`, by subject.
 pub mod Ports
 pub mod Pieces
 pub mod Folders

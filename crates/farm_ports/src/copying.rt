@@ -8,7 +8,7 @@ ghost use Rattle.farm_ports.specs.Ports.{PutsAll, ReadsOn, ReadsUpTo};
 use crate::{Failed, PortFault, Sink, Source};
 use std::alloc::Global;
 
-/// How many bytes of stack a read uses: what it takes passes through them on its way to memory.
+// How many bytes of stack a read uses: what it takes passes through them on its way to memory.
 const CHUNK: usize = 8_192;
 
 /// Puts all of a text into a sink, or fails with a front of it put.

@@ -46,7 +46,7 @@ impl<R: Files> DirFolder<R> {
 
     /// How many of its reads failed; the count stands still at the last `u64`.
     pub fn faults(&self) -> u64
-        ensures { result ≡ ⟦<DirFolder<R> as Folder>⟧.faults self.now }
+        ensures faults { result ≡ ⟦<DirFolder<R> as Folder>⟧.faults self.now }
     {
         self.faults
     }

@@ -26,7 +26,7 @@ impl Model for FailingCalls {
 impl FailingCalls {
     /// No call yet. Takes no memory.
     pub fn new(failing: Vec<u64>) -> Self
-        ensures { result ≡ no_calls failing.items }
+        ensures no_calls { result ≡ no_calls failing.items }
     {
         FailingCalls {
             made: 0,
@@ -63,7 +63,7 @@ impl FailingCalls {
 
     /// How many calls failed; the count stands still at the last `u64`.
     pub fn faults(&self) -> u64
-        ensures { result ≡ self.now.faults }
+        ensures faults { result ≡ self.now.faults }
     {
         self.faults
     }

@@ -50,7 +50,7 @@ impl Files {
 
     /// How many of its reads failed; the count stands still at the last `u64`.
     pub fn faults(&self) -> u64
-        ensures { result ≡ ⟦<Files as Folder>⟧.faults self.now }
+        ensures faults { result ≡ ⟦<Files as Folder>⟧.faults self.now }
     {
         self.calls.faults()
     }

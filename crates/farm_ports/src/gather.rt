@@ -53,7 +53,7 @@ impl Gather {
 
     /// How many of its puts failed; the count stands still at the last `u64`.
     pub fn faults(&self) -> u64
-        ensures { result ≡ ⟦<Gather as Port>⟧.faults self.now }
+        ensures faults { result ≡ ⟦<Gather as Port>⟧.faults self.now }
     {
         self.calls.faults()
     }

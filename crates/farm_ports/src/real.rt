@@ -35,7 +35,7 @@ impl<R: Read> StdSource<R> {
 
     /// How many of its reads failed; the count stands still at the last `u64`.
     pub fn faults(&self) -> u64
-        ensures { result ≡ ⟦<StdSource<R> as Port>⟧.faults self.now }
+        ensures faults { result ≡ ⟦<StdSource<R> as Port>⟧.faults self.now }
     {
         self.faults
     }
@@ -92,7 +92,7 @@ impl<W: Write> StdSink<W> {
 
     /// How many of its writes failed or took nothing; the count stands still at the last `u64`.
     pub fn faults(&self) -> u64
-        ensures { result ≡ ⟦<StdSink<W> as Port>⟧.faults self.now }
+        ensures faults { result ≡ ⟦<StdSink<W> as Port>⟧.faults self.now }
     {
         self.faults
     }

@@ -69,7 +69,7 @@ impl Script {
 
     /// How many of its takes failed; the count stands still at the last `u64`.
     pub fn faults(&self) -> u64
-        ensures { result ≡ ⟦<Script as Port>⟧.faults self.now }
+        ensures faults { result ≡ ⟦<Script as Port>⟧.faults self.now }
     {
         self.calls.faults()
     }

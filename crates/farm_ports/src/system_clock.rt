@@ -23,7 +23,7 @@ impl<R> Model for SystemClock<R> {
 impl<R: time::Clock> SystemClock<R> {
     /// The clock of this runtime.
     pub fn new(rt: R) -> Self
-        ensures { result ≡ rt }
+        ensures runtime { result ≡ rt }
     {
         SystemClock { rt }
     }

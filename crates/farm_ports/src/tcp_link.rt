@@ -11,13 +11,13 @@ use std::net::{Net, OpenStream, TcpStream, ToSocketAddrs};
 use std::time::{Clock, Duration};
 use std::{io, str, thread};
 
-/// For how many seconds a connect waits for each address of a host.
+// For how many seconds a connect waits for each address of a host.
 const CONNECT_SECONDS: u64 = 5;
 
-/// For how many seconds a send or a receive waits for the device.
+// For how many seconds a send or a receive waits for the device.
 const ANSWER_SECONDS: u64 = 2;
 
-/// How many seconds a pause lasts.
+// How many seconds a pause lasts.
 const PAUSE_SECONDS: u64 = 1;
 
 /// A link over a TCP connection. Nothing is known of its calls.
@@ -56,7 +56,7 @@ impl<R: Net + Clock> TcpLink<R> {
 
     /// How many of its calls failed; the count stands still at the last `u64`.
     pub fn faults(&self) -> u64
-        ensures { result ≡ ⟦<TcpLink<R> as Link>⟧.faults self.now }
+        ensures faults { result ≡ ⟦<TcpLink<R> as Link>⟧.faults self.now }
     {
         self.faults
     }

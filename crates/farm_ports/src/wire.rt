@@ -73,7 +73,7 @@ impl Wire {
 
     /// How many of its calls failed; the count stands still at the last `u64`.
     pub fn faults(&self) -> u64
-        ensures { result ≡ ⟦<Wire as Link>⟧.faults self.now }
+        ensures faults { result ≡ ⟦<Wire as Link>⟧.faults self.now }
     {
         self.numbered.faults()
     }

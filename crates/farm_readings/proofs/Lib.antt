@@ -1,1 +1,2 @@
+-- The lemmas of `farm_readings`, by topic.
 pub mod Within

@@ -1,26 +1,20 @@
 -- A number between two multiples is rounded to one between them.
 use Rattle.std.proofs.Common.{inl, inr, ℕ, suc, ◌+◌, ◌*◌, ◌<◌, ◌≤◌, IsTrue, ℤ, pos, negsuc, neg_ℤ, ◌+ℤ◌, ◌*ℤ◌, ◌-ℤ◌, ◌≤ℤ◌, refl, arith}
-use Rattle.std.proofs.Math.Nat.{mul-le-mul_right}
-use Rattle.std.proofs.lemmas.Bool.Decides.{leb_tells, nat_tests}
+use Rattle.std.proofs.lemmas.Bool.Decides.{nat_tests}
 use Rattle.std.proofs.lemmas.Int.{ints}
 use Rattle.std.specs.Int.RustNames.{unsigned_abs}
 use Rattle.farm_fixed.specs.Range.{IsWithin}
+use Rattle.farm_fixed.specs.declared.limits.TheConstants.{MOST_HEIGHT}
 use Rattle.farm_rounding.specs.declared.mode.Mode.{Mode}
 use Rattle.farm_rounding.specs.declared.mode.Mode.TheVariants.{HalfAway, TowardZero}
 use Rattle.farm_rounding.specs.Multiple.{IsMultiple, IsNearest, is_step}
+use Rattle.farm_rounding.proofs.Steps.{fewer_wholes}
 
--- a common factor of two natural numbers
-less_of_times : (a b d : ℕ) → 0 < d → a * d ≤ b * d → a ≤ b
-less_of_times a b d positive times = elim (leb_tells a b) [
-  | inl t ↦ t.1
-  | inr t ↦ let more : (b + 1) * d ≤ a * d = mul-le-mul_right d (omega (arith, t.1)) in absurd (omega (arith, more, times, positive))
-]
-
--- and of two integers
+-- a common factor of two integers
 times_below : (a b : ℤ) (d : ℕ) → 0 < d → (a *ℤ pos d) ≤ℤ (b *ℤ pos d) → a ≤ℤ b
 times_below (pos a) (pos b) d positive times =
     let fewer : a * d ≤ b * d = omega (arith, ints, times) in
-    omega (arith, ints, less_of_times a b d positive fewer)
+    omega (arith, ints, fewer_wholes a b d positive fewer)
 times_below (pos a) (negsuc b) d positive times =
     let below : pos (a * d) ≤ℤ neg_ℤ (pos (suc b * d)) = times in
     absurd (omega (arith, ints, below, positive))
@@ -28,7 +22,7 @@ times_below (negsuc a) (pos b) d positive times = omega (arith, ints)
 times_below (negsuc a) (negsuc b) d positive times =
     let below : neg_ℤ (pos (suc a * d)) ≤ℤ neg_ℤ (pos (suc b * d)) = times in
     let fewer : suc b * d ≤ suc a * d = omega (arith, ints, below) in
-    omega (arith, ints, less_of_times (suc b) (suc a) d positive fewer)
+    omega (arith, ints, fewer_wholes (suc b) (suc a) d positive fewer)
 
 -- what is no further from n than a number above it isn't above that number
 below_of_close : (x y n : ℤ) → unsigned_abs (x -ℤ n) ≤ unsigned_abs (y -ℤ n) → n ≤ℤ y → x ≤ℤ y
@@ -69,8 +63,8 @@ no_height : (step : ℕ) → IsMultiple step (pos 0)
 no_height step = (pos 0, omega (arith, ints))
 
 -- the greatest height is a multiple of each step
-greatest_height : (step : ℕ) → IsTrue (is_step step) → IsMultiple step (pos 50000)
-greatest_height = each_step (λ s. IsMultiple s (pos 50000)) (pos 50000, refl) (pos 25000, refl) (pos 10000, refl) (pos 5000, refl) (pos 2500, refl) (pos 1000, refl) (pos 500, refl)
+greatest_height : (step : ℕ) → IsTrue (is_step step) → IsMultiple step MOST_HEIGHT
+greatest_height = each_step (λ s. IsMultiple s MOST_HEIGHT) (pos 50000, refl) (pos 25000, refl) (pos 10000, refl) (pos 5000, refl) (pos 2500, refl) (pos 1000, refl) (pos 500, refl)
 
 -- so is the least temperature
 least_temperature : (step : ℕ) → IsTrue (is_step step) → IsMultiple step (negsuc 9999)
@@ -81,7 +75,7 @@ greatest_temperature : (step : ℕ) → IsTrue (is_step step) → IsMultiple ste
 greatest_temperature = each_step (λ s. IsMultiple s (pos 30000)) (pos 30000, refl) (pos 15000, refl) (pos 6000, refl) (pos 3000, refl) (pos 1500, refl) (pos 600, refl) (pos 300, refl)
 
 -- the sum of three heights
-pub sum_within : (first second third : ℤ) → IsWithin (pos 0) (pos 50000) first → IsWithin (pos 0) (pos 50000) second → IsWithin (pos 0) (pos 50000) third →
+pub sum_within : (first second third : ℤ) → IsWithin (pos 0) MOST_HEIGHT first → IsWithin (pos 0) MOST_HEIGHT second → IsWithin (pos 0) MOST_HEIGHT third →
     IsWithin (pos 0) (pos 150000) (first +ℤ second +ℤ third)
 sum_within first second third a b c = record {
   low = omega (arith, ints, a.low, b.low, c.low);
@@ -90,9 +84,9 @@ sum_within first second third a b c = record {
 
 -- the rounded mean of three heights is a height
 pub mean_height : (mode : Mode) (total : ℤ) (step : ℕ) (m : ℤ) → IsTrue (is_step step) → IsWithin (pos 0) (pos 150000) total →
-    IsNearest mode total 3 step m → IsWithin (pos 0) (pos 50000) m
+    IsNearest mode total 3 step m → IsWithin (pos 0) MOST_HEIGHT m
 mean_height mode total step m allowed within nearest =
-    nearest_within mode total 3 step (pos 0) (pos 50000) m (omega arith) (no_height step) (greatest_height step allowed)
+    nearest_within mode total 3 step (pos 0) MOST_HEIGHT m (omega arith) (no_height step) (greatest_height step allowed)
     (omega (arith, ints)) (omega (arith, ints)) within.low within.high nearest
 
 -- the rounded mean of temperatures is a temperature

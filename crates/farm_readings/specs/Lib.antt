@@ -1,1 +1,2 @@
+-- The definitions of `farm_readings`, by subject.
 pub mod Readings

@@ -2,12 +2,13 @@
 
 ghost use Rattle.std.specs.Prelude.{◌≡◌, pos, negsuc};
 ghost use Rattle.farm_fixed.specs.Range.{IsWithin};
+ghost use Rattle.farm_fixed.specs.declared.limits.TheConstants.{MOST_HEIGHT};
 
 use farm_fixed::{Centi, Mm};
 
 /// A height that is known to be in range.
 pub fn height(units: i128) -> Mm
-    requires { IsWithin (pos 0) (pos 50000) units }
+    requires { IsWithin (pos 0) MOST_HEIGHT units }
     ensures { result ≡ units }
 {
     Mm::new(units as i64).unwrap()

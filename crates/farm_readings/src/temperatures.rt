@@ -17,7 +17,7 @@ pub const MOST_TEMPERATURES: usize = 8;
 
 /// The mean of 1 to 8 temperatures, rounded.
 pub fn mean_temp(list: &[Centi], rounds: &RoundTable) -> Centi
-    requires { AreTemperatures list.now }
+    requires temperatures { AreTemperatures list.now }
     ensures value { result ≡ mean_temperature rounds.now list.now }
     ensures meaning { IsNearest (row_at rounds.now LIQUID_TEMPERATURE).1 (total list.now) (length list.now) (row_at rounds.now LIQUID_TEMPERATURE).0 result }
 {
@@ -40,7 +40,7 @@ fn rounded_mean(total: i128, count: usize, step: i64, mode: Mode) -> Centi
 
 // The sum of temperatures.
 fn total(list: &[Centi]) -> i128
-    requires { AreTemperatures list.now }
+    requires temperatures { AreTemperatures list.now }
     ensures value { result ≡ total list.now }
     ensures low { pos 0 ≤ℤ (result +ℤ pos (10000 * length list.now)) }
     ensures high { result ≤ℤ pos (30000 * length list.now) }

@@ -6,7 +6,7 @@ use Rattle.farm_disk.specs.Runs.{EachSince, Extends}
 use Rattle.farm_history.specs.History.{History, last_place, with_entry}
 use Rattle.farm_history.specs.declared.entry.Entry.{Entry}
 use Rattle.farm_journal.specs.Standing.{JournalState}
-use Rattle.farm_journal.proofs.MakingSteps.{extends_more}
+use Rattle.farm_disk.proofs.Extending.{extends_more}
 use Rattle.farm_records.specs.Histories.{HasGrown, Recovers, RecoversFront, certain}
 use Rattle.farm_records.specs.Records.{AreRecords}
 use Rattle.farm_records.proofs.Traces.{extends_same}

@@ -1,3 +1,4 @@
+-- The lemmas of `farm_records`, by topic.
 pub mod Traces
 pub mod Growing
 pub mod Settling

@@ -1,9 +1,10 @@
 -- Which bytes are accepted next: those of a site first, and then those of an entry that may come next.
 use Rattle.std.proofs.Common.{◌≡◌, ◌∙◌, ℕ, ℤ, Bool, true, false, ◌&&◌, List, [], Some, Result, Ok, Err, ◌≤ℤ◌, IsTrue, is_ok, refl, sym, ap, arith}
 use Rattle.std.specs.Int.RustNames.{int_le}
+use Rattle.std.proofs.lemmas.Bool.{and_parts}
 use Rattle.std.proofs.lemmas.Int.{ints}
-use Rattle.site_reading.specs.Readers.{IsBytes}
-use Rattle.site_reading.specs.declared.fault.SiteBytesFault.{SiteBytesFault}
+use Rattle.site_decoding.specs.Readers.{IsBytes}
+use Rattle.site_decoding.specs.declared.fault.SiteBytesFault.{SiteBytesFault}
 use Rattle.farm_book.specs.Entering.{IsNextEncoding}
 use Rattle.farm_history.specs.declared.entry.Entry.{Entry}
 use Rattle.farm_history.specs.declared.verdict.Verdict.{Verdict}
@@ -26,11 +27,6 @@ acceptance Accept is = refl
 acceptance (Repeat place) is = absurd cc
 acceptance (Refused rule) is = absurd cc
 
--- both of two tests that came out true together
-pub both_true : (first second : Bool) → (first && second) ≡ true → (first ≡ true) × (second ≡ true)
-both_true true second is = (refl, is)
-both_true false second is = absurd cc
-
 -- numbers that test as in order are
 in_order : (low high : ℤ) → int_le low high ≡ true → low ≤ℤ high
 in_order low high is = grind (arith, ints)
@@ -50,7 +46,7 @@ next_of : (limit : ℕ) (history : History) (bytes : List ℕ) (read : Result En
 next_of limit history bytes (Err left) fits reads is = absurd cc
 next_of limit history bytes (Ok entry) fits reads is =
     let found = entry_found bytes entry fits reads in
-    let both = both_true (is_accepted (verdict limit history entry)) (int_le (last_moment history) entry.at) is in
+    let both = and_parts (is_accepted (verdict limit history entry)) (int_le (last_moment history) entry.at) is in
     record {
       entry = entry;
       typed = found.0.0;

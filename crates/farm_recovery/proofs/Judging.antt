@@ -1,7 +1,7 @@
 -- How a desk that recovers its journal judges what it is given, and what it has taken then.
 use Rattle.std.proofs.Common.{◌≡◌, ◌∙◌, inl, ⊎_elim, ℕ, ◌+◌, ◌<◌, Bool, true, false, List, [], ◌∷◌, ◌++◌, Option, Some, None, IfSome, IsFalse, IsTrue, option_map, refl, sym, ap, subst}
 use Rattle.std.proofs.lemmas.Bool.{cases_lt}
-use Rattle.site_reading.specs.Readers.{IsBytes}
+use Rattle.site_decoding.specs.Readers.{IsBytes}
 use Rattle.farm_book.specs.Entering.{Enters, IsNextEncoding}
 use Rattle.farm_book.specs.Kept.{Kept}
 use Rattle.farm_history.specs.declared.entry.Entry.{Entry}

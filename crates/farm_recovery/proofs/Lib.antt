@@ -1,3 +1,4 @@
+-- The lemmas of `farm_recovery`, by topic.
 pub mod Decoded
 pub mod Acceptance
 pub mod OneHistory

@@ -1,6 +1,7 @@
 -- Bytes that stand for a history are a journal, and aren't damaged.
 use Rattle.std.proofs.Common.{◌≡◌, ◌∙◌, ⊎_elim, inl, inr, ℕ, zero, suc, ◌+◌, Bool, true, false, not, ◌&&◌, List, [], ◌∷◌, ◌++◌, length, get_or, take, drop, Some, All, IsFalse, refl, sym, ap, subst, arith, bytes_eq, length-append}
 use Rattle.std.specs.Cmp.Lexicographic.{pointwise, pointwise_decides}
+use Rattle.std.proofs.lemmas.Bool.{and_parts}
 use Rattle.std.proofs.lemmas.List.{get_or_at, take_at}
 use Rattle.std.proofs.lemmas.Slice.Eq.{bytes_eq-Decides}
 use Rattle.farm_book.specs.Entering.{IsNextEncoding}
@@ -16,7 +17,6 @@ use Rattle.farm_recovery.specs.Accepting.{taken_of}
 use Rattle.farm_records.specs.Histories.{IsRecordable, Recovers, entry_encodings}
 use Rattle.farm_recovery.specs.Laws.{RecoveredIsNotRefused}
 use Rattle.farm_recovery.specs.Recovery.{IsDamagedAfter, IsDamagedAt, IsEntryDamaged, IsSiteDamaged, counting_of}
-use Rattle.farm_recovery.proofs.Acceptance.{both_true}
 use Rattle.farm_records.proofs.Growing.{front_recordable}
 use Rattle.farm_recovery.proofs.OneHistory.{among, same_history}
 
@@ -43,7 +43,7 @@ accepts_others : (taken others : List (List ℕ)) (bytes : List ℕ) → ((back 
 unfolding all_but
 accepts_others taken others bytes none = λ front back other split.
     fails (pointwise bytes_eq taken front && bytes_eq bytes other) (λ holds.
-    let both = both_true (pointwise bytes_eq taken front) (bytes_eq bytes other) holds in
+    let both = and_parts (pointwise bytes_eq taken front) (bytes_eq bytes other) holds in
     let same_taken : taken ≡ front = (pointwise_decides bytes_eq-Decides taken front).0 both.0 in
     let same_bytes : bytes ≡ other = (bytes_eq-Decides bytes other).0 both.1 in
     none back (split ∙ ap (λ front. front ++ other ∷ back) (sym same_taken) ∙ ap (λ other. taken ++ other ∷ back) (sym same_bytes)))

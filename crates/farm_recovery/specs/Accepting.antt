@@ -9,7 +9,7 @@ use Rattle.farm_journal.specs.Recovery.{Accepts}
 use Rattle.farm_site.specs.Decoding.{whole_site}
 use Rattle.farm_site.specs.Described.{Described}
 use Rattle.farm_site.specs.Encoding.{site_encoding}
-use Rattle.site_reading.specs.declared.fault.SiteBytesFault.{SiteBytesFault}
+use Rattle.site_decoding.specs.declared.fault.SiteBytesFault.{SiteBytesFault}
 use Rattle.farm_records.specs.Histories.{entry_encodings}
 
 -- an entry and those after it

@@ -12,7 +12,7 @@ ghost use Rattle.farm_recovery.specs.Recovery.{IsRefused};
 use farm_book::{Book, EnterFault};
 use farm_journal::{Taken, Taker};
 use farm_site::{Site, SiteBytesFault};
-use site_reading::reading_laws;
+use site_decoding::decoding_laws;
 use std::alloc::Global;
 use std::marker::Model;
 
@@ -50,7 +50,7 @@ impl<const LIMIT: usize> Recovering<LIMIT> {
         ensures refused { (bytes : List ℕ) (fault : RecoverFault) →
             IsRefusal (accepted_next LIMIT) (taken_of self.now) bytes fault → IsRefused LIMIT bytes fault }
     {
-        reading_laws();
+        decoding_laws();
         let _ = &self.book;
     }
 
@@ -73,7 +73,7 @@ impl<const LIMIT: usize> Taker for Recovering<LIMIT> {
     ghost accepts = { accepted_next LIMIT };
 
     fn header(&mut self, bytes: &[u8]) -> Taken {
-        reading_laws();
+        decoding_laws();
         match Site::from_bytes(self.alloc, bytes) {
             Ok(site) => match Book::new(self.alloc, site) {
                 Ok(book) => {
@@ -103,7 +103,7 @@ fn entered<const LIMIT: usize>(book: &mut Book<LIMIT>, bytes: &[u8]) -> Taken
     ensures recordable { IsRecordable LIMIT book.new.history }
     ensures room { result ≡ Taken.Go → last_place book.old.history < LIMIT + STOPS_BEYOND_LIMIT }
 {
-    reading_laws();
+    decoding_laws();
     match book.enter(bytes) {
         Ok(()) => Taken::Go,
         Err(EnterFault::NotNext) => Taken::Bad,

@@ -2,12 +2,12 @@
 
 ghost use Rattle.farm_recovery.specs.Laws.{OneHistory, RecoveredIsNotRefused};
 
-use site_reading::reading_laws;
+use site_decoding::decoding_laws;
 
 /// Does nothing: its contract is what holds of the bytes of every journal.
 pub fn laws()
     ensures one_history { OneHistory }
     ensures recovered_is_not_refused { RecoveredIsNotRefused }
 {
-    reading_laws();
+    decoding_laws();
 }

@@ -1,16 +1,7 @@
 -- The rows of issued tables, one after another, and what a buffer begins with.
 use native.Mathlib.Numerals.{unary_clauses}
-use Rattle.std.proofs.Common.{◌≡◌, ℕ, zero, suc, ◌+◌, ◌*◌, ◌<◌, List, [], ◌∷◌, ◌++◌, length, take, slice_index_or, ℤ, refl, ◌∙◌, arith, append_assoc, append-nil}
+use Rattle.std.proofs.Common.{◌≡◌, ℕ, zero, suc, ◌+◌, ◌*◌, ◌<◌, List, [], ◌∷◌, ◌++◌, length, take, slice_index_or, ℤ, ◌∙◌, arith, append_assoc, append-nil}
 use Rattle.farm_report.specs.Issued.{row_line, rows_from}
-
--- what begins as a longer text does begins as its front
-pub begins_before : (front rest long text : List ℕ) → long ≡ front ++ rest → take (length long) text ≡ long →
-    take (length front) text ≡ front
-begins_before [] rest long text whole begins = refl
-begins_before (b ∷ front) rest [] text whole begins = absurd (cc whole)
-begins_before (b ∷ front) rest (c ∷ long) [] whole begins = absurd (cc begins)
-begins_before (b ∷ front) rest (c ∷ long) (a ∷ text) whole begins =
-    let shorter = begins_before front rest long text (cc whole) (cc begins) in cc (whole, begins, shorter)
 
 -- the lines of one row more
 rows_from-take : (index i : ℕ) (rows : List ℤ) (d : ℤ) → i < length rows →

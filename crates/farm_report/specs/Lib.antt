@@ -1,2 +1,3 @@
+-- The definitions of `farm_report`, by subject.
 pub mod Figures
 pub mod Issued

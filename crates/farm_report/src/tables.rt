@@ -4,6 +4,7 @@ ghost use Rattle.std.specs.Prelude.{◌*◌, ◌≤◌, length, map, IsTrue};
 ghost use Rattle.farm_base.specs.Appended.{Appends};
 ghost use Rattle.site_items.specs.Tanks.{tank_number};
 ghost use Rattle.site_keys.specs.Lists.{rises};
+ghost use Rattle.strap_table.specs.declared.faults.TheConstants.{MOST_ROWS};
 ghost use Rattle.text_pieces.specs.Pieces.{Lengthens};
 ghost use Rattle.farm_report.specs.Issued.{issued_text, row_line, rows_from, tank_line, tank_text};
 
@@ -60,7 +61,7 @@ fn write_tank_line(number: u16, out: &mut Vec<u8>) -> Result<(), NoMemory>
 
 // Appends the lines of rows.
 fn write_rows(rows: &[i64], out: &mut Vec<u8>) -> Result<(), NoMemory>
-    requires { length rows.now ≤ 5001 }
+    requires { length rows.now ≤ MOST_ROWS }
     ensures rows { Lengthens out.old.items out.new.items (rows_from 0 rows.now) result }
 {
     for (index, litres) in rows.iter().enumerate() {

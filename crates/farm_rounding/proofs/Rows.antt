@@ -1,21 +1,12 @@
 -- Rows of a table, from the test of each.
-use Rattle.std.proofs.Common.{◌≡◌, inl, inr, ℕ, zero, suc, ◌+◌, ◌-◌, ◌<◌, Bool, true, false, ◌&&◌, ◌==◌, if◌then◌else◌, IsTrue, List, [], ◌∷◌, length, get_or, Some, None, refl, sym, subst, arith}
+use Rattle.std.proofs.Common.{◌≡◌, inl, inr, ℕ, zero, suc, ◌+◌, ◌-◌, ◌<◌, Bool, true, false, ◌==◌, if◌then◌else◌, IsTrue, List, [], ◌∷◌, length, get_or, Some, None, refl, sym, subst, arith}
+use Rattle.std.proofs.lemmas.Bool.{and_from, and_parts}
 use Rattle.std.proofs.lemmas.Bool.Decides.{leb_tells, nat_tests}
 use Rattle.std.proofs.lemmas.List.{get_or_past}
 use Rattle.farm_rounding.specs.declared.mode.Mode.TheVariants.{HalfAway}
 use Rattle.farm_rounding.specs.Multiple.{is_step}
-use Rattle.farm_rounding.specs.declared.table.TheConstants.{FACTOR_TIES}
+use Rattle.farm_rounding.specs.declared.table.TheConstants.{FACTOR_TIES, ROWS}
 use Rattle.farm_rounding.specs.Table.{IsAllowedRow, IsFirstBadRow, IsTable, Row, first_bad_row, is_row, row_at}
-
--- the first of two tests that both hold
-and_first : (a b : Bool) → (a && b) ≡ true → a ≡ true
-and_first true b both = refl
-and_first false b both = both
-
--- and the second
-and_second : (a b : Bool) → (a && b) ≡ true → b ≡ true
-and_second true b both = both
-and_second false b both = cc
 
 -- the first row passes
 passes_first : (n : ℕ) (row : Row) (rows : List Row) (b : Bool) → is_row n row ≡ b → first_bad_row n (row ∷ rows) ≡ None → is_row n row ≡ true
@@ -39,21 +30,21 @@ each_row n (suc k) (row ∷ rows) good within =
 
 -- the step of a row that passes is allowed
 step_of_row : (n : ℕ) (row : Row) → is_row n row ≡ true → IsTrue (is_step row.0)
-step_of_row n row passes = and_first (is_step row.0) (if n == FACTOR_TIES then row.0 == 1 else true) passes
+step_of_row n row passes = (and_parts (is_step row.0) (if n == FACTOR_TIES then row.0 == 1 else true) passes).0
 
 -- and that of the factor ties is 1
 tie_of : (row : Row) → is_row 7 row ≡ true → row.0 ≡ 1
-tie_of row passes = let one : IsTrue (row.0 == 1) = and_second (is_step row.0) (row.0 == 1) passes in grind (arith, nat_tests)
+tie_of row passes = let one : IsTrue (row.0 == 1) = (and_parts (is_step row.0) (row.0 == 1) passes).1 in grind (arith, nat_tests)
 
 -- the step of a row that passes, and of none
-step_of : (rows : List Row) → first_bad_row 1 rows ≡ None → length rows ≡ 12 → (k : ℕ) → IsTrue (is_step (get_or rows k (1, HalfAway)).0)
-step_of rows good twelve k = elim (leb_tells (k + 1) 12) [
+step_of : (rows : List Row) → first_bad_row 1 rows ≡ None → length rows ≡ ROWS → (k : ℕ) → IsTrue (is_step (get_or rows k (1, HalfAway)).0)
+step_of rows good twelve k = elim (leb_tells (k + 1) ROWS) [
   | inl t ↦ step_of_row (1 + k) (get_or rows k (1, HalfAway)) (each_row 1 k rows good (omega (arith, t.1)))
   | inr t ↦ let P : Row → Type 0 = λ row. IsTrue (is_step row.0) in subst P (sym (get_or_past rows k (1, HalfAway) (omega (arith, t.1)))) refl
 ]
 
 -- twelve rows that pass are a table
-pub table_from_rows : (rows : List Row) → length rows ≡ 12 → first_bad_row 1 rows ≡ None → IsTable rows
+pub table_from_rows : (rows : List Row) → length rows ≡ ROWS → first_bad_row 1 rows ≡ None → IsTable rows
 table_from_rows rows twelve good = record {
   twelve = twelve;
   steps = λ n. step_of rows good twelve (n - 1);
@@ -67,14 +58,9 @@ allowed_of n row passes = record {
   ties = λ here. let P : ℕ → Type 0 = λ m. is_row m row ≡ true in tie_of row (subst P here passes);
 }
 
--- two tests that hold both
-both_hold : (a b : Bool) → a ≡ true → b ≡ true → (a && b) ≡ true
-both_hold true b first second = second
-both_hold false b first second = cc
-
 -- a row that may stand there passes
 passes_of : (n : ℕ) (row : Row) → IsAllowedRow n row → is_row n row ≡ true
-passes_of n row allowed = both_hold (is_step row.0) (if n == FACTOR_TIES then row.0 == 1 else true) allowed.step (by (n == FACTOR_TIES) refl)
+passes_of n row allowed = and_from (is_step row.0) (if n == FACTOR_TIES then row.0 == 1 else true) allowed.step (by (n == FACTOR_TIES) refl)
   where
     by : (b : Bool) → (n == FACTOR_TIES) ≡ b → (if n == FACTOR_TIES then row.0 == 1 else true) ≡ true
     by true e = let one : row.0 ≡ 1 = allowed.ties (grind (arith, nat_tests)) in rw e (grind (arith, nat_tests))

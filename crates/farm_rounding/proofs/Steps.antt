@@ -12,8 +12,15 @@ abbrev pub apart : ℕ → ℕ → ℕ
 apart a b = (a - b) + (b - a)
 
 -- j is at most q or above it
-either_side : (j q : ℕ) → (j ≤ q) ⊎ (q + 1 ≤ j)
+pub either_side : (j q : ℕ) → (j ≤ q) ⊎ (q + 1 ≤ j)
 either_side j q = elim (leb_tells j q) [ inl t ↦ inl (t.1) | inr t ↦ inr (omega arith) ]
+
+-- wholes that are no more in all are no more in number
+pub fewer_wholes : (s q w : ℕ) → 0 < w → s * w ≤ q * w → s ≤ q
+fewer_wholes s q w positive below = elim (either_side s q) [
+  | inl few ↦ few
+  | inr many ↦ let more : (q + 1) * w ≤ s * w = mul-le-mul_right w many in absurd (omega arith)
+]
 
 -- of q wholes and a part of one, rounded half away, j wholes are no closer
 nearest_part : (b : Bool) (q r w j : ℕ) → leb w (2 * r) ≡ b → r < w →

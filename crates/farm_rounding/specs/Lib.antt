@@ -1,2 +1,3 @@
+-- The definitions of `farm_rounding`, by subject.
 pub mod Multiple
 pub mod Table

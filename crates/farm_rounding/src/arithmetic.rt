@@ -47,7 +47,7 @@ pub fn difference(a: i64, b: i64) -> i64
 
 /// A number of magnitude at most 10^36 with its sign turned.
 pub fn negated(a: i128) -> i128
-    requires { unsigned_abs a ≤ 10 ^ 36 }
+    requires fits { unsigned_abs a ≤ 10 ^ 36 }
     ensures value { result ≡ neg_ℤ a }
     ensures size { unsigned_abs result ≡ unsigned_abs a }
 {

@@ -34,6 +34,9 @@ pub const NET_STANDARD: u8 = 11;
 /// A mass, in kg.
 pub const MASS: u8 = 12;
 
+/// How many rows a rounding table has.
+pub const ROWS: usize = 12;
+
 /// Rows that are no rounding table: the number, from 1, of the first row whose step isn't 1, 2, 5, 10, 20, 50 or 100, or of
 /// the seventh row with another step than 1.
 #[derive(Clone, Copy, Debug, PartialEq, Eq, Error)]
@@ -45,7 +48,7 @@ pub struct BadRow(pub u8);
 /// Each step is 1, 2, 5, 10, 20, 50 or 100 units of its figure, and that of the factor ties is 1.
 #[derive(Clone, Copy, Debug)]
 pub struct RoundTable {
-    rows: [(u8, Mode); 12],
+    rows: [(u8, Mode); ROWS],
 }
 
 impl Model for RoundTable {
@@ -63,7 +66,7 @@ impl Model for RoundTable {
 
 impl RoundTable {
     /// The table of these rows, each a step and a mode.
-    pub fn new(rows: [(u8, Mode); 12]) -> Result<RoundTable, BadRow>
+    pub fn new(rows: [(u8, Mode); ROWS]) -> Result<RoundTable, BadRow>
         ensures rows { IfOk result (λ table. table ≡ rows) }
         ensures ok { OnOk result (first_bad_row 1 rows ≡ None) }
         ensures bad { IfErr result (λ bad. first_bad_row 1 rows ≡ Some bad.0) }
@@ -81,9 +84,9 @@ impl RoundTable {
 
     /// The table in use where a site gives no other: half away from zero, to 5 units for the liquid temperature and to 1 elsewhere.
     pub fn usual() -> RoundTable
-        ensures { result ≡ usual_rows }
+        ensures usual_rows { result ≡ usual_rows }
     {
-        let mut rows = [(1, Mode::HalfAway); 12];
+        let mut rows = [(1, Mode::HalfAway); ROWS];
         rows[1] = (5, Mode::HalfAway);
         RoundTable { rows }
     }
@@ -91,7 +94,7 @@ impl RoundTable {
     /// The step and the mode of row `n`, counted from 1.
     pub fn row(&self, n: u8) -> (i64, Mode)
         requires low { 1 ≤ n }
-        requires high { n ≤ 12 }
+        requires high { n ≤ ROWS }
         ensures step { result.0 ≡ pos (row_at self.now n).0 }
         ensures mode { result.1 ≡ (row_at self.now n).1 }
         ensures allowed { IsAllowedStep result.0 }
@@ -104,7 +107,7 @@ impl RoundTable {
     /// `num / den` rounded by row `n`, counted from 1.
     pub fn round(&self, n: u8, num: i128, den: i128) -> i128
         requires row_low { 1 ≤ n }
-        requires row_high { n ≤ 12 }
+        requires row_high { n ≤ ROWS }
         requires numerator { unsigned_abs num ≤ 10 ^ 36 }
         requires denominator_low { pos 1 ≤ℤ den }
         requires denominator_high { den ≤ℤ pos (10 ^ 20) }

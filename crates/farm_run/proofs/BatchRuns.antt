@@ -15,12 +15,8 @@ use Rattle.farm_run.specs.BatchRuns.{DeskBatch, LeavesOnDisk, SaysAfter, last_te
 use Rattle.farm_run.specs.Runs.{LacksMemory, Puts, Refuses, given}
 use Rattle.farm_run.specs.Texts.{disk_failed_line, no_memory, port_fault, too_long_text}
 use Rattle.farm_run.proofs.Printing.{output_with, rose_later, says_last}
-use Rattle.farm_run.proofs.Saying.{PutAnswers, adds_none, rose_before, said_after, without_text}
-
--- nothing is taken of what stays
-takes_none : (known : Option Stream) → Takes known known []
-takes_none None = tt
-takes_none (Some stream) = record { taken = sym (append-nil stream.taken); left = refl }
+use Rattle.farm_base.proofs.Known.{adds_none, takes_none}
+use Rattle.farm_run.proofs.Saying.{PutAnswers, rose_before, said_after, without_text}
 
 -- no line was asked
 asks_none : (may_give : ℤ → Type 0) (found : History) (to : Option Stream) → Asks may_give BOOK_LIMIT found [] [] to []

@@ -1,9 +1,8 @@
 -- What a batch left on the disk, from what the desk keeps.
 use Rattle.std.proofs.Common.{◌≡◌, ◌∙◌, ℕ, ◌+◌, ◌≤◌, Bool, true, false, IfSome, List, Option, None, Some, refl, sym, ap, subst, arith}
 use Rattle.std.proofs.lemmas.List.Elements.{All-weaker}
-use Rattle.batch_lines.specs.Reader.{count_of}
 use Rattle.farm_base.proofs.Rises.{faults_add_up}
-use Rattle.farm_base.specs.Counts.{raised}
+use Rattle.farm_base.specs.Counts.{raised, count_of}
 use Rattle.farm_batch.specs.Answers.{AreAcknowledged, IsReply, Step, faults_in, history_after}
 use Rattle.farm_records.specs.Histories.{RecoversFront, RecoversNow, certain}
 use Rattle.farm_records.specs.Moments.{EachFrom}
@@ -12,7 +11,7 @@ use Rattle.farm_desk.specs.declared.opened.Opened.{Opened}
 use Rattle.farm_disk.specs.Images.{State}
 use Rattle.farm_disk.specs.Runs.{EachNow}
 use Rattle.farm_history.specs.History.{History, last_place}
-use Rattle.farm_journal.proofs.MakingSteps.{extends_more}
+use Rattle.farm_disk.proofs.Extending.{extends_more}
 use Rattle.farm_run.specs.BatchRuns.{LeavesOnDisk, faults_at_end}
 use Rattle.farm_run.specs.Disks.{IsLater}
 use Rattle.farm_run.specs.declared.limits.TheConstants.{BOOK_LIMIT}

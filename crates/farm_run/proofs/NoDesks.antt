@@ -1,7 +1,8 @@
 -- A run of `batch` in which no desk was recovered.
-use Rattle.std.proofs.Common.{◌≡◌, ◌≢◌, inl, inr, ℕ, List, [], Option, None, Some, refl, arith}
+use Rattle.std.proofs.Common.{◌≡◌, ◌≢◌, inl, inr, ℕ, List, [], Option, refl, arith}
+use Rattle.farm_base.proofs.Known.{stays_same}
 use Rattle.farm_base.specs.Counts.{Count, HasRisen, IsQuiet}
-use Rattle.farm_base.specs.Known.{Stays, Stream, WhereKnown}
+use Rattle.farm_base.specs.Known.{Stream, WhereKnown}
 use Rattle.farm_records.specs.Histories.{Recovers}
 use Rattle.farm_recovery.specs.Laws.{RecoveredIsNotRefused}
 use Rattle.farm_recovery.specs.Recovery.{IsRefused}
@@ -17,11 +18,6 @@ use Rattle.farm_run.specs.Runs.{LacksMemory, Output, Says}
 use Rattle.farm_run.specs.Texts.{disk_failed_line}
 use Rattle.farm_run.proofs.Runs.{known_map, where_known}
 use Rattle.farm_run.proofs.Saying.{without_text}
-
--- what is known stays over no call
-stays_same : {A : Type 0} (known : Option A) → Stays known known
-stays_same None = tt
-stays_same (Some value) = refl
 
 module _ (old left : Option (List State)) (disk : Count) (input : Option Stream) (source : ℕ) (output : Output) (status : ℕ)
     (wrote : WritesNothing old left) where

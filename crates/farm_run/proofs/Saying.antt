@@ -1,5 +1,5 @@
 -- What a batch printed: answers of lines, and then the line of its status.
-use Rattle.std.proofs.Common.{zero, suc, ◌≡◌, ◌⊎◌, inl, inr, ℕ, ◌≤◌, List, [], ◌∷◌, ◌++◌, append-nil, take, Option, Some, None, refl, sym, subst, arith}
+use Rattle.std.proofs.Common.{zero, suc, ◌≡◌, ◌⊎◌, inl, inr, ℕ, ◌≤◌, List, [], ◌∷◌, ◌++◌, take, Option, refl, sym, subst, arith}
 use Rattle.farm_base.specs.Counts.{Count, HasRisen, Rose}
 use Rattle.farm_base.specs.Known.{Adds, Fronts}
 use Rattle.farm_base.proofs.Additions.{additions_add_up}
@@ -62,8 +62,3 @@ without_text output others last says = record {
   front = record { bytes = says.front.bytes; added = says.front.added; fronts = no_text (others ++ last ∷ []) says.front.bytes says.front.fronts };
   whole = λ quiet. let whole = says.whole quiet in record { bytes = whole.bytes; added = whole.added; fronts = no_text [] whole.bytes whole.fronts };
 }
-
--- nothing is added to what stays
-pub adds_none : (known : Option (List ℕ)) → Adds known known []
-adds_none None = tt
-adds_none (Some bytes) = sym (append-nil bytes)

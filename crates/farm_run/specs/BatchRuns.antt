@@ -1,8 +1,7 @@
 -- What a run of `batch` does.
 use Rattle.std.specs.Prelude.{◌≡◌, ◌≢◌, ◌⊎◌, ℕ, ◌+◌, ◌<◌, Bool, true, false, List, [], ◌∷◌, ◌++◌, length, Option, Result, Ok, Err, ℤ}
-use Rattle.farm_base.specs.Counts.{Count, HasRisen, IsQuiet, raised}
+use Rattle.farm_base.specs.Counts.{Count, HasRisen, IsQuiet, raised, count_of}
 use Rattle.farm_base.specs.Known.{Adds, Fronts, Stream, Takes, WhereKnown}
-use Rattle.batch_lines.specs.Reader.{count_of}
 use Rattle.farm_batch.specs.declared.batch.BatchEnd.{BatchEnd}
 use Rattle.farm_batch.specs.declared.batch.BatchEnd.TheVariants.{Done, Long, Failed}
 use Rattle.farm_batch.specs.Answers.{AreAcknowledged, IsCutAtLast, Step, answers_text, faults_in, history_after}

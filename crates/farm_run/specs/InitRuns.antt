@@ -1,7 +1,6 @@
 -- What a run of `init` does.
 use Rattle.std.specs.Prelude.{◌≡◌, ◌≢◌, ◌⊎◌, ℕ, List, [], ◌∷◌, Option, Some, None, Result, Ok, Err}
-use Rattle.batch_lines.specs.Reader.{count_of}
-use Rattle.farm_base.specs.Counts.{Count, HasRisen, IsQuiet}
+use Rattle.farm_base.specs.Counts.{Count, HasRisen, IsQuiet, count_of}
 use Rattle.farm_base.specs.Known.{Adds, Stays, WhereKnown}
 use Rattle.farm_desk.specs.Asking.{IsCrashSafe}
 use Rattle.farm_records.specs.Histories.{Recovers}

@@ -1,3 +1,4 @@
+-- The definitions of `farm_run`, by subject.
 pub mod Texts
 pub mod Answers
 pub mod Disks

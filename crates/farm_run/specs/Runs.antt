@@ -1,6 +1,6 @@
 -- What a run of the program does, by what its ports are known to hold and by the counts of their faults.
 use Rattle.std.specs.Prelude.{◌≡◌, ◌⊎◌, ℕ, ◌≤◌, Bool, true, false, length, take, List, [], ◌∷◌, ◌++◌, Option, Some, None, Result, Ok, Err}
-use Rattle.farm_base.specs.Counts.{Count, HasRisen, IsQuiet}
+use Rattle.farm_base.specs.Counts.{Count, HasRisen, IsQuiet, count_of}
 use Rattle.farm_base.specs.Known.{WhereKnown, Stream, Adds, AddsAll, AddsWhole}
 use Rattle.farm_ports.specs.Folders.{File}
 use Rattle.command_line.specs.declared.commands.Subcommand.{Subcommand}
@@ -11,7 +11,6 @@ use Rattle.site_keys.specs.Faults.{IsMissing}
 use Rattle.farm_site.specs.Described.{site_of_files}
 use Rattle.farm_run.specs.Answers.{calc_of, table_of}
 use Rattle.farm_run.specs.Texts.{usage_line, no_memory, port_fault, refusal_text, site_refused_text}
-use Rattle.batch_lines.specs.Reader.{count_of}
 
 -- whether a command makes calls on the input
 abbrev pub uses_input : Option Subcommand → Bool

@@ -1,7 +1,7 @@
 //! `batch`: the lines of an input, asked of the desk of a journal.
 
 ghost use Rattle.std.specs.Prelude.{◌≤◌, IfSome, IsSome};
-ghost use Rattle.batch_lines.specs.Reader.{count_of};
+ghost use Rattle.farm_base.specs.Counts.{count_of};
 ghost use Rattle.farm_desk.specs.States.{IsNew};
 ghost use Rattle.farm_history.specs.History.{last_place};
 ghost use Rattle.farm_run.specs.BatchRuns.{BatchRun, DeskBatch, EndReported, NotRecovered};

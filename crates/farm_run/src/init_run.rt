@@ -1,8 +1,8 @@
 //! `init`: the journal of a site, without an entry, on an empty disk.
 
 ghost use Rattle.std.specs.Prelude.{◌≤◌, IfSome, IsSome};
+ghost use Rattle.farm_base.specs.Counts.{count_of};
 ghost use Rattle.farm_base.specs.Known.{Stays};
-ghost use Rattle.batch_lines.specs.Reader.{count_of};
 ghost use Rattle.farm_run.specs.Disks.{IsLater};
 ghost use Rattle.farm_run.specs.InitRuns.{FolderFailed, InitRun, NotCreated, SiteInit};
 ghost use Rattle.farm_run.specs.Runs.{output_of};

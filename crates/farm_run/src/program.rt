@@ -1,6 +1,7 @@
 //! What the program does: the run of each command over the ports and the disk that it is handed.
 
 ghost use Rattle.std.specs.Prelude.{◌≡◌, ◌≤◌, ◌⊎◌, map, string_bytes, false, None, Some, Ok, Err, IfOk, IfSome, IsSome};
+ghost use Rattle.farm_base.specs.Counts.{count_of};
 ghost use Rattle.farm_base.specs.Known.{Stays};
 ghost use Rattle.farm_report.specs.Figures.{figures_text};
 ghost use Rattle.farm_report.specs.Issued.{issued_text};
@@ -11,7 +12,6 @@ ghost use Rattle.farm_run.specs.BatchRuns.{BatchRun};
 ghost use Rattle.farm_run.specs.Disks.{IsLater};
 ghost use Rattle.farm_run.specs.InitRuns.{InitRun};
 ghost use Rattle.farm_run.specs.Texts.{refusal_text};
-ghost use Rattle.batch_lines.specs.Reader.{count_of};
 ghost use Rattle.farm_run.specs.Runs.{Answers, CalcRun, Delivers, LacksMemory, StopsAtMissing, TableRun, UsageRun, given, output_of, uses_disk, uses_folder, uses_input};
 
 use crate::batch_run::batch;

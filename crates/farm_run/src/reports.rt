@@ -18,11 +18,11 @@ pub(crate) const SITE_REFUSED: u8 = 2;
 pub(crate) const JOURNAL_REFUSED: u8 = 3;
 /// The input was refused.
 pub(crate) const REFUSED: u8 = 4;
-/// The disk failed.
+// The disk failed.
 const DISK_FAULT: u8 = 5;
-/// The input, the output or the folder failed.
+// The input, the output or the folder failed.
 const FAULT: u8 = 6;
-/// There was no memory.
+// There was no memory.
 const MEMORY: u8 = 7;
 
 // Puts an answer.

@@ -1,3 +1,4 @@
+-- The lemmas of `farm_site`, by topic.
 mod RoundingRows
 pub mod TankFacts
 pub mod Meaning

@@ -7,9 +7,9 @@ use Rattle.std.proofs.lemmas.Bool.{and_parts}
 use Rattle.toml.specs.Data.{Data}
 use Rattle.farm_base.specs.Known.{WhereKnown}
 use Rattle.farm_base.specs.Steps.{IsRefusedAs}
+use Rattle.farm_fixed.specs.Range.{is_between}
 use Rattle.farm_ports.specs.Folders.{File}
 use Rattle.farm_rounding.specs.Table.{Row}
-use Rattle.modbus_poll.specs.Maps.{is_between}
 use Rattle.site_keys.specs.declared.fault.SiteFault.{SiteFault}
 use Rattle.site_keys.specs.declared.fault.SiteReadFault.{SiteReadFault}
 use Rattle.site_keys.specs.declared.fault.SiteReadFault.TheVariants.{NoMemory, Folder, Bad}

@@ -6,9 +6,8 @@ use Rattle.std.proofs.lemmas.Bool.{and_parts, not-true}
 use Rattle.farm_base.proofs.BoolTests.{int_lt-false}
 use Rattle.farm_chain.specs.Reading.{IsFloatingRoof}
 use Rattle.farm_fixed.specs.declared.limits.TheConstants.{MOST_ROOF_MASS}
-use Rattle.farm_fixed.specs.Range.{is_within}
+use Rattle.farm_fixed.specs.Range.{is_within, is_between}
 use Rattle.farm_fixed.proofs.ParsingLaws.{is_within-true}
-use Rattle.modbus_poll.specs.Maps.{is_between}
 use Rattle.strap_table.specs.declared.tank.Roof.{Roof}
 use Rattle.site_keys.specs.Lists.{are_numbered, item_numbered, rises}
 use Rattle.site_items.specs.declared.records.Tank.{Tank}

@@ -3,10 +3,10 @@ use Rattle.std.specs.Prelude.{ℕ, ◌==◌, if◌then◌else◌, List, length, 
 use Rattle.farm_base.specs.Steps.{◌>>=◌}
 use Rattle.farm_rounding.specs.Table.{Row}
 use Rattle.modbus_poll.specs.declared.map.LineMap.{LineMap}
-use Rattle.site_reading.specs.declared.fault.SiteBytesFault.{SiteBytesFault}
-use Rattle.site_reading.specs.declared.fault.SiteBytesFault.TheVariants.{BadSite}
-use Rattle.site_reading.specs.ByteReaders.{Reader, made_at, then_at}
-use Rattle.site_reading.specs.Decoding.{head_at, lines_at, parties_at, products_at, tanks_at}
+use Rattle.site_decoding.specs.declared.fault.SiteBytesFault.{SiteBytesFault}
+use Rattle.site_decoding.specs.declared.fault.SiteBytesFault.TheVariants.{BadSite}
+use Rattle.site_decoding.specs.ByteReaders.{Reader, made_at, then_at}
+use Rattle.site_decoding.specs.Decoding.{head_at, lines_at, parties_at, products_at, tanks_at}
 use Rattle.site_items.specs.declared.records.Party.{Party}
 use Rattle.site_items.specs.declared.records.Product.{Product}
 use Rattle.site_items.specs.declared.records.Tank.{Tank}

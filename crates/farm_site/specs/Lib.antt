@@ -1,3 +1,4 @@
+-- The definitions of `farm_site`, by subject.
 pub mod Rounds
 pub mod Described
 pub mod Members

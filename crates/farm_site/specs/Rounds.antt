@@ -13,7 +13,7 @@ use Rattle.site_keys.specs.Faults.{bad, needed}
 use Rattle.site_keys.specs.Keys.{array_at, has}
 use Rattle.site_items.specs.declared.formats.Format.{Format}
 use Rattle.site_items.specs.declared.formats.Format.TheVariants.{One}
-use Rattle.farm_site.specs.declared.rounds.TheConstants.{ROWS}
+use Rattle.farm_rounding.specs.declared.table.TheConstants.{ROWS}
 
 -- a step of the rounding table, as it is written
 abbrev pub step_of : List ℕ → Option ℕ

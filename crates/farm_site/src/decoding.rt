@@ -1,15 +1,15 @@
 //! How a site is read from its bytes. docs/formats.md has the format.
 
 ghost use Rattle.std.specs.Prelude.{◌≡◌, IfOk, MatchResult};
-ghost use Rattle.site_reading.specs.ByteReaders.{Gives};
-ghost use Rattle.site_reading.specs.declared.fault.SiteBytesFault.TheVariants.{NoMemory};
+ghost use Rattle.site_decoding.specs.ByteReaders.{Gives};
+ghost use Rattle.site_decoding.specs.declared.fault.SiteBytesFault.TheVariants.{NoMemory};
 ghost use Rattle.farm_site.specs.Decoding.{whole_site};
 ghost use Rattle.farm_site.specs.Described.{Described};
 ghost use Rattle.farm_site.specs.Encoding.{IsSite, OneEncoding, site_encoding};
 ghost use Rattle.farm_site.specs.Sites.{described};
 
 use crate::{Lines, Parties, Products, Site, SiteBytesFault, Tanks};
-use site_reading::{head_at, lines_at, parties_at, products_at, reading_laws, tanks_at};
+use site_decoding::{decoding_laws, head_at, lines_at, parties_at, products_at, tanks_at};
 use std::alloc::Global;
 
 impl Site {
@@ -23,7 +23,7 @@ impl Site {
         // Two sites with the same bytes are one.
         ensures one_encoding { OneEncoding }
     {
-        reading_laws();
+        decoding_laws();
         Site::whole(alloc, bytes)
     }
 
@@ -32,7 +32,7 @@ impl Site {
     fn whole(alloc: Global, bytes: &[u8]) -> Result<Site, SiteBytesFault>
         ensures whole { Gives (described) result (whole_site bytes.now) }
     {
-        reading_laws();
+        decoding_laws();
         let ((name, rounds), rest) = match head_at(alloc, bytes) {
             Ok(read) => read,
             Err(fault) => return Err(fault),

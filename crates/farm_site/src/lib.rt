@@ -14,6 +14,6 @@ mod site;
 pub use encoding::MOST_SITE_BYTES;
 pub use lists::{Lines, Parties, Products, Tanks};
 pub use site::Site;
+pub use site_decoding::SiteBytesFault;
 pub use site_items::{Format, Name, Party, Product, Tank};
 pub use site_keys::{SiteFault, SiteReadFault};
-pub use site_reading::SiteBytesFault;

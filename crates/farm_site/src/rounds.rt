@@ -6,13 +6,10 @@ ghost use Rattle.toml.specs.View.{view};
 ghost use Rattle.farm_rounding.specs.Table.{IsTable, is_row};
 ghost use Rattle.farm_site.specs.Rounds.{half_or_zero, mode_of, row_in, row_of_value, rounds_at, rows_after, step_of, twelve_rows};
 
-use farm_rounding::{FACTOR_TIES, Mode, RoundTable};
+use farm_rounding::{FACTOR_TIES, Mode, ROWS, RoundTable};
 use site_items::Format;
 use site_keys::{FIELD, Keys, RANGE, SiteFault, bad};
 use toml::Value;
-
-/// How many rows a rounding table has.
-const ROWS: usize = 12;
 
 /// How the site rounds: the twelve rows of a list, or the usual ones where the list is missing.
 #[tactic(auto, unfolding(crate::specs::Rounds::rounds_at))]

@@ -1,3 +1,4 @@
+-- The lemmas of `farm_stock`, by topic.
 pub mod Amounts
 pub mod Places
 pub mod Added

@@ -21,7 +21,7 @@ abbrev pub book_of : ℕ → List Book → Option Amount
 book_of tank [] = None
 book_of tank (book ∷ books) = if book.tank == tank then Some book.amount else book_of tank books
 
--- the sum of two amounts, litres and kg apart
+-- the sum of two amounts, litres and kg each by itself
 abbrev pub plus : Amount → Amount → Amount
 plus first second = record { litres = first.litres +ℤ second.litres; kg = first.kg +ℤ second.kg }
 

@@ -1,3 +1,4 @@
+-- The definitions of `farm_stock`, by subject.
 pub mod Books
 pub mod Places
 pub mod Sums

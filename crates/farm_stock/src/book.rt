@@ -64,7 +64,7 @@ pub fn book_of(books: &[Book], tank: u16) -> Option<Amount>
     Some(books[place].amount)
 }
 
-/// The sum of these books, litres and kg apart.
+/// The sum of these books, litres and kg each by itself.
 pub fn total_of(books: &[Book]) -> Amount
     requires sums { AreWithinSums books.now }
     ensures total { result ≡ total_of books.now }
@@ -76,7 +76,7 @@ pub fn total_of(books: &[Book]) -> Amount
     total
 }
 
-/// The sum of two amounts, litres and kg apart. Both sums fit their type.
+/// The sum of two amounts, litres and kg each by itself. Both sums fit their type.
 pub fn plus(first: Amount, second: Amount) -> Amount
     requires litres { FitsSigned w64 (first.litres +ℤ second.litres) }
     requires kg { FitsSigned w64 (first.kg +ℤ second.kg) }

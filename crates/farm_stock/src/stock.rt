@@ -68,7 +68,7 @@ impl Stock {
         book_of(&self.books, tank)
     }
 
-    /// The sum of the books, litres and kg apart.
+    /// The sum of the books, litres and kg each by itself.
     pub fn total(&self) -> Amount
         ensures total { result ≡ total_of self.now }
         ensures sound { IsSound self.now }

@@ -1,1 +1,2 @@
+-- The lemmas of `farm_ticket`, by topic.
 pub mod Reversals

@@ -167,6 +167,7 @@ module _ {V E R : Type 0} (f : Features V E R) (opening : V) where
       subst (λ (x : ℕ × Me (Option V) (View E R) × Option R). Allows (KeepsTurn f opening) x.0 id x.1 0 (λ n. either (n == 0) 1 n) (TakesTurn f x.2 (step 0 0 0 0 none) x.1)) (λ i. (sym size i, sym is i, sym rooted i))
       (takes_turn id k numbered)
 
+  -- the same of counting an entry
   pub counts_entry_at : (slots id : ℕ) (me : Me (Option V) (View E R)) (k : Known E R) (held : List (ℕ × Option V)) (new : List E) (raised mark n count : ℕ) → slots ≡ 1 → me ≡ (one k, held)
       → k.holds ≡ true → k.number ≡ Some n → GrowsBy f.caller_of n k.seen new → length k.seen + count ≡ length new → length new < 2 ^ 63 → k.mark ≤ mark
       → Allows (KeepsTurn f opening) slots id me 1 (λ m. (m + count) % 2 ^ 64) (CountsEntry new raised mark (step 0 0 0 0 none) me)
@@ -174,6 +175,7 @@ module _ {V E R : Type 0} (f : Features V E R) (opening : V) where
       subst (λ (x : ℕ × Me (Option V) (View E R)). Allows (KeepsTurn f opening) x.0 id x.1 1 (λ m. (m + count) % 2 ^ 64) (CountsEntry new raised mark (step 0 0 0 0 none) x.1)) (λ i. (sym size i, sym is i))
       (counts_entry id k held new raised mark n count holds number grows total room up)
 
+  -- the same of giving the turn back
   pub gives_turn_at : (slots id : ℕ) (me : Me (Option V) (View E R)) (k : Known E R) (value : V) → slots ≡ 1 → me ≡ (one k, (0, Some value) ∷ [])
       → k.holds ≡ true → f.past value ≡ k.seen → Some (f.root value) ≡ k.root → f.tally value ≡ k.level → f.mark value ≡ k.mark
       → Allows (KeepsTurn f opening) slots id me 0 (λ _. 0) (GivesTurnBack (step 0 0 0 0 none) me)
@@ -181,12 +183,14 @@ module _ {V E R : Type 0} (f : Features V E R) (opening : V) where
       subst (λ (x : ℕ × Me (Option V) (View E R)). Allows (KeepsTurn f opening) x.0 id x.1 0 (λ _. 0) (GivesTurnBack (step 0 0 0 0 none) x.1)) (λ i. (sym size i, sym is i))
       (gives_turn id k value holds past_is root_is tally_is mark_is)
 
+  -- the same of enrolling a pass
   pub enrols_pass_at : (slots id : ℕ) (me : Me (Option V) (View E R)) (k : Known E R) → slots ≡ 1 → me ≡ (one k, []) → k.holds ≡ false → k.number ≡ None → k.next < k.end
       → Allows (KeepsTurn f opening) slots id me 0 (λ n. n) (EnrolsPass (step 0 0 0 0 none) me)
   enrols_pass_at slots id me k size is idle none' left =
       subst (λ (x : ℕ × Me (Option V) (View E R)). Allows (KeepsTurn f opening) x.0 id x.1 0 (λ n. n) (EnrolsPass (step 0 0 0 0 none) x.1)) (λ i. (sym size i, sym is i))
       (enrols_pass id k idle none' left)
 
+  -- the same of splitting a pass
   pub splits_pass_at : (id : ℕ) (v : View E R) (k : Known E R) → v ≡ one k → k.holds ≡ false → k.next + 1 < k.end
       → Splits (KeepsTurn f opening) id v (every without_least v) (every split_off v)
   splits_pass_at id v k is idle left =

@@ -99,6 +99,7 @@ module _ {V E R : Type 0} (f : Features V E R) (opening : V) where
     pub found_is : found ≡ Some value
     pub closed : IsClosed f opening passes value
 
+  -- all passes together, none with the turn: the table gives the value, closed as the rule says
   pub ends : (passes : List (PassView E R)) (v : View E R) (words : List ℕ) (slots : List (Option V)) (id : ℕ) (found : Option V)
       → sum_by (λ p. numbers_of p.known) passes ≡ number_limit → All (λ p. p.known.holds ≡ false) passes
       → v ≡ together passes → Final (Seen (KeepsTurn f opening) id v) words slots → get_elem? slots 0 ≡ some found → Ended passes found

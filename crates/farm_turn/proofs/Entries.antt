@@ -8,12 +8,15 @@ use mathlib.Core.List.{IsPrefix}
 use Rattle.farm_turn.specs.Chronicles.{GrowsBy, since, entries_of}
 
 module _ {E : Type 0} where
+  -- a list begins with itself
   pub prefix_refl : (xs : List E) → IsPrefix xs xs
   prefix_refl xs = ([], append-nil xs)
 
+  -- and with what its own beginning begins with
   pub prefix_trans : (xs ys zs : List E) → IsPrefix xs ys → IsPrefix ys zs → IsPrefix xs zs
   prefix_trans xs ys zs h k = (h.0 ++ k.0, sym (append_assoc xs h.0 k.0) ∙ (ap (λ l. l ++ k.0) h.1 ∙ k.1))
 
+  -- what a list has after its beginning is the rest
   pub since_prefix : (xs rest ys : List E) → xs ++ rest ≡ ys → since xs ys ≡ rest
   since_prefix xs rest ys e = ap (since xs) (sym e) ∙ drop-append_seam xs rest
 
@@ -27,6 +30,7 @@ module _ {E : Type 0} where
       since_prefix first (h.0 ++ more) (past ++ more) (sym (append_assoc first h.0 more) ∙ ap (λ l. l ++ more) h.1)
       ∙ ap (λ l. l ++ more) (sym (since_prefix first h.0 past h.1))
 
+  -- what was appended is what a past has after the one before
   pub since_more : (past more : List E) → since past (past ++ more) ≡ more
   since_more past more = since_prefix past more (past ++ more) refl
 
@@ -40,9 +44,11 @@ module _ {E : Type 0} where
   grows_is caller_of n old new (inl same) = same ∙ (sym (append-nil old) ∙ ap (λ l. old ++ l) (sym (ap (since old) same ∙ since_self old)))
   grows_is caller_of n old new (inr (e, bears, is)) = is ∙ ap (λ l. old ++ l) (sym (ap (since old) is ∙ since_more old (e ∷ [])))
 
+  -- an entry of a caller is among the entries of that caller
   filter_one : (caller_of : E → ℕ) (n : ℕ) (e : E) → caller_of e ≡ n → filter (λ x. caller_of x == n) (e ∷ []) ≡ e ∷ []
   filter_one caller_of n e is = let t : (caller_of e == n) ≡ true = grind (arith, nat_tests) in rw t refl
 
+  -- an entry of another caller is not
   filter_other : (caller_of : E → ℕ) (n : ℕ) (e : E) → caller_of e ≢ n → filter (λ x. caller_of x == n) (e ∷ []) ≡ []
   filter_other caller_of n e other = let t : (caller_of e == n) ≡ false = grind (arith, nat_tests) in rw t refl
 
@@ -57,6 +63,7 @@ module _ {E : Type 0} where
   added_other caller_of n m old new (inr (e, bears, is)) apart = let t : since old new ≡ e ∷ [] = ap (since old) is ∙ since_more old (e ∷ []) in
       rw t (filter_other caller_of m e (λ b. apart (sym bears ∙ b)))
 
+  -- each entry that a job appended bears the caller's number
   pub added_bears : (caller_of : E → ℕ) (n : ℕ) (old new : List E) → GrowsBy caller_of n old new → All (λ e. caller_of e ≡ n) (since old new)
   added_bears caller_of n old new (inl same) = subst (All (λ e. caller_of e ≡ n)) (sym (ap (since old) same ∙ since_self old)) (All-nil (λ e. caller_of e ≡ n))
   added_bears caller_of n old new (inr (e, bears, is)) =

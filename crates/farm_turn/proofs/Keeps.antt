@@ -74,6 +74,7 @@ module _ {V E R : Type 0} (f : Features V E R) (opening : V) where
     pub idle : turns k ≡ 0
     pub apart : has n k ≡ 0
 
+  -- where no pass has the turn or the number, each is such a pass
   others : (n : ℕ) (xs : List (Known E R)) → sum_by turns xs ≡ 0 → sum_by (has n) xs ≡ 0 → All (IsOther n) xs
   others n xs idle apart = let t = all_zero turns xs idle in let u = all_zero (has n) xs apart in λ k d lt. record { idle = t k d lt; apart = u k d lt }
 

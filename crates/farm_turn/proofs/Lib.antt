@@ -1,3 +1,4 @@
+-- The lemmas of `farm_turn`, by topic.
 pub mod Lists
 pub mod Positions
 pub mod Entries

@@ -62,5 +62,6 @@ module _ {X : Type 0} where
   pub sum_by-three : (g : X → ℕ) (xs ys zs : List X) → sum_by g (xs ++ (ys ++ zs)) ≡ sum_by g xs + (sum_by g ys + sum_by g zs)
   sum_by-three g xs ys zs = omega (arith, sum_by-append g xs (ys ++ zs), sum_by-append g ys zs)
 
+  -- what holds of each item of the three together holds of each item of each
   pub All-three : (P : X → Type 0) (xs ys zs : List X) → All P (xs ++ (ys ++ zs)) → All P xs × All P ys × All P zs
   All-three P xs ys zs h = let rest = All-back P xs (ys ++ zs) h in (All-front P xs (ys ++ zs) h, All-front P ys zs rest, All-back P ys zs rest)

@@ -26,23 +26,30 @@ pub range_one : (x from : ℕ) → number_is x (Some from) ≡ (if nat_le from x
 range_one x from = grind (arith, nat_tests)
 
 module _ {E R : Type 0} where
+  -- a pass that has the turn has one
   pub turns_true : (k : Known E R) → k.holds ≡ true → turns k ≡ 1
   turns_true k h = rw h refl
 
+  -- a pass that hasn't has none
   pub turns_false : (k : Known E R) → k.holds ≡ false → turns k ≡ 0
   turns_false k h = rw h refl
 
+  -- so a pass with no turn doesn't hold it
   pub holds_false : (k : Known E R) → turns k ≡ 0 → k.holds ≡ true → ⊥
   holds_false k e h = let t = turns_true k h in omega arith
 
+  -- a pass that enrols has the numbers that it had
   pub has_enrolled : (x : ℕ) (k : Known E R) → k.number ≡ None → k.next < k.end → has x (enrolled k) ≡ has x k
   has_enrolled x k none left = let s = range_split x k.next k.end left in let o : owns x k ≡ 0 = ap (number_is x) none in omega arith
 
+  -- and as many
   pub numbers_of_enrolled : (k : Known E R) → k.number ≡ None → k.next < k.end → numbers_of (enrolled k) ≡ numbers_of k
   numbers_of_enrolled k none left = let o : number_count k.number ≡ 0 = ap number_count none in omega arith
 
+  -- a pass that splits and the one split off have the numbers that it had
   pub has_split : (x : ℕ) (k : Known E R) → k.next < k.end → has x (without_least k) + has x (split_off k) ≡ has x k
   has_split x k left = let s = range_split x k.next k.end left in let t = range_one x k.next in omega arith
 
+  -- and together as many
   pub numbers_of_split : (k : Known E R) → k.next < k.end → numbers_of (without_least k) + numbers_of (split_off k) ≡ numbers_of k
   numbers_of_split k left = omega arith

@@ -15,6 +15,7 @@ module _ {V E R : Type 0} (f : Features V E R) where
   first_numbers : (value : V) (x : ℕ) → sum_by (has x) (first_known f value ∷ []) ≡ is_number x
   first_numbers value x = grind (arith, nat_tests)
 
+  -- a table with the value at home and one pass with all numbers keeps the rule
   pub opens : (value : V) (words : List ℕ) (slots : List (Option V)) → words ≡ 0 ∷ length (f.past value) ∷ [] → slots ≡ Some value ∷ []
       → IsTurn f value words (map some slots) (first_known f value ∷ [])
   opens value words slots words_are slots_are =

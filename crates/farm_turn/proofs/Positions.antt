@@ -15,6 +15,7 @@ module _ {E R : Type 0} where
     pub here : all_known views ≡ before ++ (v.known ++ after)
     pub changed : (w : View E R) → all_known (set views id w) ≡ before ++ (w.known ++ after)
 
+  -- each view stands between those before it and those after it
   pub position : (views : List (View E R)) (id : ℕ) (v : View E R) → get_elem? views id ≡ some v → Positioned views id v
   position [] id v e = absurd (some-ne-none v (sym e))
   position (x ∷ xs) zero v e = record { before = []; after = all_known xs; here = ap (λ u. u.known ++ all_known xs) (some-injective x v e); changed = λ w. refl }

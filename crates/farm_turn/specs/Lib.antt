@@ -1,3 +1,4 @@
+-- The definitions of `farm_turn`, by subject.
 pub mod Chronicles
 pub mod Views
 pub mod Turning

@@ -1,4 +1,4 @@
-//! The rule of the table that a turn shares, and what each of its steps tells.
+//! The rule of the table that a turn shares, and what a pass knows by each of its steps.
 
 ghost use Rattle.std.specs.Prelude.{ℕ, List, Option, None};
 

@@ -1,11 +1,12 @@
 -- Rows in blocks are a grid.
-use Rattle.std.proofs.Common.{◌≡◌, ◌⊎◌, inl, inr, ℕ, zero, suc, ◌+◌, ◌-◌, ◌*◌, ◌<◌, ◌≤◌, Bool, true, false, ◌&&◌, ◌==◌, if◌then◌else◌, List, [], ◌∷◌, length, get_or, take, drop, Some, None, refl, sym, subst, ◌∙◌, ap, arith}
+use Rattle.std.proofs.Common.{◌≡◌, ◌⊎◌, inl, inr, ℕ, zero, suc, ◌+◌, ◌-◌, ◌*◌, ◌<◌, ◌≤◌, Bool, true, false, ◌==◌, if◌then◌else◌, List, [], ◌∷◌, length, get_or, take, drop, Some, None, refl, sym, subst, ◌∙◌, ap, arith}
 use Rattle.std.proofs.lemmas.Bool.Decides.{nat_tests}
 use Rattle.std.proofs.lemmas.Int.{ints}
 use Rattle.std.proofs.lemmas.List.{take_all, length-map, length-take, length-drop}
 use Rattle.std.specs.Int.RustNames.{int_lt}
 use Rattle.std.specs.Ordering.{int_eq}
 use Rattle.std.specs.Prelude.{ℤ, ◌<ℤ◌, Err}
+use Rattle.farm_base.proofs.BoolTests.{and_parts}
 use Rattle.farm_vcf.specs.declared.rows.Listed.{Listed}
 use Rattle.farm_vcf.specs.Closest.{Rises, listed_at}
 use Rattle.farm_vcf.specs.Faults.{NotGrid}
@@ -45,16 +46,6 @@ block_rises : (rows : List Listed) → unrisen rows ≡ None → Rises (temperat
 block_rises [] none = record { steps = λ index within. absurd (omega arith) }
 block_rises (row ∷ rows) none = rises_of row.temperature (temperatures_of rows) (temperatures_rise 2 row.temperature rows none)
 
--- the first of two tests that both hold
-pub and_first : (a b : Bool) → (a && b) ≡ true → a ≡ true
-and_first true b both = refl
-and_first false b both = both
-
--- and the second
-pub and_second : (a b : Bool) → (a && b) ≡ true → b ≡ true
-and_second true b both = both
-and_second false b both = cc
-
 -- a row that goes on, and those after it
 goes_on : (temperatures : List ℤ) (number : ℕ) (before : ℤ) (column : ℕ) (row : Listed) (rows : List Listed) → discontinued_from temperatures number before column (row ∷ rows) ≡ None →
     (continues (listed_at temperatures column) before column row ≡ true) × (discontinued_from temperatures (number + 1) row.density (next_column (length temperatures) column) rows ≡ None)
@@ -68,7 +59,7 @@ goes_on temperatures number before column row rows none = by (continues (listed_
 
 -- a row that begins a block has a density above the one before
 pub begins : (temperature before : ℤ) (row : Listed) → continues temperature before 0 row ≡ true → before <ℤ row.density
-begins temperature before row on = let above : int_lt before row.density ≡ true = and_second (int_eq row.temperature temperature) (int_lt before row.density) on in grind (arith, ints)
+begins temperature before row on = let above : int_lt before row.density ≡ true = (and_parts (int_eq row.temperature temperature) (int_lt before row.density) on).1 in grind (arith, ints)
 
 -- numbers that pass the test of equality are equal
 pub int_eq_same : (a b : ℤ) → int_eq a b ≡ true → a ≡ b
@@ -82,7 +73,7 @@ not_zero column = grind (arith, nat_tests)
 pub stays : (temperature before : ℤ) (column : ℕ) (row : Listed) → continues temperature before (suc column) row ≡ true → row.density ≡ before
 stays temperature before column row on =
     let within = not_zero column in
-    int_eq_same row.density before (and_second (int_eq row.temperature temperature) (int_eq row.density before) (rw within at on))
+    int_eq_same row.density before (and_parts (int_eq row.temperature temperature) (int_eq row.density before) (rw within at on)).1
 
 -- the densities of the blocks rise
 densities_rise : (temperatures : List ℤ) (number : ℕ) (before : ℤ) (column : ℕ) (rows : List Listed) → discontinued_from temperatures number before column rows ≡ None → RisesFrom before (densities_from (length temperatures) column rows)

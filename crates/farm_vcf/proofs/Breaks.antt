@@ -1,5 +1,5 @@
 -- Where the walk over rows stops is where their blocks break.
-use Rattle.std.proofs.Common.{◌≡◌, inl, inr, ℕ, zero, suc, ◌+◌, ◌-◌, ◌*◌, ◌%◌, ◌<◌, ◌≤◌, Bool, true, false, ◌&&◌, ◌==◌, if◌then◌else◌, List, [], ◌∷◌, length, take, drop, Option, Some, None, refl, sym, subst, ◌∙◌, ap, arith}
+use Rattle.std.proofs.Common.{◌≡◌, inl, inr, ℕ, zero, suc, ◌+◌, ◌-◌, ◌*◌, ◌%◌, ◌<◌, ◌≤◌, Bool, true, false, ◌==◌, if◌then◌else◌, List, [], ◌∷◌, length, take, drop, Option, Some, None, refl, sym, subst, ◌∙◌, ap, arith}
 use Rattle.std.proofs.lemmas.Bool.Decides.{nat_tests}
 use Rattle.std.proofs.lemmas.Int.{ints}
 use Rattle.std.proofs.lemmas.List.{length-drop, length-take}
@@ -7,18 +7,19 @@ use Rattle.std.proofs.lemmas.Nat.{mod-mul-add}
 use Rattle.std.specs.Int.RustNames.{int_lt}
 use Rattle.std.specs.Ordering.{int_eq}
 use Rattle.std.specs.Prelude.{ℤ, ◌<ℤ◌}
+use Rattle.farm_base.proofs.BoolTests.{and_from, and_parts}
 use Rattle.farm_vcf.specs.declared.rows.Listed.{Listed}
 use Rattle.farm_vcf.specs.Closest.{listed_at}
 use Rattle.farm_vcf.specs.Blocks.{AreWhole, BreaksAt, GoesOn, density_of, temperature_of}
 use Rattle.farm_vcf.specs.Rows.{continues, discontinued_from, next_column, unrisen_from}
-use Rattle.farm_vcf.proofs.Blocks.{and_first, begins, begun_in, int_eq_itself, int_eq_same, not_zero, stays}
+use Rattle.farm_vcf.proofs.Blocks.{begins, begun_in, int_eq_itself, int_eq_same, not_zero, stays}
 
--- the row at an index, and the rows behind it
+-- the row at an index, and the rows after it
 pub record StandsAt (rows : List Listed) (index : ℕ) (row : Listed) (rest : List Listed) : Type 0 where
   pub within : index < length rows
   pub density : density_of rows index ≡ row.density
   pub temperature : temperature_of rows index ≡ row.temperature
-  pub behind : drop (suc index) rows ≡ rest
+  pub after : drop (suc index) rows ≡ rest
 
 -- the first of the rows that are left stands at their index
 pub stands_at : (rows : List Listed) (index : ℕ) (row : Listed) (rest : List Listed) → drop index rows ≡ row ∷ rest → StandsAt rows index row rest
@@ -27,10 +28,10 @@ stands_at [] (suc index) row rest is = cc
 stands_at (first ∷ rows) zero row rest is =
     let same : first ≡ row = cc in
     let others : rows ≡ rest = cc in
-    record { within = omega arith; density = ap (λ r. r.density) same; temperature = ap (λ r. r.temperature) same; behind = others }
+    record { within = omega arith; density = ap (λ r. r.density) same; temperature = ap (λ r. r.temperature) same; after = others }
 stands_at (first ∷ rows) (suc index) row rest is =
     let s = stands_at rows index row rest is in
-    record { within = omega (arith, s.within); density = s.density; temperature = s.temperature; behind = s.behind }
+    record { within = omega (arith, s.within); density = s.density; temperature = s.temperature; after = s.after }
 
 -- the end of rows
 pub none_left : (rows : List Listed) (index : ℕ) → drop index rows ≡ [] → length rows ≤ index
@@ -92,7 +93,7 @@ block_finds width rows (row ∷ left) number from before is counted was some wit
     let here : row.temperature ≡ temperature_of rows from = sym s.temperature ∙ of_block width rows from inside in
     let back : suc from - 1 ≡ from = omega arith in
     block_step width rows number from before row (unrisen_from (number + 1) row.temperature left) inside within counted was here some
-    (block_finds width rows left (number + 1) (suc from) row.temperature s.behind (omega (arith, counted)) (here ∙ ap (temperature_of rows) (sym back)) (omega arith) within)
+    (block_finds width rows left (number + 1) (suc from) row.temperature s.after (omega (arith, counted)) (here ∙ ap (temperature_of rows) (sym back)) (omega arith) within)
 
 -- where a walk over the later blocks stands: before a row of a column, after a row of a density
 pub record Stands (rows : List Listed) (temperatures : List ℤ) (left : List Listed) (number : ℕ) (before : ℤ) (column index : ℕ) : Type 0 where
@@ -109,11 +110,6 @@ pub record Stands (rows : List Listed) (temperatures : List ℤ) (left : List Li
 -- the column of a row is what is left over whole blocks
 column_of : (width index block column : ℕ) → index ≡ block * width + column → column < width → index % width ≡ column
 column_of width index block column place inside = ap (λ m. m % width) place ∙ mod-mul-add block width column inside
-
--- two tests that both hold
-and_both : (a b : Bool) → a ≡ true → b ≡ true → (a && b) ≡ true
-and_both true b first second = second
-and_both false b first second = first
 
 -- equal numbers pass the test of equality
 int_eq_of : (a b : ℤ) → a ≡ b → int_eq a b ≡ true
@@ -133,10 +129,10 @@ stay_at temperature before (suc column) row other on = stays temperature before 
 continues_if : (temperature before : ℤ) (column : ℕ) (row : Listed) → row.temperature ≡ temperature → (column ≡ 0 → before <ℤ row.density) → ((column ≡ 0 → ⊥) → row.density ≡ before) → continues temperature before column row ≡ true
 continues_if temperature before zero row warm begun kept =
     let above : before <ℤ row.density = begun refl in
-    and_both (int_eq row.temperature temperature) (int_lt before row.density) (int_eq_of row.temperature temperature warm) (grind (arith, ints))
+    and_from (int_eq row.temperature temperature) (int_lt before row.density) (int_eq_of row.temperature temperature warm) (grind (arith, ints))
 continues_if temperature before (suc column) row warm begun kept =
     let inside = not_zero column in
-    rw inside (and_both (int_eq row.temperature temperature) (int_eq row.density before) (int_eq_of row.temperature temperature warm) (int_eq_of row.density before (kept (λ z. omega (arith, z)))))
+    rw inside (and_from (int_eq row.temperature temperature) (int_eq row.density before) (int_eq_of row.temperature temperature warm) (int_eq_of row.density before (kept (λ z. omega (arith, z)))))
 
 -- one row of the later blocks
 later_step : (rows : List Listed) (temperatures : List ℤ) (left : List Listed) (number : ℕ) (before : ℤ) (column index : ℕ) (row : Listed) (more : Option ℕ) → Stands rows temperatures (row ∷ left) number before column index →
@@ -156,7 +152,7 @@ later_step rows temperatures left number before column index row more at rest = 
     by true e = rw e (finds_more (length temperatures) rows index (length rows) more
         (record {
           risen = λ positive early. absurd (omega (arith, early, at.later));
-          repeated = λ later. s.temperature ∙ int_eq_same row.temperature (listed_at temperatures column) (and_first (int_eq row.temperature (listed_at temperatures column)) _ e) ∙ due;
+          repeated = λ later. s.temperature ∙ int_eq_same row.temperature (listed_at temperatures column) (and_parts (int_eq row.temperature (listed_at temperatures column)) _ e).0 ∙ due;
           begun = λ later start. rw (s.density, ← at.density) (begin_at (listed_at temperatures column) before column row (sym place ∙ start) e);
           kept = λ later other. s.density ∙ stay_at (listed_at temperatures column) before column row (λ z. other (place ∙ z)) e ∙ at.density;
         })
@@ -184,7 +180,7 @@ stands_next rows temperatures left number before column index row at s =
     let same : row.density ≡ density_of rows (suc index - 1) = sym s.density ∙ ap (density_of rows) (sym back) in
     elim (begun_in (length temperatures) column (next_column (length temperatures) column) at.in_block refl) [
       | inl t ↦ record {
-        is = s.behind;
+        is = s.after;
         counted = omega (arith, at.counted);
         density = same;
         in_block = omega (arith, at.in_block, t.0);
@@ -195,7 +191,7 @@ stands_next rows temperatures left number before column index row at s =
         repeats = at.repeats;
       }
       | inr t ↦ record {
-        is = s.behind;
+        is = s.after;
         counted = omega (arith, at.counted);
         density = same;
         in_block = omega (arith, t.0, t.1);

@@ -1,3 +1,4 @@
+-- The lemmas of `farm_vcf`, by topic.
 pub mod Taking
 pub mod Searching
 pub mod Entries

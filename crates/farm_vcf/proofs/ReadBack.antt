@@ -21,23 +21,23 @@ densities_read rows (row ∷ left) width zero block index is inside count (suc p
     let s = stands_at rows index row left is in
     let next = next_column width 0 in
     let further : (block + 1) + place ≡ block + suc place = omega arith in
-    let behind : suc index + begun next * width ≡ (block + 1) * width + next = elim (begun_in width 0 next inside refl) [
+    let further_on : suc index + begun next * width ≡ (block + 1) * width + next = elim (begun_in width 0 next inside refl) [
       | inl t ↦ let zero_begun : begun next ≡ 0 = ap begun t.0 in rw zero_begun (omega (arith, count, t.0, t.1))
       | inr t ↦ let one_begun : begun next ≡ 1 = ap begun t.0 ∙ begun_next 0 in rw one_begun (omega (arith, count, t.0))
     ] in
     let in_next : next < width = elim (begun_in width 0 next inside refl) [ inl t ↦ omega (arith, inside, t.0) | inr t ↦ omega (arith, t.0, t.1) ] in
-    densities_read rows left width next (block + 1) (suc index) s.behind in_next behind place (omega (arith, within)) ∙ ap (λ n. density_of rows (n * width)) further
+    densities_read rows left width next (block + 1) (suc index) s.after in_next further_on place (omega (arith, within)) ∙ ap (λ n. density_of rows (n * width)) further
 densities_read rows (row ∷ left) width (suc column) block index is inside count place within =
     let s = stands_at rows index row left is in
     let middle = not_zero column in
     let next = next_column width (suc column) in
-    let behind : suc index + begun next * width ≡ block * width + next = elim (begun_in width (suc column) next inside refl) [
+    let further_on : suc index + begun next * width ≡ block * width + next = elim (begun_in width (suc column) next inside refl) [
       | inl t ↦ let zero_begun : begun next ≡ 0 = ap begun t.0 in rw zero_begun (omega (arith, count, t.0, t.1))
       | inr t ↦ let one_begun : begun next ≡ 1 = ap begun t.0 ∙ begun_next (suc column) in rw one_begun (omega (arith, count, t.0))
     ] in
     let in_next : next < width = elim (begun_in width (suc column) next inside refl) [ inl t ↦ omega (arith, inside, t.0) | inr t ↦ omega (arith, t.0, t.1) ] in
     let there : place < length (densities_from width next left) = rw middle at within in
-    rw middle (densities_read rows left width next block (suc index) s.behind in_next behind place there)
+    rw middle (densities_read rows left width next block (suc index) s.after in_next further_on place there)
 
 -- each block's density
 pub density_read : (width : ℕ) (density : ℤ) (rows : List Listed) → 0 < width → density ≡ density_of rows 0 →

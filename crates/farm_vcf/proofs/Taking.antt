@@ -38,7 +38,7 @@ tie_fails : (mode : Mode) (a b : ℤ) → wins_tie mode a b ≡ false → WinsTi
 tie_fails HalfAway a b fails = (grind (arith, ints, nat_tests), λ same. grind (arith, ints, nat_tests))
 tie_fails TowardZero a b fails = (grind (arith, ints, nat_tests), λ same. grind (arith, ints, nat_tests))
 
--- the test tells it
+-- where the test passes, it is taken over the other
 pub over_tells : (mode : Mode) (value a b : ℤ) → is_taken_over mode value a b ≡ true → IsTakenOver mode value a b
 over_tells mode value a b holds = record {
   near = grind (arith, nat_tests);

@@ -1,6 +1,7 @@
 -- The nearest of listed values, with the rule for two at the same distance. All are numbers of one unit.
-use Rattle.std.specs.Prelude.{◌≡◌, ℕ, ◌+◌, ◌-◌, ◌<◌, ◌≤◌, Bool, ◌&&◌, ◌||◌, not, ◌==◌, nat_lt, if◌then◌else◌, List, [], ◌∷◌, length, slice_index_or, ℤ, pos, ◌-ℤ◌, ◌<ℤ◌, ◌≤ℤ◌}
+use Rattle.std.specs.Prelude.{◌≡◌, ℕ, ◌+◌, ◌-◌, ◌<◌, ◌≤◌, Bool, ◌&&◌, ◌||◌, not, ◌==◌, nat_lt, if◌then◌else◌, List, [], ◌∷◌, length, slice_index_or, ℤ, pos, ◌<ℤ◌, ◌≤ℤ◌}
 use Rattle.std.specs.Int.RustNames.{unsigned_abs, int_lt}
+use Rattle.farm_fixed.specs.Range.{distance}
 use Rattle.farm_rounding.specs.declared.mode.Mode.{Mode}
 use Rattle.farm_rounding.specs.declared.mode.Mode.TheVariants.{HalfAway, TowardZero}
 
@@ -11,10 +12,6 @@ listed_at listed index = slice_index_or listed index (pos 0)
 -- each listed value is greater than the one before
 pub record Rises (listed : List ℤ) : Type 0 where
   pub steps : (index : ℕ) → index + 1 < length listed → listed_at listed index <ℤ listed_at listed (index + 1)
-
--- how far two values lie apart
-abbrev pub distance : ℤ → ℤ → ℕ
-distance value other = unsigned_abs (value -ℤ other)
 
 -- Of two values at the same distance: half away takes the one of greater magnitude, toward zero the one of lesser, and of
 -- equal magnitudes both take the greater value.

@@ -1,3 +1,4 @@
+-- The definitions of `farm_vcf`, by subject.
 pub mod Closest
 pub mod Grid
 pub mod Faults

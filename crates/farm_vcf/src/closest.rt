@@ -2,7 +2,8 @@
 
 ghost use Rattle.std.specs.Prelude.{◌≡◌, ◌≤◌, ◌<◌, ◌↔◌, ◌-◌, ◌^◌, length, IsTrue, ◌-ℤ◌, ◌≤ℤ◌};
 ghost use Rattle.std.specs.Int.RustNames.{unsigned_abs, int_lt};
-ghost use Rattle.farm_vcf.specs.Closest.{IsCovered, IsFirstNotBelow, Rises, closest, distance, is_covered, is_taken_over, listed_at, wins_tie};
+ghost use Rattle.farm_fixed.specs.Range.{distance};
+ghost use Rattle.farm_vcf.specs.Closest.{IsCovered, IsFirstNotBelow, Rises, closest, is_covered, is_taken_over, listed_at, wins_tie};
 
 use farm_fixed::{Quantity, Unit};
 use farm_rounding::Mode;
@@ -43,7 +44,7 @@ pub fn closest<U: Unit + Copy>(mode: Mode, value: Quantity<U>, listed: &[Quantit
     }
 }
 
-/// The index of the first listed quantity that isn't below this one.
+// The index of the first listed quantity that isn't below this one.
 fn first_not_below<U: Unit + Copy>(value: Quantity<U>, listed: &[Quantity<U>]) -> usize
     requires rises { Rises listed.now }
     ensures { IsFirstNotBelow value listed.now result }
@@ -51,7 +52,7 @@ fn first_not_below<U: Unit + Copy>(value: Quantity<U>, listed: &[Quantity<U>]) -
     listed.partition_point(|other| other.get() < value.get())
 }
 
-/// Whether one listed quantity is taken for the value and not another.
+// Whether one listed quantity is taken for the value and not another.
 fn is_taken_over<U: Unit + Copy>(
     mode: Mode,
     value: Quantity<U>,
@@ -65,14 +66,14 @@ fn is_taken_over<U: Unit + Copy>(
     near < far || far == near && wins_tie(mode, taken.get(), other.get())
 }
 
-/// How far two quantities lie apart, in units.
+// How far two quantities lie apart, in units.
 fn distance<U: Unit + Copy>(value: Quantity<U>, other: Quantity<U>) -> u64
     ensures { result ≡ distance value other }
 {
     value.get().abs_diff(other.get())
 }
 
-/// Whether of two numbers at the same distance the first is taken.
+// Whether of two numbers at the same distance the first is taken.
 fn wins_tie(mode: Mode, taken: i64, other: i64) -> bool
     ensures { result ≡ wins_tie mode taken other }
 {

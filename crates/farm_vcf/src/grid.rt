@@ -43,7 +43,7 @@ impl Vcf {
         temperatures: Vec<Centi>,
         factors: Vec<Fac5>,
     ) -> Result<Vcf, BadGrid>
-        ensures { let grid = grid_from densities.items temperatures.items factors.items in OkIff result (IsGrid grid) grid }
+        ensures grid { let grid = grid_from densities.items temperatures.items factors.items in OkIff result (IsGrid grid) grid }
     {
         if rises(densities.as_slice())
             && rises(temperatures.as_slice())
@@ -113,7 +113,7 @@ impl Vcf {
     }
 }
 
-/// Whether there is a factor for each density and temperature, at least one and not too many.
+// Whether there is a factor for each density and temperature, at least one and not too many.
 fn is_full(densities: usize, temperatures: usize, factors: usize) -> bool
     ensures { result ≡ is_full densities temperatures factors }
 {

@@ -77,7 +77,7 @@ impl Growing {
 
     /// The grid of the rows, `None` where the last block is short.
     pub fn finish(self) -> Option<Vcf>
-        ensures { Finishes self result }
+        ensures finishes { Finishes self result }
     {
         if self.column != 0 {
             return None;

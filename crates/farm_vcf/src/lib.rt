@@ -12,7 +12,7 @@ mod records;
 mod rows;
 
 pub use fault::{BadGrid, NoEntry, VcfFault};
-pub use grid::Vcf;
+pub use grid::{MOST_FACTORS, Vcf};
 pub use growing::Growing;
 pub use records::row_of_fields;
 pub use rows::{Listed, grid_of_rows};

@@ -24,7 +24,7 @@ pub fn vcf_of(alloc: Global, text: &[u8]) -> Result<Vcf, VcfFault>
     }
 }
 
-/// What a fault of the records is reported as.
+// What a fault of the records is reported as.
 fn fault_of(fault: CsvFault) -> VcfFault
     ensures { result ≡ fault_of fault }
 {
@@ -35,7 +35,7 @@ fn fault_of(fault: CsvFault) -> VcfFault
     }
 }
 
-/// The grid of rows, of which there may be at most 100,000.
+// The grid of rows, of which there may be at most 100,000.
 fn grid_of_few(alloc: Global, rows: &[Listed]) -> Result<Vcf, VcfFault>
     ensures { MatchResult result (λ grid. grid_of_few (Ok rows.now) ≡ Ok grid) (λ fault. IsRefusedAs (reported fault) (grid_of_few (Ok rows.now))) }
 {
@@ -45,7 +45,7 @@ fn grid_of_few(alloc: Global, rows: &[Listed]) -> Result<Vcf, VcfFault>
     grid_of_rows(alloc, rows)
 }
 
-/// A record of a factor file is read as a density, a temperature and a factor.
+// A record of a factor file is read as a density, a temperature and a factor.
 struct FactorRows;
 
 impl RowOf for FactorRows {
@@ -58,7 +58,7 @@ impl RowOf for FactorRows {
     }
 }
 
-/// The row of a record.
+// The row of a record.
 fn row_of(fields: &ByteRecord) -> Option<Listed>
     ensures { result ≡ row_of (fields_of fields.now) }
 {
@@ -73,7 +73,7 @@ fn row_of(fields: &ByteRecord) -> Option<Listed>
 
 /// The row of three fields, blanks at their ends dropped; `None` where one isn't the text of its quantity.
 pub fn row_of_fields(density: &[u8], temperature: &[u8], factor: &[u8]) -> Option<Listed>
-    ensures { result ≡ row_of_fields density.now temperature.now factor.now }
+    ensures row_of_fields { result ≡ row_of_fields density.now temperature.now factor.now }
 {
     let Ok(density) = Dens::read(without_blanks(density)) else {
         return None;

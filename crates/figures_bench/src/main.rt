@@ -8,7 +8,7 @@ use farm_fixed::Quantities;
 use farm_rounding::RoundTable;
 use std::io;
 
-/// How many calculations are made.
+// How many calculations are made.
 const COUNT: u32 = 1_000_000;
 
 // Folds the figures into the number so far.

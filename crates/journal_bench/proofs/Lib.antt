@@ -1,1 +1,2 @@
+-- The lemmas of `journal_bench`, by topic.
 pub mod Bodies

@@ -1,1 +1,2 @@
+-- The definitions of `journal_bench`, by subject.
 pub mod Zeros

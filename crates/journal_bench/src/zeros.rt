@@ -7,7 +7,7 @@ use farm_journal::{MAX_BODIES, Taken, Taker};
 use std::alloc::Global;
 use std::marker::Model;
 
-/// The body that it takes: as many zeros as a gauge's entry has bytes.
+// The body that it takes: as many zeros as a gauge's entry has bytes.
 const BODY: [u8; 59] = [0; 59];
 
 /// Takes any header, and then bodies of zeros.

@@ -1,1 +1,2 @@
+-- The definitions of `journal_rows`, by subject.
 pub mod Listing

@@ -29,7 +29,7 @@ impl Model for Listing {
 impl Listing {
     /// One that has taken nothing.
     pub fn new(alloc: Global) -> Self
-        ensures { result ≡ [] }
+        ensures empty { result ≡ [] }
     {
         Listing {
             alloc,
@@ -39,7 +39,7 @@ impl Listing {
 
     /// What it has taken: the header first.
     pub fn taken(&self) -> &[Bytes]
-        ensures { result.now ≡ self.now }
+        ensures taken { result.now ≡ self.now }
     {
         &self.taken
     }

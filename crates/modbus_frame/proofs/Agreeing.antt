@@ -7,7 +7,7 @@ use Rattle.std.proofs.lemmas.List.{length-replicate}
 use Rattle.std.proofs.lemmas.List.Elements.{All-replicate}
 use Rattle.modbus_frame.specs.declared.expect.Expect.{Expect}
 use Rattle.modbus_frame.specs.Frames.{Agrees, field_end, length_given}
-use Rattle.modbus_frame.specs.Reading.{byte_at, number_at}
+use Rattle.modbus_frame.specs.Fields.{byte_at, number_at}
 use Rattle.modbus_frame.specs.Requests.{IsExpect}
 use Rattle.modbus_frame.specs.Responses.{exception_response, words_response}
 use Rattle.modbus_frame.proofs.Fields.{disagrees, ends-before}

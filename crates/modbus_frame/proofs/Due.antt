@@ -3,7 +3,7 @@ use Rattle.std.proofs.Common.{◌≡◌, ℕ, ◌+◌, ◌*◌, false, arith, �
 use Rattle.std.specs.Prelude.{◌==◌, not}
 use Rattle.std.proofs.lemmas.Bool.Decides.{nat_tests}
 use Rattle.modbus_frame.specs.declared.expect.Expect.{Expect}
-use Rattle.modbus_frame.specs.Reading.{is_wrong_count, is_wrong_function, is_wrong_length}
+use Rattle.modbus_frame.specs.Fields.{is_wrong_count, is_wrong_function, is_wrong_length}
 
 -- a number is the one that is due
 pub number_agrees : (number due : ℕ) → not (number == due) ≡ false → number ≡ due

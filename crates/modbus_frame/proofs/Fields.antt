@@ -4,7 +4,7 @@ use Rattle.std.specs.Prelude.{◌==◌, not}
 use Rattle.std.proofs.lemmas.List.{get_or-take, take-append-le}
 use Rattle.modbus_frame.specs.declared.expect.Expect.{Expect}
 use Rattle.modbus_frame.specs.Frames.{field_end}
-use Rattle.modbus_frame.specs.Reading.{byte_at, is_wrong_count, is_wrong_function, is_wrong_length, number_at}
+use Rattle.modbus_frame.specs.Fields.{byte_at, is_wrong_count, is_wrong_function, is_wrong_length, number_at}
 use Rattle.modbus_frame.proofs.Words.{number_at-bytes}
 
 -- a field disagrees, where all its bytes are there

@@ -2,9 +2,10 @@
 use Rattle.std.proofs.Common.{◌≡◌, ℕ, zero, suc, ◌+◌, ◌<◌, ◌≤◌, Bool, true, false, List, length, refl, arith, Option, Some, None, subst, sym, inl, inr, ◌⊎◌}
 use Rattle.std.proofs.lemmas.Bool.Decides.{nat_tests, eqb_tells}
 use Rattle.farm_base.specs.Steps.{or_else}
+use Rattle.farm_base.proofs.Steps.{or_else-none}
 use Rattle.modbus_frame.specs.declared.expect.Expect.{Expect}
 use Rattle.modbus_frame.specs.Frames.{field_end}
-use Rattle.modbus_frame.specs.Reading.{wrong_where}
+use Rattle.modbus_frame.specs.Fields.{wrong_where}
 use Rattle.modbus_frame.proofs.Fields.{disagrees}
 
 -- a field, where it is whole and disagrees
@@ -33,7 +34,7 @@ wrong_where-some : (field end found : ℕ) (bytes : List ℕ) (test : Bool) → 
 wrong_where-some field end found bytes test some = grind (arith, nat_tests)
 
 -- a field that isn't found wrong agrees where it is whole
-wrong_where-none : (field end : ℕ) (bytes : List ℕ) (test : Bool) → wrong_where field end bytes test ≡ None → end ≤ length bytes → test ≡ false
+pub wrong_where-none : (field end : ℕ) (bytes : List ℕ) (test : Bool) → wrong_where field end bytes test ≡ None → end ≤ length bytes → test ≡ false
 wrong_where-none field end bytes test none whole = grind (arith, nat_tests)
 
 -- the same, of a field by another name
@@ -42,11 +43,6 @@ agrees-here : (field other : ℕ) (expect : Expect) (bytes : List ℕ) → other
 agrees-here field other expect bytes same none =
     let Agrees : ℕ → Type 0 = λ f. field_end f ≤ length bytes → disagrees f expect bytes ≡ false in
     subst Agrees (sym same) (wrong_where-none field (field_end field) bytes (disagrees field expect bytes) none)
-
--- nothing is the first of two where neither is there
-or_else-none : {A : Type 0} (first second : Option A) → or_else first second ≡ None → (first ≡ None) × (second ≡ None)
-or_else-none None second none = (refl, none)
-or_else-none (Some found) second none = cc
 
 -- the first of two is the one, or the other where the one isn't there
 or_else-some : {A : Type 0} (first second : Option A) (found : A) → or_else first second ≡ Some found → (first ≡ Some found) ⊎ ((first ≡ None) × (second ≡ Some found))

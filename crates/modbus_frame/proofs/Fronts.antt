@@ -7,7 +7,7 @@ use Rattle.std.proofs.lemmas.List.{get_or-drop, get_or-take, get_or_past, length
 use Rattle.std.proofs.lemmas.Nat.{be_bytes_2}
 use Rattle.modbus_frame.specs.declared.expect.Expect.{Expect}
 use Rattle.modbus_frame.specs.Frames.{field_end}
-use Rattle.modbus_frame.specs.Reading.{byte_at, number_at}
+use Rattle.modbus_frame.specs.Fields.{byte_at, number_at}
 use Rattle.modbus_frame.proofs.Shapes.{response_of}
 
 -- numbers of a list are bytes

@@ -1,3 +1,4 @@
+-- The lemmas of `modbus_frame`, by topic.
 pub mod Words
 pub mod Fields
 pub mod FirstWrong

@@ -3,7 +3,7 @@ use Rattle.std.proofs.Common.{◌≡◌, ℕ, ◌+◌, ◌*◌, ◌^◌, ◌<◌
 use Rattle.modbus_frame.specs.declared.expect.Expect.{Expect}
 use Rattle.modbus_frame.specs.declared.frame.Frame.{Frame}
 use Rattle.modbus_frame.specs.Frames.{IsCut, IsFrame, IsRight, IsWrongField, length_given}
-use Rattle.modbus_frame.specs.Reading.{byte_at, frame_answer, number_at, right_frame, whole_frame, wrong_field, wrong_or}
+use Rattle.modbus_frame.specs.Fields.{byte_at, frame_answer, number_at, right_frame, whole_frame, wrong_field, wrong_or}
 use Rattle.modbus_frame.specs.Requests.{IsExpect}
 use Rattle.modbus_frame.proofs.Agreeing.{agree-to, right-agrees}
 use Rattle.modbus_frame.proofs.Fields.{number_at-append}

@@ -7,7 +7,7 @@ use Rattle.modbus_frame.specs.declared.expect.Expect.{Expect}
 use Rattle.modbus_frame.specs.declared.frame.Frame.{Frame}
 use Rattle.modbus_frame.specs.declared.frame.Frame.TheVariants.{Need, Words, Exception}
 use Rattle.modbus_frame.specs.Frames.{length_given, registers_of, still_needed}
-use Rattle.modbus_frame.specs.Reading.{IsDecided, byte_at, right_frame, whole_frame, words_of}
+use Rattle.modbus_frame.specs.Fields.{IsDecided, byte_at, right_frame, whole_frame, words_of}
 
 -- the length isn't known, or not all the bytes that it says are there
 abbrev pub IsShort : List ℕ → Type 0

@@ -7,7 +7,7 @@ use Rattle.std.proofs.lemmas.Bool.{eq-eqb}
 use Rattle.std.proofs.lemmas.Nat.{from_be_bytes-to_be_bytes_2}
 use Rattle.modbus_frame.specs.declared.expect.Expect.{Expect}
 use Rattle.modbus_frame.specs.Frames.{Agrees}
-use Rattle.modbus_frame.specs.Reading.{is_wrong_count, is_wrong_function, is_wrong_length, number_at}
+use Rattle.modbus_frame.specs.Fields.{is_wrong_count, is_wrong_function, is_wrong_length, number_at}
 use Rattle.modbus_frame.specs.Requests.{IsExpect, header}
 use Rattle.modbus_frame.specs.Responses.{IsGoodResponse, exception_response, words_response}
 use Rattle.modbus_frame.proofs.Fields.{disagrees, disagrees-take}

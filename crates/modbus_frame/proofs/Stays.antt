@@ -8,7 +8,7 @@ use Rattle.modbus_frame.specs.declared.expect.Expect.{Expect}
 use Rattle.modbus_frame.specs.declared.frame.Frame.{Frame}
 use Rattle.modbus_frame.specs.declared.frame.Frame.TheVariants.{Words, Exception}
 use Rattle.modbus_frame.specs.Frames.{field_end, length_given, registers_of}
-use Rattle.modbus_frame.specs.Reading.{IsDecided, byte_at, frame_answer, right_frame, whole_frame, words_of, wrong_field, wrong_or}
+use Rattle.modbus_frame.specs.Fields.{IsDecided, byte_at, frame_answer, right_frame, whole_frame, words_of, wrong_field, wrong_or}
 use Rattle.modbus_frame.specs.Requests.{IsExpect}
 use Rattle.modbus_frame.proofs.Fields.{disagrees-append, ends-before, field_end-nine, number_at-append}
 use Rattle.modbus_frame.proofs.FirstWrong.{IsFirstFrom, first_wrong, first_wrong-none, first_wrong-some}

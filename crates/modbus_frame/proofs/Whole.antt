@@ -5,7 +5,7 @@ use Rattle.std.specs.List.{flat_map}
 use Rattle.std.proofs.lemmas.List.{drop-drop, take-append-drop}
 use Rattle.modbus_frame.specs.declared.expect.Expect.{Expect}
 use Rattle.modbus_frame.specs.Frames.{BeginsWith, IsWords, length_given, registers_of}
-use Rattle.modbus_frame.specs.Reading.{byte_at, number_at, words_of}
+use Rattle.modbus_frame.specs.Fields.{byte_at, number_at, words_of}
 use Rattle.modbus_frame.specs.Requests.{IsExpect}
 use Rattle.modbus_frame.specs.Responses.{exception_response}
 use Rattle.modbus_frame.proofs.Agreeing.{AgreeTo, exception-fields, words-fields}

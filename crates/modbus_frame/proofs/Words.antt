@@ -7,7 +7,7 @@ use Rattle.std.proofs.lemmas.Grind.{common_steps}
 use Rattle.std.specs.Int.{from_be_bytes, w16}
 use Rattle.modbus_frame.specs.declared.frame.Registers.{Registers}
 use Rattle.modbus_frame.specs.Frames.{registers_of}
-use Rattle.modbus_frame.specs.Reading.{number_at, words_of}
+use Rattle.modbus_frame.specs.Fields.{number_at, words_of}
 
 -- as many registers as are read
 pub length-words_of : (count : ℕ) (bytes : List ℕ) → length (words_of count bytes) ≡ count

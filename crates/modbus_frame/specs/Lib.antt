@@ -1,5 +1,6 @@
+-- The definitions of `modbus_frame`, by subject.
 pub mod Requests
 pub mod Responses
 pub mod Frames
-pub mod Reading
+pub mod Fields
 pub mod Stages

@@ -4,7 +4,7 @@ use Rattle.farm_base.specs.Steps.{or_else}
 use Rattle.modbus_frame.specs.declared.expect.Expect.{Expect}
 use Rattle.modbus_frame.specs.declared.frame.Frame.{Frame}
 use Rattle.modbus_frame.specs.Frames.{length_given}
-use Rattle.modbus_frame.specs.Reading.{byte_at, is_wrong_count, is_wrong_function, is_wrong_length, right_frame, wrong_or, wrong_where}
+use Rattle.modbus_frame.specs.Fields.{byte_at, is_wrong_count, is_wrong_function, is_wrong_length, right_frame, wrong_or, wrong_where}
 
 -- bytes give a length, and it is one that a response has
 pub record GivesLength (expect : Expect) (bytes : List ℕ) (size : ℕ) : Type 0 where

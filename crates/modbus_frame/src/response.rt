@@ -3,7 +3,7 @@
 ghost use Rattle.std.specs.Prelude.{◌^◌, ◌≡◌, ◌+◌, ◌-◌, ◌*◌, ◌<◌, ◌≤◌, ◌++◌, ℕ, IfErr, IfOk, IsOk, if◌then◌else◌, length, List, MatchResult, nat_lt};
 ghost use Rattle.modbus_frame.specs.declared.frame.Frame.TheVariants.{Exception, Need};
 ghost use Rattle.modbus_frame.specs.Frames.{IsFrame, length_given, registers_of};
-ghost use Rattle.modbus_frame.specs.Reading.{IsDecided, byte_at, frame_answer, number_at, words_of};
+ghost use Rattle.modbus_frame.specs.Fields.{IsDecided, byte_at, frame_answer, number_at, words_of};
 ghost use Rattle.modbus_frame.specs.Requests.{IsExpect};
 ghost use Rattle.modbus_frame.specs.Stages.{GivesLength, answer_at_count, answer_from_unit};
 
@@ -36,7 +36,7 @@ pub fn read_response(bytes: &[u8], expect: &Expect) -> Frame
 }
 
 // The length that the first six bytes give, where the fields up to it agree; else what the bytes are.
-#[tactic(auto, unfolding(crate::specs::Reading::frame_answer, crate::specs::Reading::wrong_field))]
+#[tactic(auto, unfolding(crate::specs::Fields::frame_answer, crate::specs::Fields::wrong_field))]
 fn read_length(bytes: &[u8], expect: Expect) -> Result<u16, Frame>
     requires expect { IsExpect expect }
     ensures length { IfOk result (GivesLength expect bytes.now) }

@@ -14,7 +14,7 @@ use Rattle.farm_ports.proofs.LinkCalls.{calls_add_up, no_call_adds_none}
 use Rattle.modbus_frame.specs.declared.expect.Expect.{Expect}
 use Rattle.modbus_frame.specs.declared.frame.Frame.{Frame}
 use Rattle.modbus_frame.specs.declared.frame.Frame.TheVariants.{Need, Words, Exception, Wrong}
-use Rattle.modbus_frame.specs.Reading.{IsDecided, frame_answer}
+use Rattle.modbus_frame.specs.Fields.{IsDecided, frame_answer}
 use Rattle.modbus_poll.proofs.SentPieces.{concat_more}
 use Rattle.modbus_poll.specs.Pieces.{ReceivesAsNeeded, ReceivesPiece, ReceivesWhole, StopsReceiving, TakesPiece, received}
 

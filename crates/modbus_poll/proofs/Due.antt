@@ -1,9 +1,10 @@
 -- The test whether a reading is due is the rule in words.
 use Rattle.std.proofs.Common.{◌≡◌, ◌↔◌, ◌⊎◌, inl, inr, ℕ, ◌≤◌, ◌||◌, nat_le, Bool, true, false, Option, Some, None, refl, sym, subst, ◌∙◌}
 use Rattle.std.proofs.lemmas.Bool.{leb-true, le-leb}
+use Rattle.farm_fixed.specs.Range.{distance}
 use Rattle.modbus_poll.specs.declared.map.GaugeMap.{GaugeMap}
 use Rattle.modbus_poll.specs.declared.raw.Raw.{Raw}
-use Rattle.modbus_poll.specs.Deadbands.{Differs, IsDue, differs, distance, is_due}
+use Rattle.modbus_poll.specs.Deadbands.{Differs, IsDue, differs, is_due}
 
 -- one of three tests holds
 one_of : (a b c : Bool) → ((a || b) || c) ≡ true → (a ≡ true) ⊎ ((b ≡ true) ⊎ (c ≡ true))

@@ -1,3 +1,4 @@
+-- The lemmas of `modbus_poll`, by topic.
 pub mod Gauges
 pub mod Due
 pub mod Needs

@@ -2,14 +2,16 @@
 use Rattle.std.proofs.Common.{◌≡◌, ◌⊎◌, ℕ, ◌+◌, ◌-◌, ◌*◌, ◌≤◌, Bool, true, false, ◌||◌, nat_lt, List, length, Option, Some, None, refl, arith}
 use Rattle.std.specs.Prelude.{if◌then◌else◌}
 use Rattle.std.proofs.lemmas.Bool.Decides.{nat_tests}
-use Rattle.farm_base.specs.Steps.{or_else}
+use Rattle.farm_base.proofs.Steps.{or_else-none}
 use Rattle.modbus_frame.specs.declared.expect.Expect.{Expect}
 use Rattle.modbus_frame.specs.declared.frame.Frame.{Frame}
 use Rattle.modbus_frame.specs.declared.frame.Frame.TheVariants.{Need, Words, Exception}
 use Rattle.modbus_frame.specs.declared.frame.Registers.{Registers}
 use Rattle.modbus_frame.specs.Frames.{length_given, still_needed}
-use Rattle.modbus_frame.specs.Reading.{frame_answer, is_wrong_length, right_frame, whole_frame, wrong_field, wrong_or, wrong_where}
+use Rattle.modbus_frame.specs.Fields.{frame_answer, is_wrong_length, right_frame, whole_frame, wrong_field, wrong_or}
 use Rattle.modbus_frame.specs.Requests.{IsExpect}
+use Rattle.modbus_frame.proofs.Due.{length_agrees}
+use Rattle.modbus_frame.proofs.FirstWrong.{wrong_where-none}
 
 -- a response still needs at least one byte, and ends within 259
 pub record NeedsFew (bytes : List ℕ) (needed : ℕ) : Type 0 where
@@ -20,19 +22,6 @@ pub record NeedsFew (bytes : List ℕ) (needed : ℕ) : Type 0 where
 none_wrong : (found : Option ℕ) (frame : Frame) (needed : ℕ) → wrong_or found frame ≡ Need needed → (found ≡ None) × (frame ≡ Need needed)
 none_wrong None frame needed is = (refl, is)
 none_wrong (Some field) frame needed is = cc
-
--- nothing is the first of two where neither is there
-neither : {A : Type 0} (first second : Option A) → or_else first second ≡ None → (first ≡ None) × (second ≡ None)
-neither None second none = (refl, none)
-neither (Some found) second none = cc
-
--- a field that isn't found wrong agrees where it is whole
-agrees : (field end : ℕ) (bytes : List ℕ) (test : Bool) → wrong_where field end bytes test ≡ None → end ≤ length bytes → test ≡ false
-agrees field end bytes test none whole = grind (arith, nat_tests)
-
--- a length that agrees is one of two
-one_of_two : (expect : Expect) (size : ℕ) → is_wrong_length expect size ≡ false → (size ≡ 3) ⊎ (size ≡ 3 + 2 * expect.quantity)
-one_of_two expect size test = grind (arith, nat_tests)
 
 -- a whole response needs none
 whole_needs_none : (test : Bool) (registers : Registers) (used code end needed : ℕ) →
@@ -57,10 +46,10 @@ given_agrees : (expect : Expect) (bytes : List ℕ) → wrong_field expect bytes
     (length_given bytes ≡ 3) ⊎ (length_given bytes ≡ 3 + 2 * expect.quantity)
 unfolding wrong_field
 given_agrees expect bytes none there =
-    let a = neither _ _ none in
-    let b = neither _ _ a.1 in
-    let c = neither _ _ b.1 in
-    one_of_two expect (length_given bytes) (agrees 3 6 bytes (is_wrong_length expect (length_given bytes)) c.0 there)
+    let a = or_else-none _ _ none in
+    let b = or_else-none _ _ a.1 in
+    let c = or_else-none _ _ b.1 in
+    length_agrees expect (length_given bytes) (wrong_where-none 3 6 bytes (is_wrong_length expect (length_given bytes)) c.0 there)
 
 -- bytes that aren't decided need a few more
 pub needs_few : (expect : Expect) (bytes : List ℕ) (needed : ℕ) → IsExpect expect → frame_answer expect bytes ≡ Need needed → NeedsFew bytes needed

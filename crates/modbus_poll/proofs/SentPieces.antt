@@ -2,14 +2,14 @@
 use Rattle.std.proofs.Common.{◌≡◌, ℕ, ◌+◌, ◌-◌, ◌<◌, ◌≤◌, List, [], ◌∷◌, ◌++◌, length, take, drop, sym, ap, subst, refl, ◌∙◌, arith, length-take, length-drop, append-nil, Option, true, false}
 use Rattle.std.specs.Prelude.{All}
 use Rattle.std.specs.List.{concat}
-use Rattle.std.proofs.Math.Seq.{take-add}
-use Rattle.std.proofs.lemmas.List.{take_rest, take_all, map-append, take-append-drop}
+use Rattle.std.proofs.lemmas.List.{take_all, map-append, take-append-drop}
 use Rattle.std.proofs.lemmas.List.Elements.{All-append, All-cons}
 use Rattle.std.proofs.lemmas.List.Folds.{concat-append}
 use Rattle.farm_ports.specs.declared.links.LinkCall.{LinkCall}
 use Rattle.farm_ports.specs.declared.links.LinkCall.TheVariants.{Sent}
 use Rattle.farm_ports.specs.Links.{AddsCalls, SendsFront}
 use Rattle.farm_ports.proofs.LinkCalls.{calls_add_up, no_call_adds_none}
+use Rattle.farm_ports.proofs.Parts.{fronts_join}
 use Rattle.modbus_poll.specs.Pieces.{SendsWhole, StopsSending, sent}
 
 -- bytes were sent, in pieces with at least one byte
@@ -22,12 +22,6 @@ pub record HasSent (old new : Option (List LinkCall)) (bytes : List ℕ) : Type 
 -- pieces and one more, joined
 pub concat_more : (pieces : List (List ℕ)) (piece : List ℕ) → concat (pieces ++ piece ∷ []) ≡ concat pieces ++ piece
 concat_more pieces piece = concat-append pieces (piece ∷ []) ∙ ap (λ t. concat pieces ++ t) (append-nil piece)
-
--- a front of a request, and then a front of its rest, are a front of it
-fronts_join : (request : List ℕ) (done count : ℕ) →
-    take done request ++ take count (take (length request - done) (drop done request)) ≡ take (done + count) request
-fronts_join request done count =
-    ap (λ t. take done request ++ take count t) (take_rest request done) ∙ sym (take-add done count request)
 
 -- each of no pieces has at least one byte
 no_pieces : All (λ (piece : List ℕ). 1 ≤ length piece) []

@@ -6,7 +6,7 @@ use Rattle.farm_ports.specs.Links.{AddsCalls}
 use Rattle.farm_ports.proofs.LinkCalls.{calls_add_up}
 use Rattle.modbus_frame.specs.declared.expect.Expect.{Expect}
 use Rattle.modbus_frame.specs.declared.frame.Frame.{Frame}
-use Rattle.modbus_frame.specs.Reading.{IsDecided}
+use Rattle.modbus_frame.specs.Fields.{IsDecided}
 use Rattle.modbus_frame.specs.Requests.{request_frame}
 use Rattle.modbus_poll.specs.declared.map.GaugeMap.{GaugeMap}
 use Rattle.modbus_poll.specs.declared.polled.Polled.{Polled}

@@ -1,12 +1,8 @@
 -- Whether a reading differs enough from the last submitted to be submitted.
-use Rattle.std.specs.Prelude.{◌≡◌, ◌⊎◌, ℕ, ◌≤◌, ◌||◌, nat_le, Bool, true, Option, Some, None, ℤ, ◌-ℤ◌}
-use Rattle.std.specs.Int.RustNames.{unsigned_abs}
+use Rattle.std.specs.Prelude.{◌≡◌, ◌⊎◌, ℕ, ◌≤◌, ◌||◌, nat_le, Bool, true, Option, Some, None, ℤ}
+use Rattle.farm_fixed.specs.Range.{distance}
 use Rattle.modbus_poll.specs.declared.map.GaugeMap.{GaugeMap}
 use Rattle.modbus_poll.specs.declared.raw.Raw.{Raw}
-
--- how far two numbers are apart
-abbrev pub distance : ℤ → ℤ → ℕ
-distance a b = unsigned_abs (a -ℤ b)
 
 -- the level or the water differs from the last submitted by at least the deadband
 abbrev pub heights_differ : GaugeMap → Raw → Raw → Bool

@@ -1,3 +1,4 @@
+-- The definitions of `modbus_poll`, by subject.
 pub mod Maps
 pub mod Decoding
 pub mod Deadbands

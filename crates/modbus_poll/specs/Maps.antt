@@ -1,15 +1,11 @@
 -- What a gauge map may ask for: registers as the Modbus Application Protocol V1.1b3 numbers them, and the ranges of a site file.
 use Rattle.std.specs.Prelude.{ℕ, ◌+◌, ◌&&◌, Bool, true, nat_le, nat_lt, Option, Some, None, List, length, pos, negsuc}
 use Rattle.std.specs.List.{list_all}
-use Rattle.farm_fixed.specs.Range.{is_within}
+use Rattle.farm_fixed.specs.Range.{is_within, is_between}
 use Rattle.modbus_poll.specs.declared.map.Field.{Field}
 use Rattle.modbus_poll.specs.declared.map.Valid.{Valid}
 use Rattle.modbus_poll.specs.declared.map.GaugeMap.{GaugeMap}
 use Rattle.modbus_poll.specs.declared.map.LineMap.{LineMap}
-
--- a number lies in a range, both ends included
-abbrev pub is_between : ℕ → ℕ → ℕ → Bool
-is_between least most n = nat_le least n && nat_le n most
 
 -- a byte is printable and no blank
 abbrev pub is_graphic : ℕ → Bool

@@ -7,7 +7,7 @@ use Rattle.farm_ports.specs.Links.{AddsCalls}
 use Rattle.modbus_frame.specs.declared.expect.Expect.{Expect}
 use Rattle.modbus_frame.specs.declared.frame.Frame.{Frame}
 use Rattle.modbus_frame.specs.declared.frame.Frame.TheVariants.{Need}
-use Rattle.modbus_frame.specs.Reading.{IsDecided, frame_answer}
+use Rattle.modbus_frame.specs.Fields.{IsDecided, frame_answer}
 use Rattle.modbus_frame.specs.Requests.{request_frame}
 
 -- the calls that sent these pieces

@@ -7,7 +7,7 @@ use Rattle.farm_ports.specs.Links.{AddsCalls}
 use Rattle.modbus_frame.specs.declared.expect.Expect.{Expect}
 use Rattle.modbus_frame.specs.declared.frame.Frame.{Frame}
 use Rattle.modbus_frame.specs.declared.frame.Frame.TheVariants as frame
-use Rattle.modbus_frame.specs.Reading.{IsDecided, frame_answer}
+use Rattle.modbus_frame.specs.Fields.{IsDecided, frame_answer}
 use Rattle.modbus_frame.specs.Requests.{request_frame}
 use Rattle.modbus_poll.specs.declared.map.GaugeMap.{GaugeMap}
 use Rattle.modbus_poll.specs.declared.map.LineMap.{LineMap}

@@ -1,7 +1,8 @@
 //! Whether a reading is to be submitted.
 
 ghost use Rattle.std.specs.Prelude.{◌≡◌, ◌↔◌, nat_le, true};
-ghost use Rattle.modbus_poll.specs.Deadbands.{IsDue, differs, distance, heights_differ, is_due};
+ghost use Rattle.farm_fixed.specs.Range.{distance};
+ghost use Rattle.modbus_poll.specs.Deadbands.{IsDue, differs, heights_differ, is_due};
 
 use crate::{GaugeMap, Raw};
 

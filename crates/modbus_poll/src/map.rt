@@ -54,13 +54,13 @@ pub struct GaugeMap {
     pub water: Option<Field>,
     /// The ambient temperature, in 0.01 C, where the gauge gives it.
     pub ambient: Option<Field>,
-    /// The ambient temperature where the gauge doesn't give it, from -100.00 to 300.00 C.
+    /// The ambient temperature where the gauge doesn't give it, in 0.01 C, from -10,000 to 30,000.
     pub ambient_fixed: i64,
     /// The bit that says whether the reading is valid, where the gauge has one.
     pub valid: Option<Valid>,
-    /// By how much a level or the water has to differ from the last submitted, from 1 to 1,000 mm.
+    /// By how much a level or the water has to differ from the last submitted, in mm, from 1 to 1,000.
     pub deadband_mm: u16,
-    /// By how much the temperature has to differ from the last submitted, from 0.01 to 10.00 C.
+    /// By how much the temperature has to differ from the last submitted, in 0.01 C, from 1 to 1,000.
     pub deadband_centi: u16,
 }
 

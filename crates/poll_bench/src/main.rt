@@ -14,7 +14,7 @@ use std::rt::Env;
 use std::time::Clock;
 use std::{env, io};
 
-/// It polls at most so often.
+// It polls at most so often.
 const MOST_POLLS: u32 = 1_000_000;
 
 // The first register, as it is.

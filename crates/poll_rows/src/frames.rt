@@ -30,7 +30,7 @@ fn ten() -> Registers {
     Registers { count: 1, words }
 }
 
-/// How many bytes to receive before the bytes are looked at again; none where they are a response, or wrong.
+// How many bytes to receive before the bytes are looked at again; none where they are a response, or wrong.
 fn to_receive(bytes: &[u8], expect: &Expect) -> Option<usize>
     requires { IsExpect expect.now }
     ensures { IfSome result (λ count. IsCut expect.now bytes.now × (1 ≤ count)) }

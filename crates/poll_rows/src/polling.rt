@@ -26,7 +26,7 @@ const READING: Polled = Polled::Value(
     },
 );
 
-/// A call of a link: whether it failed, and the number of the transaction that was sent or how many bytes were received.
+// A call of a link: whether it failed, and the number of the transaction that was sent or how many bytes were received.
 #[derive(Clone, Copy, Debug, PartialEq, Eq)]
 enum Call {
     Connect(bool),

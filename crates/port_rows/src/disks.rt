@@ -42,7 +42,7 @@ fn check_images<R: Print>(
     Ok(())
 }
 
-/// Writes bytes and syncs them.
+// Writes bytes and syncs them.
 fn keep<D: Disk>(disk: &mut D, at: u64, bytes: &[u8]) -> Result<(), Failed>
     // From then on a crash leaves what reads give, and nothing else.
     ensures { OnOk result (WhereKnown (D.trace disk.new) (λ states. (image : List ℕ) → IsCrashImage (present states) image → image ≡ (present states).seen)) }

@@ -18,10 +18,10 @@ fn no_memory_has_a_text(rt: HostRuntime) -> Result<(), Fail> {
     Ok(checks.end()?)
 }
 
-/// A name, as its bytes.
+// A name, as its bytes.
 type Name = Items<u8>;
 
-/// Whether a name is a text of digits.
+// Whether a name is a text of digits.
 fn is_number(name: &Name) -> bool
     ensures { result ≡ is_all_digits name.now }
 {

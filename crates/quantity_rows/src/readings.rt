@@ -43,7 +43,7 @@ fn equal_or_close_tapes_have_a_reading(rt: HostRuntime) -> Result<(), Fail> {
     Ok(checks.end()?)
 }
 
-/// The outage that tapes read and the innage that it stands for, where there are such.
+// The outage that tapes read and the innage that it stands for, where there are such.
 fn gauged(reference: Mm, tapes: &[Mm], rounds: &RoundTable) -> Option<(Mm, Mm)>
     ensures { IfSome result (λ gauge. (tape_reading rounds.now tapes.now ≡ Ok gauge.0) × (gauge.1 +ℤ gauge.0 ≡ reference)) }
 {

@@ -1,1 +1,2 @@
+-- The definitions of `row_site`, by subject.
 pub mod Files

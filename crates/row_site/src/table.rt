@@ -8,7 +8,7 @@ use farm_base::NoMemory;
 use std::alloc::Global;
 use text_pieces::{Piece, append};
 
-/// How many rows the table has, from 0 to 15,000 mm.
+// How many rows the table has, from 0 to 15,000 mm.
 const ROWS: u64 = 1_501;
 
 /// What `table.csv` has: a header, and for each row its level in mm and its litres.

@@ -1,1 +1,2 @@
+-- The lemmas of `shared_log`, by topic.
 pub mod Each

@@ -1,1 +1,2 @@
+-- The definitions of `shared_log`, by subject.
 pub mod Callers

@@ -7,7 +7,7 @@ use farm_site::Site;
 use std::alloc::Global;
 use std::{env, io};
 
-/// It copies, writes or reads at most so often.
+// It copies, writes or reads at most so often.
 const MOST_TIMES: u32 = 1_000_000;
 
 // Copies, writes or reads the bytes of a site so often. `None` is out of memory.

@@ -6,15 +6,16 @@ use Rattle.std.proofs.lemmas.Bool.Decides.{nat_tests}
 use Rattle.std.proofs.lemmas.List.Sums.{AllPass-from_list_all}
 use Rattle.farm_fixed.proofs.ParsingLaws.{is_within-true}
 use Rattle.farm_fixed.specs.declared.limits.TheConstants.{MOST_COEFFICIENT, MOST_ROOF_MASS}
-use Rattle.farm_fixed.specs.Range.{is_within}
+use Rattle.farm_fixed.specs.Range.{is_within, is_between}
 use Rattle.modbus_poll.specs.declared.map.GaugeMap.{GaugeMap}
 use Rattle.modbus_poll.specs.declared.map.LineMap.{LineMap}
-use Rattle.modbus_poll.specs.Maps.{is_between, is_gauge_map, is_line_map}
+use Rattle.modbus_poll.specs.Maps.{is_gauge_map, is_line_map}
 use Rattle.strap_table.specs.declared.tank.Roof.{Roof}
 use Rattle.site_items.specs.declared.records.Tank.{Tank}
 use Rattle.site_items.specs.Facts.{are_tanks}
 use Rattle.site_items.specs.Shells.{is_roof}
 use Rattle.site_items.specs.Tanks.{is_tank}
+use Rattle.site_lines.specs.declared.lines.TheConstants.{MOST_GAUGES}
 use Rattle.site_lines.specs.Lines.{are_lines}
 use Rattle.site_bytes.specs.Sizes.{IsGaugeInRange, IsLineInRange, IsRoofWithMass, IsTankInRange}
 
@@ -67,7 +68,7 @@ line_in_range line is =
     let each = AllPass-from_list_all is_gauge_map line.gauges gauges in
     record {
       host = at_most 1 64 (length line.host) (and_parts _ _ host).0;
-      few = at_most 1 16 (length line.gauges) count;
+      few = at_most 1 MOST_GAUGES (length line.gauges) count;
       gauges = λ k d below. gauge_in_range (get_or line.gauges k d) (each k d below);
     }
 

@@ -1,3 +1,4 @@
+-- The definitions of `site_bytes`, by subject.
 pub mod Encoding
 pub mod Buffers
 pub mod Sizes

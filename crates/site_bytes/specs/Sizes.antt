@@ -9,6 +9,7 @@ use Rattle.site_items.specs.declared.names.TheConstants.{LONGEST_NAME}
 use Rattle.site_items.specs.declared.records.Party.{Party}
 use Rattle.site_items.specs.declared.records.Product.{Product}
 use Rattle.site_items.specs.declared.records.Tank.{Tank}
+use Rattle.site_lines.specs.declared.lines.TheConstants.{MOST_GAUGES}
 use Rattle.strap_table.specs.declared.faults.TheConstants.{MOST_ROWS}
 use Rattle.strap_table.specs.declared.tank.Roof.{Roof}
 
@@ -36,7 +37,7 @@ IsGaugeInRange gauge = IsWithin (negsuc 9999) (pos 30000) gauge.ambient_fixed
 -- a line has a host of at most 64 bytes and at most 16 gauges
 pub record IsLineInRange (line : LineMap) : Type 0 where
   pub host : length line.host ≤ 64
-  pub few : length line.gauges ≤ 16
+  pub few : length line.gauges ≤ MOST_GAUGES
   pub gauges : All IsGaugeInRange line.gauges
 
 -- the most bytes of a grid
@@ -45,11 +46,11 @@ most_grid_bytes = 8 + 8 * MOST_FACTORS
 
 -- the most bytes of a product
 abbrev pub most_product_bytes : ℕ
-most_product_bytes = 35 + most_grid_bytes
+most_product_bytes = 3 + LONGEST_NAME + most_grid_bytes
 
 -- the most bytes of a party
 abbrev pub most_party_bytes : ℕ
-most_party_bytes = 35
+most_party_bytes = 3 + LONGEST_NAME
 
 -- the most bytes of a tank
 abbrev pub most_tank_bytes : ℕ
@@ -61,4 +62,4 @@ most_gauge_bytes = 62
 
 -- the most bytes of a line
 abbrev pub most_line_bytes : ℕ
-most_line_bytes = 68 + 16 * most_gauge_bytes
+most_line_bytes = 68 + MOST_GAUGES * most_gauge_bytes

@@ -4,9 +4,9 @@
 //! call fails; how many they are is counted before. docs/formats.md has the format, field by field.
 #![tactic(auto)]
 
-mod writing;
+mod encoding;
 
-pub use writing::{
+pub use encoding::{
     len_of_head, len_of_lines, len_of_parties, len_of_products, len_of_tanks, put_head, put_lines,
     put_parties, put_products, put_tanks,
 };

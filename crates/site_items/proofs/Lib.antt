@@ -1,1 +1,2 @@
+-- The lemmas of `site_items`, by topic.
 pub mod TankParts

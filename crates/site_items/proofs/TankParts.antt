@@ -3,9 +3,8 @@ use Rattle.std.proofs.Common.{◌≡◌, ℕ, true, ◌&&◌, List, pos}
 use Rattle.std.specs.Prelude.{IsTrue}
 use Rattle.std.proofs.lemmas.Bool.{and_parts}
 use Rattle.farm_fixed.specs.declared.limits.TheConstants.{MOST_COEFFICIENT, MOST_HEIGHT}
-use Rattle.farm_fixed.specs.Range.{IsWithin, is_within}
+use Rattle.farm_fixed.specs.Range.{IsWithin, is_within, is_between}
 use Rattle.farm_fixed.proofs.ParsingLaws.{is_within-true}
-use Rattle.modbus_poll.specs.Maps.{is_between}
 use Rattle.site_keys.specs.declared.lists.TheConstants.{GREATEST_NUMBER}
 use Rattle.site_keys.specs.Lists.{is_among}
 use Rattle.site_items.specs.declared.records.Tank.{Tank}

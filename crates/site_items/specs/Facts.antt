@@ -1,6 +1,6 @@
 -- What holds of the items of each site: ranges, orders and references.
 use Rattle.std.specs.Prelude.{ℕ, ◌&&◌, Bool, nat_le, List, length}
-use Rattle.modbus_poll.specs.Maps.{is_between}
+use Rattle.farm_fixed.specs.Range.{is_between}
 use Rattle.site_items.specs.declared.records.Party.{Party}
 use Rattle.site_items.specs.declared.records.Product.{Product}
 use Rattle.site_items.specs.declared.records.Tank.{Tank}

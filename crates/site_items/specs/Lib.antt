@@ -1,3 +1,4 @@
+-- The definitions of `site_items`, by subject.
 pub mod Formats
 pub mod Names
 pub mod Parties

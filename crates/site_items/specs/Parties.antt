@@ -2,7 +2,7 @@
 use Rattle.std.specs.Prelude.{ℕ, ◌&&◌, Bool, List, [], map, codes, Result, Ok}
 use Rattle.farm_base.specs.Steps.{◌>>=◌}
 use Rattle.toml.specs.Data.{Data}
-use Rattle.modbus_poll.specs.Maps.{is_between}
+use Rattle.farm_fixed.specs.Range.{is_between}
 use Rattle.site_keys.specs.declared.fault.SiteFault.{SiteFault}
 use Rattle.site_items.specs.declared.records.Party.{Party}
 use Rattle.site_keys.specs.declared.lists.TheConstants.{GREATEST_NUMBER}

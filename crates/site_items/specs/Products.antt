@@ -2,12 +2,12 @@
 use Rattle.std.specs.Prelude.{ℕ, ◌&&◌, Bool, List, [], map, codes, Result, Ok, Err}
 use Rattle.farm_base.specs.Steps.{◌>>=◌}
 use Rattle.toml.specs.Data.{Data}
+use Rattle.farm_fixed.specs.Range.{is_between}
 use Rattle.farm_ports.specs.Folders.{File}
 use Rattle.farm_vcf.specs.Grid.{Grid}
 use Rattle.farm_vcf.specs.Records.{vcf_of}
 use Rattle.farm_vcf.specs.Faults.{FactorFault}
 use Rattle.farm_vcf.specs.Faults as factors
-use Rattle.modbus_poll.specs.Maps.{is_between}
 use Rattle.site_keys.specs.declared.codes.TheConstants.{FACTORS, TEXT}
 use Rattle.site_keys.specs.declared.fault.SiteFault.{SiteFault}
 use Rattle.site_items.specs.declared.records.Product.{Product}

@@ -2,11 +2,10 @@
 use Rattle.std.specs.Prelude.{ℕ, ◌&&◌, Bool, true, false, List, [], map, codes, Result, Ok, ℤ, neg_ℤ}
 use Rattle.toml.specs.Data.{Data}
 use Rattle.farm_base.specs.Steps.{◌>>=◌}
-use Rattle.farm_fixed.specs.Range.{is_within}
+use Rattle.farm_fixed.specs.Range.{is_within, is_between}
 use Rattle.farm_fixed.specs.declared.records.Amount.{Amount}
 use Rattle.farm_ports.specs.Folders.{File}
 use Rattle.farm_rounding.specs.Table.{Row}
-use Rattle.modbus_poll.specs.Maps.{is_between}
 use Rattle.site_keys.specs.declared.codes.TheConstants.{FIELD}
 use Rattle.site_keys.specs.declared.fault.SiteFault.{SiteFault}
 use Rattle.site_keys.specs.declared.lists.TheConstants.{GREATEST_NUMBER}

@@ -16,7 +16,7 @@ pub enum Format {
 /// The format of a site file.
 #[tactic(auto, unfolding(crate::specs::Formats::format_at))]
 pub fn format_at(top: &Keys<'_>) -> Result<Format, SiteFault>
-    requires { top.now.item ≡ 0 }
+    requires top_of_file { top.now.item ≡ 0 }
     ensures format { result ≡ format_at (view top.now.table.now) }
 {
     top.natural("format", 1, 1)?;

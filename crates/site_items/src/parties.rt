@@ -30,7 +30,7 @@ impl Numbered for Party {
 /// The parties, in rising order of number.
 #[tactic(auto, unfolding(crate::specs::Parties::parties_of))]
 pub fn parties_of(alloc: Global, top: &Keys<'_>) -> Result<Vec<Party>, SiteReadFault>
-    requires { top.now.item ≡ 0 }
+    requires top_of_file { top.now.item ≡ 0 }
     ensures parties { MatchResult result (λ parties. parties_of (view top.now.table.now) ≡ Ok parties.items)
         (λ fault. IsRefusedAs (reported fault) (parties_of (view top.now.table.now))) }
     ensures sound { IfOk result (λ parties. IsTrue (are_parties parties.items)) }

@@ -43,7 +43,7 @@ pub fn products_of<F: Folder>(
     folder: &mut F,
     top: &Keys<'_>,
 ) -> Result<Vec<Product>, SiteReadFault>
-    requires { top.now.item ≡ 0 }
+    requires top_of_file { top.now.item ≡ 0 }
     ensures products { (files : List File) → F.files folder.new ≡ Some files →
         MatchResult result (λ products. products_of files (view top.now.table.now) ≡ Ok products.items)
         (λ fault. IsRefusedAs (refusal_of fault) (products_of files (view top.now.table.now))) }

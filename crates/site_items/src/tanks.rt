@@ -52,7 +52,7 @@ pub fn tanks_of<F: Folder>(
     products: &[Product],
     top: &Keys<'_>,
 ) -> Result<Vec<Tank>, SiteReadFault>
-    requires { top.now.item ≡ 0 }
+    requires top_of_file { top.now.item ≡ 0 }
     ensures tanks { (files : List File) → F.files folder.new ≡ Some files →
         MatchResult result (λ tanks. tanks_of files format rounds.now (map product_number products.now) (view top.now.table.now) ≡ Ok tanks.items)
         (λ fault. IsRefusedAs (refusal_of fault) (tanks_of files format rounds.now (map product_number products.now) (view top.now.table.now))) }

@@ -3,16 +3,12 @@ use Rattle.std.proofs.Common.{◌≡◌, ℕ, Option, Some, None, refl, ◌∙�
 use Rattle.std.specs.Prelude.{Result, Err}
 use Rattle.farm_base.specs.Counts.{Rose}
 use Rattle.farm_base.specs.Known.{KeepsKnown, Stays}
+use Rattle.farm_base.proofs.Known.{stays_then}
 
 -- what is known after a call was known before it
 pub known_before : {A : Type 0} (old new : Option A) (files : A) → Stays old new → new ≡ Some files → old ≡ Some files
 known_before old None files stays known = cc
 known_before old (Some new) files stays known = stays ∙ known
-
--- what is known after two calls was known before both
-pub stays_then : {A : Type 0} (first middle last : Option A) → Stays first middle → Stays middle last → Stays first last
-stays_then first middle None stays then = tt
-stays_then first middle (Some files) stays then = known_before first middle files stays then
 
 -- nothing was called, and the answer isn't that the object failed
 pub keeps_still : {A T E : Type 0} (known : Option A) (count : ℕ) (failed : E) (result : Result T E) → (result ≡ Err failed → ⊥) →

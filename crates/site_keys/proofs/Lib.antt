@@ -1,3 +1,4 @@
+-- The lemmas of `site_keys`, by topic.
 pub mod Arrays
 pub mod Contents
 pub mod PlacedFacts

@@ -4,9 +4,9 @@ use Rattle.std.specs.Prelude.{Result, if◌then◌else◌, Bool, false, codes}
 use Rattle.std.specs.List.Sorted.{IsPermutation}
 use Rattle.std.proofs.lemmas.List.{take-append-drop, append-nil}
 use Rattle.std.proofs.lemmas.List.Sorted.{IsPermutation-refl, IsPermutation-sym, IsPermutation-trans, IsPermutation-middle, IsPermutation-append_left}
-use Rattle.modbus_poll.specs.Maps.{is_between}
 use Rattle.toml.specs.Data.{Data}
 use Rattle.farm_base.specs.Steps.{◌>>=◌}
+use Rattle.farm_fixed.specs.Range.{is_between}
 use Rattle.site_keys.specs.declared.codes.TheConstants.{REPEATED, TOO_MANY}
 use Rattle.site_keys.specs.declared.fault.SiteFault.{SiteFault}
 use Rattle.site_keys.specs.Faults.{bad, found}

@@ -1,3 +1,4 @@
+-- The definitions of `site_keys`, by subject.
 pub mod Faults
 pub mod Keys
 pub mod Lists

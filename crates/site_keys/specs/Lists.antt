@@ -5,8 +5,8 @@ use Rattle.std.specs.List.{list_all, list_any}
 use Rattle.std.specs.List.Sorted.{IsPermutation}
 use Rattle.std.specs.Ordering.{int_eq}
 use Rattle.toml.specs.Data.{Data}
-use Rattle.modbus_poll.specs.Maps.{is_between}
 use Rattle.farm_base.specs.Steps.{◌>>=◌}
+use Rattle.farm_fixed.specs.Range.{is_between}
 use Rattle.site_keys.specs.declared.codes.TheConstants.{REPEATED, TOO_MANY, UNKNOWN}
 use Rattle.site_keys.specs.declared.fault.SiteFault.{SiteFault}
 use Rattle.site_keys.specs.declared.lists.TheConstants.{GREATEST_NUMBER}

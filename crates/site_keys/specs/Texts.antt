@@ -1,7 +1,7 @@
 -- Texts of a site file: their length and their bytes.
 use Rattle.std.specs.Prelude.{ℕ, ◌&&◌, Bool, List, length}
 use Rattle.std.specs.List.{list_all}
-use Rattle.modbus_poll.specs.Maps.{is_between}
+use Rattle.farm_fixed.specs.Range.{is_between}
 
 -- a text has at least 1 byte, and each byte lies in a range
 abbrev pub is_text : ℕ → ℕ → ℕ → List ℕ → Bool

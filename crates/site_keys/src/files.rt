@@ -14,7 +14,7 @@ use farm_ports::Folder;
 use std::alloc::Global;
 use toml::Value;
 
-/// A file of a site has at most this many bytes.
+// A file of a site has at most this many bytes.
 const LONGEST_FILE: usize = 4_194_304;
 
 /// The bytes of the file with a name. One byte more than a file may have is asked for, so that a longer one shows.

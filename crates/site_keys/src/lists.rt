@@ -20,7 +20,7 @@ pub trait Numbered {
 
     /// Its number.
     fn number(&self) -> u16
-        ensures { result ≡ numbered self.now };
+        ensures numbered { result ≡ numbered self.now };
 }
 
 /// The values of a list of the site file, of which there are from `least` to `most`; none where the list is missing.

@@ -2,12 +2,12 @@
 
 ghost use Rattle.std.specs.Prelude.{◌≡◌};
 ghost use Rattle.std.specs.List.{list_all};
-ghost use Rattle.modbus_poll.specs.Maps.{is_between};
+ghost use Rattle.farm_fixed.specs.Range.{is_between};
 ghost use Rattle.site_keys.specs.Texts.{is_text};
 
 /// Whether a text has at least one byte and not over `longest`, and each lies in a range.
 pub fn is_text(text: &[u8], longest: usize, least: u8, most: u8) -> bool
-    ensures { result ≡ is_text longest least most text.now }
+    ensures is_text { result ≡ is_text longest least most text.now }
 {
     !text.is_empty() && text.len() <= longest && lies_within(text, least, most)
 }

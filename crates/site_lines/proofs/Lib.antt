@@ -1,1 +1,2 @@
+-- The lemmas of `site_lines`, by topic.
 mod LineFacts

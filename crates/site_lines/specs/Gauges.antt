@@ -3,7 +3,7 @@ use Rattle.std.specs.Prelude.{ℕ, ◌+◌, ◌&&◌, Bool, true, not, nat_le, i
 use Rattle.std.specs.List.{list_all}
 use Rattle.farm_base.specs.Steps.{◌>>=◌}
 use Rattle.toml.specs.Data.{Data, get}
-use Rattle.modbus_poll.specs.Maps.{is_between}
+use Rattle.farm_fixed.specs.Range.{is_between}
 use Rattle.modbus_poll.specs.declared.map.GaugeMap.{GaugeMap}
 use Rattle.site_keys.specs.declared.codes.TheConstants.{REPEATED}
 use Rattle.site_keys.specs.declared.fault.SiteFault.{SiteFault}

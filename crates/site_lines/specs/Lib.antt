@@ -1,3 +1,4 @@
+-- The definitions of `site_lines`, by subject.
 pub mod Fields
 pub mod Gauges
 pub mod Lines

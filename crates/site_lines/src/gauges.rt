@@ -3,8 +3,8 @@
 ghost use Rattle.std.specs.Prelude.{◌≡◌, ◌+◌, ◌++◌, [], nat_le, length, map, codes, pos, negsuc, MatchResult, IfOk, Ok, IsTrue, IsFalse, IfErr};
 ghost use Rattle.std.specs.List.{list_all};
 ghost use Rattle.toml.specs.View.{view};
-ghost use Rattle.farm_fixed.specs.Range.{is_within};
-ghost use Rattle.modbus_poll.specs.Maps.{is_between, is_gauge_map};
+ghost use Rattle.farm_fixed.specs.Range.{is_within, is_between};
+ghost use Rattle.modbus_poll.specs.Maps.{is_gauge_map};
 ghost use Rattle.farm_base.specs.Steps.{IsRefusedAs};
 ghost use Rattle.site_keys.specs.Faults.{IsNotTheFolders, reported};
 ghost use Rattle.site_keys.specs.Lists.{is_among};

@@ -28,7 +28,7 @@ pub fn lines_of<T: Numbered>(
     tanks: &[T],
     top: &Keys<'_>,
 ) -> Result<Vec<LineMap>, SiteReadFault>
-    requires { top.now.item ≡ 0 }
+    requires top_of_file { top.now.item ≡ 0 }
     ensures lines { MatchResult result (λ lines. lines_of (map T.numbered tanks.now) (view top.now.table.now) ≡ Ok lines.items)
         (λ fault. IsRefusedAs (reported fault) (lines_of (map T.numbered tanks.now) (view top.now.table.now))) }
     ensures sound { IfOk result (λ lines. IsTrue (are_lines (map T.numbered tanks.now) lines.items)) }
@@ -46,7 +46,7 @@ fn lines_from<T: Numbered>(
     gauged: &mut Vec<u16>,
     tables: &[Value],
 ) -> Result<Vec<LineMap>, SiteReadFault>
-    requires count { length tables.now ≤ 16 }
+    requires count { length tables.now ≤ MOST_LINES }
     requires tanks { IsTrue (are_gauged (map T.numbered tanks.now) gauged.old.items) }
     ensures lines { MatchResult result (λ lines. lines_from (map T.numbered tanks.now) 1 gauged.old.items [] (map view tables.now) ≡ Ok lines.items)
         (λ fault. IsRefusedAs (reported fault) (lines_from (map T.numbered tanks.now) 1 gauged.old.items [] (map view tables.now))) }

@@ -1,4 +1,4 @@
-//! What no file of cases can show: bytes that are no UTF-8, reads that fail, and the texts of faults.
+//! Faults of `Site::read` as its callers get them: a file that isn't UTF-8, reads that fail, and the texts of faults.
 
 use crate::files::FILES;
 use crate::folders::{folder_of, folder_with};

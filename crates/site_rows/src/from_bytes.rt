@@ -68,7 +68,7 @@ fn a_byte_that_may_not_stand_there_is_bad(rt: HostRuntime) -> Result<(), Fail> {
         (0, 2, "another format"),
         (3, 3, "a step that no row may have"),
         (4, 2, "another mode"),
-        (70, 2, "a product that the site hasn't"),
+        (70, 2, "a product that the site doesn't have"),
         (71, 2, "another insulation"),
         (78, 2, "a roof that is neither there nor missing"),
         (128, 4, "flags of no field"),

@@ -1,1 +1,2 @@
+-- The lemmas of `site_tables`, by topic.
 mod Files

@@ -1,2 +1,3 @@
+-- The definitions of `site_tables`, by subject.
 pub mod Tables
 pub mod Strappings

@@ -56,7 +56,7 @@ abbrev pub litres_under_header : ℕ → List (List (List ℕ)) → Result (List
 litres_under_header item [] = Ok []
 litres_under_header item (header ∷ records) = litres_from item records
 
--- rows that are a capacity table, or why they are none
+-- rows that are a capacity table, or why they aren't
 abbrev pub table_read : ℕ → List ℤ → Option TableFault → Result (List ℤ) SiteFault
 table_read item litres None = Ok litres
 table_read item litres (Some rows.Short) = bad TABLE item 0

@@ -5,11 +5,13 @@ use Rattle.std.proofs.lemmas.Bool.Decides.{leb_tells}
 use Rattle.std.specs.Int.RustNames.{int_lt}
 use Rattle.std.specs.Prelude.{IfSome}
 use Rattle.farm_base.specs.Steps.{IsRefusedAs, or_else}
-use Rattle.farm_fixed.specs.Range.{is_within}
+use Rattle.farm_base.proofs.BoolTests.{int_lt-false, int_lt-true}
+use Rattle.farm_fixed.proofs.ParsingLaws.{is_within-true}
+use Rattle.farm_fixed.specs.Range.{is_within, IsVolume}
 use Rattle.farm_rounding.specs.Table.{Row}
 use Rattle.strap_courses.specs.Courses.{StrappedTank}
 use Rattle.strap_courses.specs.Faults.{TankFault, NotRising, TooLarge}
-use Rattle.strap_courses.specs.Rows.{HaveRowFault, IsRightRow, IsVolume, first_wrong, row_count, rows_from, strapped_row, strapped_rows, unless_wrong, wrong_row}
+use Rattle.strap_courses.specs.Rows.{HaveRowFault, IsRightRow, first_wrong, row_count, rows_from, strapped_row, strapped_rows, unless_wrong, wrong_row}
 
 -- what stands before row i: the row before it, or zero before the first
 record Before (rounding : List Row) (tank : StrappedTank) (i : ℕ) (before : ℤ) : Type 0 where
@@ -17,21 +19,9 @@ record Before (rounding : List Row) (tank : StrappedTank) (i : ℕ) (before : �
   later : 0 < i → before ≡ strapped_row rounding tank (i - 1)
   right : (earlier : ℕ) → earlier < i → IsRightRow rounding tank earlier
 
--- the tests of a row
-volume_is : (row : ℤ) → is_within (pos 0) (pos (10 ^ 9)) row ≡ true → IsVolume row
-volume_is row accepted = record { low = grind (arith, ints); high = grind (arith, ints) }
-
 -- a row outside its range has no volume of a table
 not_volume : (row : ℤ) → is_within (pos 0) (pos (10 ^ 9)) row ≡ false → ¬ (IsVolume row)
 not_volume row refused volume = grind (arith, ints, volume.low, volume.high)
-
--- a row that falls is below the one before it
-below : (row before : ℤ) → int_lt row before ≡ true → row <ℤ before
-below row before falls = grind (arith, ints)
-
--- and one that does not fall is not
-not_below : (row before : ℤ) → int_lt row before ≡ false → before ≤ℤ row
-not_below row before accepted = grind (arith, ints)
 
 -- a row in range isn't below zero
 never_first : (row before : ℤ) → before ≡ pos 0 → IsVolume row → row <ℤ before → ⊥
@@ -82,8 +72,8 @@ found_row rounding tank i (suc count) before fault all so_far some =
         let same : NotRising i ≡ fault = cc in
         let P : TankFault → Type 0 = λ fault. HaveRowFault rounding tank fault in
         let Q : ℤ → Type 0 = λ b. strapped_row rounding tank i <ℤ b in
-        let volume = volume_is (strapped_row rounding tank i) e in
-        let falls = below (strapped_row rounding tank i) before f in
+        let volume = is_within-true (pos 0) (pos (10 ^ 9)) (strapped_row rounding tank i) e in
+        let falls = int_lt-true (strapped_row rounding tank i) before f in
         elim (leb_tells i 0) [
           | inl t ↦ absurd (never_first (strapped_row rounding tank i) before (so_far.first (omega (arith, t.1))) volume falls)
           | inr t ↦ subst P same (record {
@@ -95,7 +85,7 @@ found_row rounding tank i (suc count) before fault all so_far some =
         ]
     by true false e f is more =
         let rest : first_wrong (i + 1) (strapped_row rounding tank i) (rows_from rounding tank (i + 1) count) ≡ Some fault = (rw (e, f) at is) in
-        more (next rounding tank i before so_far (volume_is (strapped_row rounding tank i) e) (not_below (strapped_row rounding tank i) before f)) rest
+        more (next rounding tank i before so_far (is_within-true (pos 0) (pos (10 ^ 9)) (strapped_row rounding tank i) e) (int_lt-false (strapped_row rounding tank i) before f)) rest
 
 -- a fault of the rows is that of the first wrong one
 row_fault_is : (rounding : List Row) (tank : StrappedTank) (fault : TankFault) → strapped_rows rounding tank ≡ Err fault → HaveRowFault rounding tank fault

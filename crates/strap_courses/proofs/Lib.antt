@@ -1,3 +1,4 @@
+-- The lemmas of `strap_courses`, by topic.
 pub mod Deadwoods
 pub mod Faultless
 pub mod Points

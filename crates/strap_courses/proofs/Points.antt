@@ -40,7 +40,7 @@ each_follows n before (point ∷ points) d e zero none short = follows_is before
 each_follows n before (point ∷ points) d e (suc i) none short =
     each_follows (n + 1) point points d e i (follows_rest (follows before point) n before point points refl none) (omega arith)
 
--- a fault isn't none
+-- a fault isn't `None`
 pub not_none : (n : ℕ) → Some n ≡ None → ⊥
 not_none n some = cc
 

@@ -1,14 +1,15 @@
 -- Rows one after another, and what they have in common.
 use Rattle.std.proofs.Common.{◌≡◌, ℕ, zero, suc, ◌+◌, ◌-◌, ◌^◌, ◌<◌, ◌≤◌, Bool, true, false, List, [], ◌∷◌, ◌++◌, length, get_or, Option, Some, None, Ok, Err, ℤ, pos, ◌≤ℤ◌, refl, sym, ap, ◌∙◌, subst, add-one, append_assoc, append-nil, arith}
-use Rattle.std.proofs.lemmas.Int.{ints}
 use Rattle.std.specs.Int.RustNames.{int_lt}
 use Rattle.farm_base.specs.Steps.{IsRefusedAs, or_else}
+use Rattle.farm_base.proofs.BoolTests.{int_lt-false}
+use Rattle.farm_base.proofs.Steps.{or_else-none}
+use Rattle.farm_fixed.proofs.ParsingLaws.{is_within-true}
 use Rattle.farm_fixed.specs.Range.{IsWithin, is_within}
 use Rattle.farm_rounding.specs.Table.{Row}
 use Rattle.strap_courses.specs.Courses.{StrappedTank}
 use Rattle.strap_courses.specs.Rows.{IsStrappedTable, first_wrong, row_count, rows_from, strapped_row, strapped_rows, unless_wrong, wrong_row}
 use Rattle.strap_courses.specs.Faults.{TankFault, NotRising, TooLarge}
-use Rattle.strap_courses.proofs.Faultless.{no_first, no_second}
 
 -- the list of rows has the length that was asked for
 length-rows_from : (rounding : List Row) (tank : StrappedTank) (i count : ℕ) → length (rows_from rounding tank i count) ≡ count
@@ -29,15 +30,7 @@ pub rows_more : (rounding : List Row) (tank : StrappedTank) (i count : ℕ) → 
 rows_more rounding tank i count short =
     let e : count - i ≡ suc (count - (i + 1)) = omega arith in rw e refl
 
--- a row in range is from 0 to 10^9 litres
-within : (row : ℤ) → is_within (pos 0) (pos (10 ^ 9)) row ≡ true → IsWithin (pos 0) (pos (10 ^ 9)) row
-within row accepted = record { low = grind (arith, ints); high = grind (arith, ints) }
-
--- a row that does not fall is not below the one before it
-not_below : (row before : ℤ) → int_lt row before ≡ false → before ≤ℤ row
-not_below row before accepted = grind (arith, ints)
-
--- a fault isn't none
+-- a fault isn't `None`
 not_none : (fault : TankFault) → Some fault ≡ None → ⊥
 not_none fault some = cc
 
@@ -51,16 +44,16 @@ right_by : (in_range falls : Bool) (i : ℕ) (before row : ℤ) → is_within (p
     wrong_row i before row ≡ None → Right before row
 right_by false falls i before row range_test fall_test none = absurd (not_none (TooLarge i) (rw range_test at none))
 right_by true true i before row range_test fall_test none = absurd (not_none (NotRising i) (rw (range_test, fall_test) at none))
-right_by true false i before row range_test fall_test none = record { volume = within row range_test; above = not_below row before fall_test }
+right_by true false i before row range_test fall_test none = record { volume = is_within-true (pos 0) (pos (10 ^ 9)) row range_test; above = int_lt-false row before fall_test }
 
 -- the first of rows of which none is wrong is right
 right : (i : ℕ) (before row : ℤ) (rows : List ℤ) → first_wrong i before (row ∷ rows) ≡ None → Right before row
 right i before row rows none =
-    right_by (is_within (pos 0) (pos (10 ^ 9)) row) (int_lt row before) i before row refl refl (no_first (wrong_row i before row) (first_wrong (i + 1) row rows) none)
+    right_by (is_within (pos 0) (pos (10 ^ 9)) row) (int_lt row before) i before row refl refl (or_else-none (wrong_row i before row) (first_wrong (i + 1) row rows) none).0
 
 -- and none of the others is wrong
 rest : (i : ℕ) (before row : ℤ) (rows : List ℤ) → first_wrong i before (row ∷ rows) ≡ None → first_wrong (i + 1) row rows ≡ None
-rest i before row rows none = no_second (wrong_row i before row) (first_wrong (i + 1) row rows) none
+rest i before row rows none = (or_else-none (wrong_row i before row) (first_wrong (i + 1) row rows) none).1
 
 -- where no row is wrong, each is in range
 each_within : (i : ℕ) (before : ℤ) (rows : List ℤ) (k : ℕ) (d : ℤ) → first_wrong i before rows ≡ None → k < length rows → IsWithin (pos 0) (pos (10 ^ 9)) (get_or rows k d)

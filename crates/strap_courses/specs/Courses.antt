@@ -4,6 +4,7 @@ use Rattle.std.specs.Prelude.{ℕ, ◌+◌, ◌-◌, ◌*◌, ◌^◌, max, min,
 use Rattle.std.specs.Int.RustNames.{unsigned_abs}
 use Rattle.strap_courses.specs.declared.parts.Course.{Course}
 use Rattle.strap_courses.specs.declared.parts.Deadwood.{Deadwood}
+use Rattle.strap_courses.specs.declared.strapping.TheConstants.{PER_LITRE}
 
 -- a point of a bottom: a height, and the volume up to it
 abbrev pub Point : Type 0
@@ -32,7 +33,7 @@ scaled_circumference course =
 
 -- that squared over this is the volume of one mm of a course: circumference squared over 4 pi
 abbrev pub per_litre : ℕ
-per_litre = 64184000000000
+per_litre = PER_LITRE
 
 -- how many mm two spans share
 abbrev pub shared_height : ℕ → ℕ → ℕ → ℕ → ℕ

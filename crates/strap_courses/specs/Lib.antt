@@ -1,3 +1,4 @@
+-- The definitions of `strap_courses`, by subject.
 pub mod Courses
 pub mod Faults
 pub mod Rows

@@ -2,17 +2,13 @@
 use Rattle.std.specs.Prelude.{◌≡◌, ℕ, zero, suc, ◌+◌, ◌*◌, ◌/◌, ◌<◌, not, if◌then◌else◌, List, [], ◌∷◌, length, Option, Some, None, Result, Ok, Err, slice_index_or, ℤ, pos, ◌+ℤ◌, ◌-ℤ◌, ◌≤ℤ◌, ◌<ℤ◌, ◌-◌}
 use Rattle.std.specs.Int.RustNames.{int_lt}
 use Rattle.farm_base.specs.Steps.{or_else}
-use Rattle.farm_fixed.specs.Range.{IsWithin, is_within}
+use Rattle.farm_fixed.specs.Range.{is_within, IsVolume}
 use Rattle.farm_fixed.specs.declared.limits.TheConstants.{MOST_LITRES}
 use Rattle.farm_rounding.specs.Table.{Row, rounded}
 use Rattle.farm_rounding.specs.declared.table.TheConstants.{DEADWOOD_PART, STRAPPED_ROW}
 use Rattle.strap_courses.specs.declared.parts.Deadwood.{Deadwood}
 use Rattle.strap_courses.specs.Faults.{TankFault, NotRising, TooLarge}
 use Rattle.strap_courses.specs.Courses.{Fraction, StrappedTank, deadwood_part, exact_volume, height_of}
-
--- a row's volume is from 0 to 10^9 litres
-abbrev pub IsVolume : ℤ → Type 0
-IsVolume row = IsWithin (pos 0) MOST_LITRES row
 
 -- a fraction of a litre rounded by a row of the rounding table
 abbrev pub rounded_litres : List Row → ℕ → Fraction → ℤ

@@ -3,7 +3,7 @@
 ghost use Rattle.std.specs.Prelude.{◌≡◌, ◌≤◌, ◌<◌, ◌*◌, ◌^◌, length, None, pos, ◌<ℤ◌};
 ghost use Rattle.std.specs.Int.RustNames.{unsigned_abs};
 ghost use Rattle.farm_fixed.specs.Range.{IsWithin};
-ghost use Rattle.farm_fixed.specs.declared.limits.TheConstants.{MOST_LITRES};
+ghost use Rattle.farm_fixed.specs.declared.limits.TheConstants.{MOST_HEIGHT, MOST_LITRES};
 ghost use Rattle.strap_courses.specs.Courses.{between_points, bottom_height, bottom_volume, last_point};
 ghost use Rattle.strap_courses.specs.Faults.{bad_point};
 ghost use Rattle.strap_courses.specs.Rows.{rounded_litres};
@@ -15,7 +15,7 @@ use farm_rounding::{RoundTable, STRAPPED_ROW, difference, product, sum};
 /// The height of a bottom.
 pub fn bottom_height(bottom: &[(Mm, i64)]) -> u64
     ensures value { result ≡ bottom_height bottom.now }
-    ensures most { result ≤ 50000 }
+    ensures most { result ≤ unsigned_abs MOST_HEIGHT }
 {
     match bottom.last() {
         Some((height, _)) => millimetres(*height),
@@ -38,7 +38,7 @@ pub fn whole_bottom(bottom: &[(Mm, i64)]) -> i64
 /// A row within the bottom.
 pub fn bottom_row(rounding: &RoundTable, bottom: &[(Mm, i64)], height: u64) -> i128
     requires points { bad_point bottom.now ≡ None }
-    requires height { height ≤ 50000 }
+    requires height { height ≤ unsigned_abs MOST_HEIGHT }
     ensures value { result ≡ rounded_litres rounding.now STRAPPED_ROW (bottom_volume bottom.now height) }
     ensures size { unsigned_abs result ≤ 10 ^ 30 }
 {
@@ -55,7 +55,7 @@ fn row_between(rounding: &RoundTable, low: (Mm, i64), high: (Mm, i64), height: u
     requires higher { low.0 <ℤ high.0 }
     requires low { IsWithin (pos 0) MOST_LITRES low.1 }
     requires high { IsWithin (pos 0) MOST_LITRES high.1 }
-    requires height { height ≤ 50000 }
+    requires height { height ≤ unsigned_abs MOST_HEIGHT }
     ensures value { result ≡ rounded_litres rounding.now STRAPPED_ROW (between_points low high height) }
     ensures size { unsigned_abs result ≤ 10 ^ 30 }
 {

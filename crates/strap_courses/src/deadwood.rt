@@ -2,7 +2,7 @@
 
 ghost use Rattle.std.specs.Prelude.{◌≡◌, ◌≤◌, ◌*◌, ◌^◌, length, All};
 ghost use Rattle.std.specs.Int.RustNames.{unsigned_abs};
-ghost use Rattle.farm_fixed.specs.declared.limits.TheConstants.{MOST_LITRES};
+ghost use Rattle.farm_fixed.specs.declared.limits.TheConstants.{MOST_HEIGHT, MOST_LITRES};
 ghost use Rattle.strap_courses.specs.Courses.{deadwood_part};
 ghost use Rattle.strap_courses.specs.Rows.{deadwood_parts, rounded_litres};
 
@@ -13,7 +13,7 @@ use farm_rounding::{DEADWOOD_PART, RoundTable, difference, product};
 /// The part of a deadwood up to a height, rounded.
 pub fn deadwood_part(rounding: &RoundTable, deadwood: &Deadwood, height: u64) -> i128
     requires litres { unsigned_abs deadwood.now.litres ≤ unsigned_abs MOST_LITRES }
-    requires height { height ≤ 50000 }
+    requires height { height ≤ unsigned_abs MOST_HEIGHT }
     ensures value { result ≡ rounded_litres rounding.now DEADWOOD_PART (deadwood_part deadwood.now height) }
     ensures size { unsigned_abs result ≤ 10 ^ 15 }
 {
@@ -32,7 +32,7 @@ pub fn deadwood_part(rounding: &RoundTable, deadwood: &Deadwood, height: u64) ->
 /// The parts of all deadwoods up to a height, of which there may be any number.
 pub fn deadwood_parts(rounding: &RoundTable, deadwoods: &[Deadwood], height: u64) -> i128
     requires litres { All (λ deadwood. unsigned_abs deadwood.litres ≤ unsigned_abs MOST_LITRES) deadwoods.now }
-    requires height { height ≤ 50000 }
+    requires height { height ≤ unsigned_abs MOST_HEIGHT }
     ensures value { result ≡ deadwood_parts rounding.now height deadwoods.now }
     ensures size { unsigned_abs result ≤ 10 ^ 36 }
 {

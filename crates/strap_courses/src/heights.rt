@@ -2,6 +2,7 @@
 
 ghost use Rattle.std.specs.Prelude.{◌≡◌, ◌≤◌, pos};
 ghost use Rattle.std.specs.Int.RustNames.{unsigned_abs};
+ghost use Rattle.farm_fixed.specs.declared.limits.TheConstants.{MOST_HEIGHT};
 
 use farm_fixed::Mm;
 
@@ -9,7 +10,7 @@ use farm_fixed::Mm;
 pub fn millimetres(height: Mm) -> u64
     ensures value { result ≡ unsigned_abs height }
     ensures signed { pos result ≡ height }
-    ensures most { result ≤ 50000 }
+    ensures most { result ≤ unsigned_abs MOST_HEIGHT }
 {
     height.get().unsigned_abs()
 }

@@ -2,6 +2,7 @@
 
 ghost use Rattle.std.specs.Prelude.{◌≡◌, ◌≤◌, ◌-◌, ◌*◌, ◌^◌, List, length, pos, ◌+ℤ◌, ◌-ℤ◌, ◌*ℤ◌};
 ghost use Rattle.std.specs.Int.RustNames.{unsigned_abs};
+ghost use Rattle.farm_fixed.specs.declared.limits.TheConstants.{MOST_HEIGHT};
 ghost use Rattle.strap_courses.specs.Courses.{held_between, height_of, scaled_circumference, shared_height};
 
 use crate::Course;
@@ -70,7 +71,7 @@ pub fn height(courses: &[Course]) -> u128
 
 /// What the courses hold between two heights, times `per_litre`.
 pub fn held_between(courses: &[Course], low: u64, high: u64) -> u128
-    requires { height_of courses.now ≤ 50000 }
+    requires { height_of courses.now ≤ unsigned_abs MOST_HEIGHT }
     ensures value { result ≡ held_between low high 0 courses.now }
     ensures size { result ≤ 10 ^ 26 }
 {

@@ -1,13 +1,14 @@
 //! A strapped tank, and the rows of its capacity table.
 
-ghost use Rattle.std.specs.Prelude.{◌≡◌, ◌≤◌, ◌*◌, ◌^◌, IfErr, IfOk, IfSome, MatchResult, None, Err, Ok, Some};
+ghost use Rattle.std.specs.Prelude.{◌≡◌, ◌≤◌, ◌+◌, ◌*◌, ◌^◌, IfErr, IfOk, IfSome, MatchResult, None, Err, Ok, Some};
 ghost use Rattle.std.specs.Int.RustNames.{unsigned_abs};
 ghost use Rattle.farm_base.specs.Steps.{IsRefusedAs};
-ghost use Rattle.farm_fixed.specs.Range.{IsWithin};
+ghost use Rattle.farm_fixed.specs.Range.{IsWithin, IsVolume};
+ghost use Rattle.farm_fixed.specs.declared.limits.TheConstants.{MOST_HEIGHT};
 ghost use Rattle.strap_courses.specs.declared.fault.StrapFault.TheVariants.{NoMemory};
 ghost use Rattle.strap_courses.specs.Courses.{bottom_height, exact_volume, height_of, last_point};
 ghost use Rattle.strap_courses.specs.Faults.{HaveFault, IsTank, first_fault, found, reported};
-ghost use Rattle.strap_courses.specs.Rows.{HaveRowFault, IsStrappedTable, IsVolume, row_count, rounded_litres, strapped_row, strapped_rows, wrong_row};
+ghost use Rattle.strap_courses.specs.Rows.{HaveRowFault, IsStrappedTable, row_count, rounded_litres, strapped_row, strapped_rows, wrong_row};
 
 use crate::bottom::{bottom_height, bottom_row, whole_bottom};
 use crate::deadwood::deadwood_parts;
@@ -20,7 +21,7 @@ use std::alloc::Global;
 use std::marker::Model;
 
 // The square of a scaled circumference over this is what one mm of the course holds, in litres.
-const PER_LITRE: i64 = 64_184_000_000_000;
+const PER_LITRE: u64 = 64_184_000_000_000;
 
 /// A strapped tank: at least one course, what stands inside, and a bottom.
 ///
@@ -102,7 +103,7 @@ impl Strapping {
     // How many rows there are.
     fn row_count(&self) -> usize
         ensures value { result ≡ row_count self.now }
-        ensures most { result ≤ 5001 }
+        ensures most { 10 * result ≤ unsigned_abs MOST_HEIGHT + 10 }
         ensures tank { first_fault self.now ≡ None }
     {
         height(&self.courses) as usize / 10 + 1
@@ -111,7 +112,7 @@ impl Strapping {
     // Row i: bottom and courses up to 10 i mm, less the deadwoods.
     #[tactic(auto, unfolding(crate::specs::Rows::strapped_row))]
     fn row(&self, rounding: &RoundTable, i: u64) -> i128
-        requires { i ≤ 5000 }
+        requires { 10 * i ≤ unsigned_abs MOST_HEIGHT }
         ensures { result ≡ strapped_row rounding.now self.now i }
     {
         let parts = deadwood_parts(rounding, &self.deadwoods, 10 * i);
@@ -121,7 +122,7 @@ impl Strapping {
     // The volume of bottom and courses up to a height, rounded.
     #[tactic(auto, unfolding(crate::specs::Courses::exact_volume))]
     fn volume(&self, rounding: &RoundTable, height: u64) -> i128
-        requires { height ≤ 50000 }
+        requires { height ≤ unsigned_abs MOST_HEIGHT }
         ensures value { result ≡ rounded_litres rounding.now STRAPPED_ROW (exact_volume self.now height) }
         ensures size { unsigned_abs result ≤ 10 ^ 36 }
     {
@@ -129,8 +130,8 @@ impl Strapping {
         if height <= top {
             return bottom_row(rounding, &self.bottom, height);
         }
-        let below = product::<64_184_000_000_000, 1_000_000_000>(
-            PER_LITRE,
+        let below = product::<PER_LITRE, 1_000_000_000>(
+            PER_LITRE as i64,
             whole_bottom(&self.bottom),
         );
         let above = held_between(&self.courses, top, height) as i128;

@@ -1,19 +1,15 @@
 -- Rounding stays within the range of a table's rows, since its ends are multiples of each step.
-use Rattle.std.proofs.Common.{◌≡◌, ◌⊎◌, inl, inr, ℕ, ◌+◌, ◌*◌, ◌/◌, ◌%◌, ◌^◌, ◌<◌, ◌≤◌, Bool, true, false, cond, IsTrue, ℤ, pos, negsuc, ◌*ℤ◌, ◌≤ℤ◌, ◌+ℤ◌, ◌-ℤ◌, refl, sym, subst, mul-pos, mul_assoc, arith}
+use Rattle.std.proofs.Common.{◌≡◌, inl, inr, ℕ, ◌+◌, ◌*◌, ◌/◌, ◌%◌, ◌^◌, ◌<◌, ◌≤◌, Bool, true, false, cond, IsTrue, ℤ, pos, negsuc, ◌*ℤ◌, ◌≤ℤ◌, ◌+ℤ◌, ◌-ℤ◌, refl, sym, subst, mul-pos, mul_assoc, arith}
 use Rattle.std.proofs.Math.Nat.{mul-le-mul_right, mul-le-mul_left}
 use Rattle.std.proofs.lemmas.Nat.{div-add-mod'}
-use Rattle.std.proofs.lemmas.Bool.Decides.{leb_tells, nat_tests}
+use Rattle.std.proofs.lemmas.Bool.Decides.{nat_tests}
 use Rattle.std.proofs.lemmas.Int.{ints}
-use Rattle.farm_fixed.specs.Range.{IsWithin}
+use Rattle.farm_fixed.specs.Range.{IsWithin, IsVolume}
 use Rattle.farm_rounding.specs.declared.mode.Mode.{Mode}
 use Rattle.farm_rounding.specs.declared.mode.Mode.TheVariants.{HalfAway, TowardZero}
 use Rattle.farm_rounding.specs.Multiple.{is_step, rounds_up, steps_to, nearest_multiple}
-use Rattle.farm_rounding.proofs.Steps.{step_bounds}
-use Rattle.strap_table.specs.Capacity.{IsVolume, tenths_between}
-
--- j is at most q or above it
-either_side : (j q : ℕ) → (j ≤ q) ⊎ (q + 1 ≤ j)
-either_side j q = elim (leb_tells j q) [ inl t ↦ inl (t.1) | inr t ↦ inr (omega arith) ]
+use Rattle.farm_rounding.proofs.Steps.{either_side, fewer_wholes, step_bounds}
+use Rattle.strap_table.specs.Capacity.{tenths_between}
 
 -- nothing left over makes no step more
 nothing_left : (mode : Mode) (s r w : ℕ) → r ≡ 0 → 0 < w → rounds_up mode s r w ≡ false
@@ -24,13 +20,6 @@ nothing_left TowardZero s r w none positive = refl
 one_more : (b : Bool) (s : ℕ) → s + cond b 1 0 ≤ s + 1
 one_more true s = omega arith
 one_more false s = omega arith
-
--- wholes that are no more in all are no more in number
-fewer_wholes : (s q w : ℕ) → 0 < w → s * w ≤ q * w → s ≤ q
-fewer_wholes s q w positive below = elim (either_side s q) [
-  | inl few ↦ few
-  | inr many ↦ let more : (q + 1) * w ≤ s * w = mul-le-mul_right w many in absurd (omega arith)
-]
 
 -- a magnitude of at most a number of wholes is rounded to no more of them
 steps_at_most : (mode : Mode) (n w q : ℕ) → 0 < w → n ≤ q * w → steps_to mode n w ≤ q

@@ -3,13 +3,15 @@ use Rattle.std.proofs.Common.{◌≡◌, inl, inr, if◌then◌else◌, nat_lt, 
 use Rattle.std.proofs.lemmas.Bool.Decides.{leb_tells, nat_tests}
 use Rattle.std.proofs.lemmas.Int.{ints}
 use Rattle.std.specs.Int.RustNames.{int_lt}
-use Rattle.farm_fixed.specs.Range.{is_within}
+use Rattle.farm_base.proofs.BoolTests.{int_lt-false, int_lt-true}
+use Rattle.farm_fixed.proofs.ParsingLaws.{is_within-true}
+use Rattle.farm_fixed.specs.Range.{is_within, IsVolume}
 use Rattle.farm_base.specs.Steps.{or_else}
-use Rattle.strap_table.specs.Capacity.{IsCapTable, IsVolume, row_at}
+use Rattle.strap_table.specs.Capacity.{IsCapTable, row_at}
 use Rattle.strap_table.specs.Faults.{HaveFault, HaveTableLength, IsFirstFalling, IsFirstOutside, falling, falling_row, first_falling, first_fault, first_outside, outside, wrong_length}
 use Rattle.strap_table.specs.declared.fault.TableFault.{TableFault}
 use Rattle.strap_table.specs.declared.fault.TableFault.TheVariants.{Short, TooMany, OutOfRange, Falling}
-use Rattle.strap_table.proofs.Rows.{each_within, not_below, right_length, within}
+use Rattle.strap_table.proofs.Rows.{each_within, right_length}
 
 -- the row that is the first outside the range, from number n on
 record FirstOutside (n : ℕ) (rows : List ℤ) (m : ℕ) : Type 0 where
@@ -41,7 +43,7 @@ found_outside n (row ∷ rows) m some = by (is_within (pos 0) (pos (10 ^ 9)) row
           counted = omega (arith, rest.counted);
           first = record {
             within = omega (arith, rest.first.within);
-            before = before_more row rows rest.index (within row e) rest.first.before;
+            before = before_more row rows rest.index (is_within-true (pos 0) (pos (10 ^ 9)) row e) rest.first.before;
             outside = rest.first.outside;
           };
         }
@@ -73,10 +75,6 @@ record FirstFalling (n : ℕ) (before : ℤ) (rows : List ℤ) (m : ℕ) : Type 
   rising : (earlier : ℕ) → earlier < index → row_at (before ∷ rows) earlier ≤ℤ row_at rows earlier
   falls : row_at rows index <ℤ row_at (before ∷ rows) index
 
--- a row below another is less
-below : (row before : ℤ) → int_lt row before ≡ true → row <ℤ before
-below row before refused = grind (arith, ints)
-
 -- the rows before it never fall, the first one among them
 rising_more : (before row : ℤ) (rows : List ℤ) (index : ℕ) → before ≤ℤ row → ((earlier : ℕ) → earlier < index → row_at (row ∷ rows) earlier ≤ℤ row_at rows earlier) →
     (earlier : ℕ) → earlier < suc index → row_at (before ∷ row ∷ rows) earlier ≤ℤ row_at (row ∷ rows) earlier
@@ -98,7 +96,7 @@ found_falling n before (row ∷ rows) m some = by (int_lt row before) refl some 
           counted = omega (arith, same);
           within = omega arith;
           rising = λ earlier early. absurd (omega (arith, early));
-          falls = below row before e;
+          falls = int_lt-true row before e;
         }
     by false e some later =
         let rest = later (rw e at some) in
@@ -106,7 +104,7 @@ found_falling n before (row ∷ rows) m some = by (int_lt row before) refl some 
           index = suc rest.index;
           counted = omega (arith, rest.counted);
           within = omega (arith, rest.within);
-          rising = rising_more before row rows rest.index (not_below row before e) rest.rising;
+          rising = rising_more before row rows rest.index (int_lt-false row before e) rest.rising;
           falls = rest.falls;
         }
 

@@ -3,23 +3,15 @@ use Rattle.std.proofs.Common.{◌≡◌, ℕ, zero, suc, ◌+◌, ◌-◌, ◌*�
 use Rattle.std.proofs.lemmas.Bool.Decides.{nat_tests}
 use Rattle.std.proofs.lemmas.Int.{ints}
 use Rattle.std.specs.Int.RustNames.{int_lt, unsigned_abs}
+use Rattle.farm_base.proofs.BoolTests.{int_lt-false}
+use Rattle.farm_base.proofs.Steps.{or_else-none}
+use Rattle.farm_fixed.proofs.ParsingLaws.{is_within-true}
 use Rattle.farm_fixed.specs.Range.{IsWithin, is_within}
 use Rattle.farm_rounding.specs.declared.mode.Mode.{Mode}
 use Rattle.farm_rounding.specs.Multiple.{nearest_multiple}
 use Rattle.farm_base.specs.Steps.{or_else}
 use Rattle.strap_table.specs.Capacity.{IsCapTable, row_at, tenths_between, table_volume, volume_at}
 use Rattle.strap_table.specs.Faults.{falling, falling_row, first_falling, first_fault, first_outside, outside, wrong_length}
-use Rattle.strap_table.specs.declared.fault.TableFault.{TableFault}
-
--- a fault is found first by whatever finds one
-no_first : (a b : Option TableFault) → or_else a b ≡ None → a ≡ None
-no_first None b none = refl
-no_first (Some fault) b none = cc
-
--- and what comes second is missing too
-no_second : (a b : Option TableFault) → or_else a b ≡ None → b ≡ None
-no_second None b none = none
-no_second (Some fault) b none = cc
 
 -- no row is outside the range where none is reported
 not_outside : (row : Option ℕ) → outside row ≡ None → row ≡ None
@@ -31,14 +23,6 @@ not_falling : (row : Option ℕ) → falling row ≡ None → row ≡ None
 not_falling None none = refl
 not_falling (Some row) none = cc
 
--- the tests of a row that is accepted
-pub within : (row : ℤ) → is_within (pos 0) (pos (10 ^ 9)) row ≡ true → IsWithin (pos 0) (pos (10 ^ 9)) row
-within row accepted = record { low = grind (arith, ints); high = grind (arith, ints) }
-
--- and of one that isn't below the row before it
-pub not_below : (row before : ℤ) → int_lt row before ≡ false → before ≤ℤ row
-not_below row before accepted = grind (arith, ints)
-
 -- the first of rows that are all in range, and the others
 inside_first : (b : Bool) (n : ℕ) (row : ℤ) (rows : List ℤ) → is_within (pos 0) (pos (10 ^ 9)) row ≡ b → first_outside n (row ∷ rows) ≡ None → is_within (pos 0) (pos (10 ^ 9)) row ≡ true
 inside_first true n row rows test none = test
@@ -49,10 +33,10 @@ inside_rest : (b : Bool) (n : ℕ) (row : ℤ) (rows : List ℤ) → is_within (
 inside_rest true n row rows test none = rw test at none
 inside_rest false n row rows test none = let some : Some n ≡ None = (rw test at none) in cc
 
--- where no row is outside the range, each is within it, and so is the 0 behind them
+-- where no row is outside the range, each is within it, and so is the 0 after them
 pub each_within : (n : ℕ) (rows : List ℤ) (i : ℕ) → first_outside n rows ≡ None → IsWithin (pos 0) (pos (10 ^ 9)) (row_at rows i)
 each_within n [] i none = record { low = omega (arith, ints); high = omega (arith, ints) }
-each_within n (row ∷ rows) zero none = within row (inside_first (is_within (pos 0) (pos (10 ^ 9)) row) n row rows refl none)
+each_within n (row ∷ rows) zero none = is_within-true (pos 0) (pos (10 ^ 9)) row (inside_first (is_within (pos 0) (pos (10 ^ 9)) row) n row rows refl none)
 each_within n (row ∷ rows) (suc i) none = each_within (n + 1) rows i (inside_rest (is_within (pos 0) (pos (10 ^ 9)) row) n row rows refl none)
 
 -- the first of rows that never fall, and the others
@@ -68,7 +52,7 @@ rising_rest true n before row rows test none = let some : Some n ≡ None = (rw 
 -- where no row falls, none is below the one before it
 each_rising : (n : ℕ) (before : ℤ) (rows : List ℤ) (i : ℕ) → first_falling n before rows ≡ None → i < length rows → row_at (before ∷ rows) i ≤ℤ row_at rows i
 each_rising n before [] i none short = absurd (omega arith)
-each_rising n before (row ∷ rows) zero none short = not_below row before (rising_first (int_lt row before) n before row rows refl none)
+each_rising n before (row ∷ rows) zero none short = int_lt-false row before (rising_first (int_lt row before) n before row rows refl none)
 each_rising n before (row ∷ rows) (suc i) none short = each_rising (n + 1) row rows i (rising_rest (int_lt row before) n before row rows refl none) (omega arith)
 
 -- so it is in a whole table
@@ -86,11 +70,11 @@ right_length n none = (grind (arith, nat_tests), grind (arith, nat_tests))
 pub table_from_rows : (rows : List ℤ) → first_fault rows ≡ None → IsCapTable rows
 unfolding first_fault
 table_from_rows rows none =
-    let lengths = no_first (wrong_length (length rows)) (or_else (outside (first_outside 0 rows)) (falling (falling_row rows))) none in
-    let others = no_second (wrong_length (length rows)) (or_else (outside (first_outside 0 rows)) (falling (falling_row rows))) none in
-    let within_range = not_outside (first_outside 0 rows) (no_first (outside (first_outside 0 rows)) (falling (falling_row rows)) others) in
-    let never_falling = not_falling (falling_row rows) (no_second (outside (first_outside 0 rows)) (falling (falling_row rows)) others) in
-    let size = right_length (length rows) lengths in
+    let faultless = or_else-none (wrong_length (length rows)) (or_else (outside (first_outside 0 rows)) (falling (falling_row rows))) none in
+    let others = or_else-none (outside (first_outside 0 rows)) (falling (falling_row rows)) faultless.1 in
+    let within_range = not_outside (first_outside 0 rows) others.0 in
+    let never_falling = not_falling (falling_row rows) others.1 in
+    let size = right_length (length rows) faultless.0 in
     record {
       fewest = size.0;
       most = size.1;
@@ -104,7 +88,7 @@ unfolding table_volume
 of_above mode step rows level above = grind (arith, nat_tests)
 
 -- and one up to it
-of_covered : (mode : Mode) (step : ℕ) (rows : List ℤ) (level : ℤ) → unsigned_abs level ≤ 10 * (length rows - 1) →
+pub of_covered : (mode : Mode) (step : ℕ) (rows : List ℤ) (level : ℤ) → unsigned_abs level ≤ 10 * (length rows - 1) →
     table_volume mode step rows level ≡ Some (volume_at mode step rows (unsigned_abs level))
 unfolding table_volume
 of_covered mode step rows level covered = grind (arith, nat_tests)

@@ -1,8 +1,7 @@
 -- A capacity table: the volume of a tank in litres at each height, row i at 10 i mm. Rows count from 0.
 use Rattle.std.specs.Prelude.{ℕ, ◌+◌, ◌-◌, ◌*◌, ◌/◌, ◌%◌, ◌<◌, ◌≤◌, ◌==◌, nat_lt, if◌then◌else◌, Option, Some, None, List, length, slice_index_or, ℤ, pos, ◌+ℤ◌, ◌-ℤ◌, ◌*ℤ◌, ◌≤ℤ◌}
 use Rattle.std.specs.Int.RustNames.{unsigned_abs}
-use Rattle.farm_fixed.specs.Range.{IsWithin}
-use Rattle.farm_fixed.specs.declared.limits.TheConstants.{MOST_LITRES}
+use Rattle.farm_fixed.specs.Range.{IsVolume}
 use Rattle.farm_rounding.specs.declared.mode.Mode.{Mode}
 use Rattle.farm_rounding.specs.Multiple.{nearest_multiple}
 use Rattle.strap_table.specs.declared.faults.TheConstants.{FEWEST_ROWS, MOST_ROWS}
@@ -10,10 +9,6 @@ use Rattle.strap_table.specs.declared.faults.TheConstants.{FEWEST_ROWS, MOST_ROW
 -- row i; 0 after the last row
 abbrev pub row_at : List ℤ → ℕ → ℤ
 row_at rows i = slice_index_or rows i (pos 0)
-
--- a row's volume is from 0 to 10^9 litres
-abbrev pub IsVolume : ℤ → Type 0
-IsVolume row = IsWithin (pos 0) MOST_LITRES row
 
 -- from 2 to 5,001 rows, each from 0 to 10^9 litres and none below the one before it
 pub record IsCapTable (rows : List ℤ) : Type 0 where

@@ -2,12 +2,12 @@
 use Rattle.std.specs.Prelude.{ℕ, ◌+◌, ◌-◌, ◌<◌, ◌≤◌, nat_lt, if◌then◌else◌, Option, Some, None, List, [], ◌∷◌, length, ℤ, pos, ◌<ℤ◌, ◌≤ℤ◌}
 use Rattle.std.specs.Int.RustNames.{int_lt}
 use Rattle.farm_base.specs.Steps.{or_else}
-use Rattle.farm_fixed.specs.Range.{is_within}
+use Rattle.farm_fixed.specs.Range.{is_within, IsVolume}
 use Rattle.farm_fixed.specs.declared.limits.TheConstants.{MOST_LITRES}
 use Rattle.strap_table.specs.declared.faults.TheConstants.{FEWEST_ROWS, MOST_ROWS}
 use Rattle.strap_table.specs.declared.fault.TableFault.{TableFault}
 use Rattle.strap_table.specs.declared.fault.TableFault.TheVariants.{Short, TooMany, OutOfRange, Falling}
-use Rattle.strap_table.specs.Capacity.{IsVolume, row_at}
+use Rattle.strap_table.specs.Capacity.{row_at}
 
 -- rows are as many as a table may have
 pub record HaveTableLength (rows : List ℤ) : Type 0 where

@@ -2,9 +2,9 @@
 
 ghost use Rattle.std.specs.Prelude.{◌≡◌, ◌≤◌, ◌*◌, ◌^◌, pos, ◌≤ℤ◌};
 ghost use Rattle.std.specs.Int.RustNames.{unsigned_abs};
-ghost use Rattle.farm_fixed.specs.Range.{IsWithin};
+ghost use Rattle.farm_fixed.specs.Range.{IsWithin, IsVolume};
 ghost use Rattle.farm_rounding.specs.Multiple.{IsAllowedStep, nearest_multiple};
-ghost use Rattle.strap_table.specs.Capacity.{IsVolume, tenths_between};
+ghost use Rattle.strap_table.specs.Capacity.{tenths_between};
 
 use farm_fixed::Litres;
 use farm_rounding::{Mode, difference, nearest, product, sum};

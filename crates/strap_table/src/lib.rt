@@ -11,5 +11,6 @@ mod table;
 mod tank;
 
 pub use fault::{AboveTable, TableFault};
+pub use faults::MOST_ROWS;
 pub use table::CapTable;
 pub use tank::{Roof, TankSpec};

@@ -2,8 +2,9 @@
 
 ghost use Rattle.std.specs.Prelude.{◌≡◌, ◌<◌, ◌-◌, ◌*◌, length, Err, IfOk, MatchResult, None, Some};
 ghost use Rattle.std.specs.Int.RustNames.{unsigned_abs};
+ghost use Rattle.farm_fixed.specs.Range.{IsVolume};
 ghost use Rattle.farm_rounding.specs.Multiple.{IsAllowedStep};
-ghost use Rattle.strap_table.specs.Capacity.{IsCapTable, IsVolume, row_at, table_volume};
+ghost use Rattle.strap_table.specs.Capacity.{IsCapTable, row_at, table_volume};
 ghost use Rattle.strap_table.specs.Faults.{HaveFault, first_fault};
 
 use crate::faults::first_fault;
@@ -58,7 +59,7 @@ impl CapTable {
     ///
     /// At a row it is the row; between two rows it is interpolated. Both are rounded. Takes no memory.
     pub fn at(&self, level: Mm, step: i64, mode: Mode) -> Result<Litres, AboveTable>
-        requires { IsAllowedStep step }
+        requires allowed_step { IsAllowedStep step }
         ensures value { MatchResult result (λ volume. table_volume mode (unsigned_abs step) self.now level ≡ Some volume) (λ _. table_volume mode (unsigned_abs step) self.now level ≡ None) }
         ensures range { IfOk result IsVolume }
     {

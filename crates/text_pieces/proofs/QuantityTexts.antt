@@ -1,13 +1,10 @@
 -- The parts of the text of a quantity.
 use Rattle.std.proofs.Common.{◌≡◌, ℕ, ◌<◌, ◌≤◌, ◌^◌, ◌/◌, ◌%◌, ◌==◌, if◌then◌else◌, [], ◌∷◌, ◌++◌, ℤ, decimal, append_assoc, arith, lit<, sym}
-use Rattle.std.proofs.Math.Nat.{one-le-pow, pow-le-pow_right, mod-eq_of_lt}
+use Rattle.std.proofs.Math.Nat.{pow-le-pow_right, mod-eq_of_lt}
 use Rattle.std.proofs.lemmas.Nat.{div_below}
 use Rattle.std.specs.Int.RustNames.{unsigned_abs}
 use Rattle.farm_fixed.specs.Printing.{minus_of, padded, quantity_text}
-
--- a scale isn't 0
-pub some_scale : (places : ℕ) → 0 < 10 ^ places
-some_scale places = one-le-pow places 10 (lit< tt)
+use Rattle.farm_fixed.proofs.PrintingLaws.{some_scale}
 
 -- 20 decimals and more have a scale above every 64-bit number
 beyond : (places units : ℕ) → 20 ≤ places → units < 2 ^ 64 → units < 10 ^ places

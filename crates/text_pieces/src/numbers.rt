@@ -8,13 +8,13 @@ ghost use Rattle.text_pieces.specs.Pieces.{Lengthens};
 use farm_base::NoMemory;
 use itoa::{Buffer, write_digits};
 
-/// The most digits that a `u64` has.
+// The most digits that a `u64` has.
 const DIGITS: usize = 20;
 
-/// 10 to the power of this is above every `u64`.
+// 10 to the power of this is above every `u64`.
 const BEYOND: u8 = 20;
 
-/// As many zeros as a text can have in front of its decimals.
+// As many zeros as a text can have in front of its decimals.
 const ZEROS: [u8; 256] = [b'0'; 256];
 
 /// Appends a number.

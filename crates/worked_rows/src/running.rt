@@ -15,7 +15,7 @@ const INIT: &[&str] = &["init", "--site", "row", "--journal", "j"];
 
 const BATCH: &[&str] = &["batch", "--journal", "j"];
 
-/// The moment of the clock of the runs.
+// The moment of the clock of the runs.
 const MOMENT: i64 = 1_700_000_000;
 
 /// What the words are answered with, over an input, a folder and an empty disk, no call on which fails.

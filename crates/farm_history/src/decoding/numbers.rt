@@ -54,7 +54,7 @@ pub fn i64_at(bytes: &[u8]) -> Result<(i64, &[u8]), usize>
     Ok((number.cast_signed(), rest))
 }
 
-/// A byte that is at most this.
+// A byte that is at most this.
 fn byte_up_to(most: u8, bytes: &[u8]) -> Result<(u8, &[u8]), usize>
     ensures byte { Gives (λ x. (x.0, x.1.now)) result (byte_at (λ byte. nat_le byte most) bytes.now) }
 {

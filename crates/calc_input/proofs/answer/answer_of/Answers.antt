@@ -1,3 +1,4 @@
+-- Answers to the open goals of `answer_of`.
 use Rattle.std.proofs.Common.{rules, ◌∙◌, arith}
 use Rattle.calc_input.proofs.Answering.{answered_by_figures, figures_along}
 use Rattle.calc_input.proofs.answer.answer_of.Goals as goal

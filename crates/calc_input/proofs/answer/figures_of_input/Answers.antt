@@ -1,3 +1,4 @@
+-- Answers to the open goals of `figures_of_input`.
 use Rattle.std.proofs.Common.{◌≡◌, List, ℕ, Result, Ok, Err}
 use Rattle.std.specs.Result.{IfOk}
 use Rattle.farm_fixed.specs.declared.records.Quantities.{Quantities}

@@ -1,3 +1,4 @@
+-- Answers to the open goals of `laws`.
 use Rattle.calc_input.proofs.Answering.{front_decides}
 use Rattle.calc_input.proofs.RefusedLines.{one_refused_line}
 use Rattle.calc_input.proofs.answer.laws.Goals as goal

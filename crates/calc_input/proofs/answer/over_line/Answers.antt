@@ -1,3 +1,4 @@
+-- Answers to the open goals of `over_line`.
 use Rattle.std.proofs.Common.{ℕ, length-take, arith}
 use Rattle.calc_input.proofs.answer.over_line.Goals as goal
 

@@ -1,3 +1,4 @@
+-- Answers to the open goals of `grid_from`.
 use Rattle.std.proofs.Common.{◌≡◌, ◌+◌, length, drop, List, ℕ, Some, None, Ok, sym, ap, ◌∙◌, arith}
 use Rattle.calc_input.specs.FactorRows.{listed_of}
 use Rattle.calc_input.specs.Lines.{line_at}
@@ -44,7 +45,7 @@ loop-index-preserved c = record {
 
 pub returns-in-Some-finish-clause-grid : goal.returns-in-Some-finish-clause-grid
 returns-in-Some-finish-clause-grid c = λ all before.
-    ends_with c.args.count c.args.first c.loop-index.index all c.loop-index.growing (Some c.in-Some-finish.grid) (c.loop-index.invariant.rows all before) (omega (arith, c.loop-index.auto.index-end)) c.requires.count c.in-Some-finish.ensures
+    ends_with c.args.count c.args.first c.loop-index.index all c.loop-index.growing (Some c.in-Some-finish.grid) (c.loop-index.invariant.rows all before) (omega (arith, c.loop-index.auto.index-end)) c.requires.count c.in-Some-finish.ensures.finishes
 
 pub returns-in-Some-finish-clause-rest : goal.returns-in-Some-finish-clause-rest
 returns-in-Some-finish-clause-rest c =
@@ -53,4 +54,4 @@ returns-in-Some-finish-clause-rest c =
 
 pub returns-in-None-clause-grid : goal.returns-in-None-clause-grid
 returns-in-None-clause-grid c = λ all before.
-    ends_with c.args.count c.args.first c.loop-index.index all c.loop-index.growing None (c.loop-index.invariant.rows all before) (omega (arith, c.loop-index.auto.index-end)) c.requires.count c.in-None.ensures
+    ends_with c.args.count c.args.first c.loop-index.index all c.loop-index.growing None (c.loop-index.invariant.rows all before) (omega (arith, c.loop-index.auto.index-end)) c.requires.count c.in-None.ensures.finishes

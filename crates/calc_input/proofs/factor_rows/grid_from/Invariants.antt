@@ -1,3 +1,4 @@
+-- The invariants of the loops of `grid_from`.
 use Rattle.std.proofs.Common.{◌≡◌, ℕ, List, drop}
 use Rattle.calc_input.proofs.FactorFronts.{IsGrowing}
 use Rattle.calc_input.proofs.factor_rows.grid_from.Given as goal

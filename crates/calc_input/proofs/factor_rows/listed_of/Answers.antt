@@ -1,3 +1,4 @@
+-- Answers to the open goals of `listed_of`.
 use Rattle.std.proofs.Common.{◌≡◌, ℕ, ◌<◌, ◌==◌, ◌∷◌, [], List, length, None, refl, sym, arith}
 use Rattle.std.proofs.lemmas.List.Splits.{length-slice_split}
 use Rattle.farm_base.specs.Bytes.{parts_at}

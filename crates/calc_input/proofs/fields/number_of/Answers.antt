@@ -1,3 +1,4 @@
+-- Answers to the open goals of `number_of`.
 use Rattle.std.proofs.Common.{arith}
 use Rattle.calc_input.proofs.Digits.{digit_of_word}
 use Rattle.calc_input.proofs.fields.number_of.Goals as goal

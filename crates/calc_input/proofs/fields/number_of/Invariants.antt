@@ -1,3 +1,4 @@
+-- The invariants of the loops of `number_of`.
 use Rattle.std.proofs.Common.{◌≡◌, take}
 use Rattle.std.specs.Str.Parse.{digits_value}
 use Rattle.calc_input.proofs.fields.number_of.Given as goal

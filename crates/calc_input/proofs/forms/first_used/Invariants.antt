@@ -1,3 +1,4 @@
+-- The invariants of the loops of `first_used`.
 use Rattle.std.proofs.Common.{◌≡◌, ◌+◌, ◌^◌, ◌≤◌, length}
 use Rattle.calc_input.specs.Forms.{first_used}
 use Rattle.calc_input.proofs.forms.first_used.Given as goal

@@ -1,3 +1,4 @@
+-- Answers to the open goals of `table_of`.
 use Rattle.std.proofs.Common.{[], ◌∷◌, refl}
 use Rattle.calc_input.proofs.VolumeRows.{rows_are_table, rows_taken}
 use Rattle.calc_input.proofs.forms.table_of.Goals as goal

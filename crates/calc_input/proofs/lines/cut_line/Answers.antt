@@ -1,3 +1,4 @@
+-- Answers to the open goals of `cut_line`.
 use Rattle.std.proofs.Common.{◌∷◌, ap, sym, ◌∙◌, arith}
 use Rattle.calc_input.specs.Lines.{ended_lines, lines_of}
 use Rattle.calc_input.proofs.Parts.{ended_line_first, few_lines}

@@ -1,3 +1,4 @@
+-- The invariants of the loops of `is_blank_line`.
 use Rattle.std.proofs.Common.{◌≡◌, drop}
 use Rattle.calc_input.specs.Lines.{is_blank_line}
 use Rattle.calc_input.proofs.lines.is_blank_line.Given as goal

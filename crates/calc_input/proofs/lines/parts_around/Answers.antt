@@ -1,3 +1,4 @@
+-- Answers to the open goals of `parts_around`.
 use Rattle.std.proofs.Common.{◌≡◌, ℕ, ◌+◌, ◌∷◌, List, take, sym, subst, ◌∙◌}
 use Rattle.farm_base.specs.Bytes.{parts_at}
 use Rattle.calc_input.proofs.Parts.{parts_split, parts_whole, whole_rest}

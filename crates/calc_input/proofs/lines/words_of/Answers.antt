@@ -1,3 +1,4 @@
+-- Answers to the open goals of `words_of`.
 use Rattle.std.proofs.Common.{◌==◌, not, length, rules, tests}
 use Rattle.std.proofs.lemmas.Iterator.Consumers.{map_from_collect, YieldsList-from_filter, YieldsList-at}
 use Rattle.std.proofs.lemmas.Iterator.Splits.{YieldsList-from_slice_split}

@@ -1,3 +1,4 @@
+-- Answers to the open goals of `rows_of`.
 use Rattle.std.proofs.Common.{◌≡◌, ℕ, ◌+◌, ◌-◌, ◌∷◌, ◌++◌, [], List, ℤ, Some, None, drop, pos, sym, subst, ◌∙◌, ap, Err, arith, rules}
 use Rattle.std.proofs.lemmas.Int.{to_z-of_z}
 use Rattle.std.specs.Int.{w64}

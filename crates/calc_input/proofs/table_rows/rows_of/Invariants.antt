@@ -1,3 +1,4 @@
+-- The invariants of the loops of `rows_of`.
 use Rattle.std.proofs.Common.{◌≡◌, ℕ, ◌+◌, ◌-◌, List, drop, pos}
 use Rattle.calc_input.specs.TableRows.{rows_from}
 use Rattle.calc_input.proofs.VolumeRows.{onto}

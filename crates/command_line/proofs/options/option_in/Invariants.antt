@@ -1,3 +1,4 @@
+-- The invariants of the loops of `option_in`.
 use Rattle.std.proofs.Common.{◌≡◌, map, drop}
 use Rattle.std.specs.Prelude.{string_bytes}
 use Rattle.command_line.specs.Options.{option_in}

@@ -1,3 +1,4 @@
+-- Answers to the open goals of `text_after`.
 use Rattle.std.proofs.Common.{◌≡◌, ℕ, List, ◌++◌, ◌+◌, drop, length, Bor, Option, Some, None, option_map, ap, sym, ◌∙◌}
 use Rattle.std.specs.Prelude.{MatchOption}
 use Rattle.std.specs.Str.Pattern.{FindsTextPrefix}

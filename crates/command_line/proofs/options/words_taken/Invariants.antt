@@ -1,3 +1,4 @@
+-- The invariants of the loops of `words_taken`.
 use Rattle.std.proofs.Common.{◌≡◌, ◌*◌, ◌≤◌, map, drop}
 use Rattle.std.specs.Prelude.{string_bytes}
 use Rattle.command_line.specs.Options.{words_taken}

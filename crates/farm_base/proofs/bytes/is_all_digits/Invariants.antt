@@ -1,3 +1,4 @@
+-- The invariants of the loops of `is_all_digits`.
 use Rattle.std.proofs.Common.{◌≡◌, drop}
 use Rattle.farm_base.specs.Bytes.{is_all_digits}
 use Rattle.farm_base.proofs.bytes.is_all_digits.Given as goal

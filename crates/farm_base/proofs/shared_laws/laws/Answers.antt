@@ -1,3 +1,4 @@
+-- Answers to the open goals of `laws`.
 use Rattle.farm_base.proofs.Rises.{faults_add_up, faults_are_added, rises_add_up}
 use Rattle.farm_base.proofs.Additions.{additions_add_up, takings_add_up}
 use Rattle.farm_base.proofs.shared_laws.laws.Goals as goal

@@ -1,3 +1,4 @@
+-- Answers to the open goals of `answer`.
 use Rattle.std.proofs.Common.{◌≡◌, List, ℕ, ℤ, None, Some, Bor, refl, sym, ap, subst, ◌∙◌, option_map, rules}
 use Rattle.std.specs.Int.{w64}
 use Rattle.std.proofs.lemmas.Int.{to_z-of_z}

@@ -1,3 +1,4 @@
+-- Answers to the open goals of `answer_ask`.
 use Rattle.std.proofs.Common.{◌≡◌, ◌∙◌, ◌&&◌, Bool, true, false, nat_lt, length, ap, ap₂, sym, subst, w64, ℤ}
 use Rattle.std.proofs.lemmas.Int.{to_z-of_z}
 use Rattle.farm_batch.specs.declared.limits.TheConstants.{BATCH_CALLER}

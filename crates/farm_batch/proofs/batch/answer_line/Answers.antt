@@ -1,3 +1,4 @@
+-- Answers to the open goals of `answer_line`.
 use Rattle.std.proofs.Common.{ℤ, sym, subst, rules}
 use Rattle.std.specs.Int.{w64}
 use Rattle.std.proofs.lemmas.Int.{to_z-of_z}

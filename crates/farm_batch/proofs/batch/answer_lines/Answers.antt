@@ -1,3 +1,4 @@
+-- Answers to the open goals of `answer_lines`.
 use Rattle.std.proofs.Common.{◌≡◌, ◌≤◌, ◌+◌, true, false, Some, None, Ok, sym, ap, ◌∙◌, arith}
 use Rattle.farm_batch.specs.declared.batch.BatchEnd.TheVariants.{Done, Long, Failed}
 use Rattle.farm_batch.specs.declared.limits.TheConstants.{MOST_LINES}

@@ -1,4 +1,5 @@
-use Rattle.batch_lines.specs.Reader.{count_of}
+-- The invariants of the loops of `answer_lines`.
+use Rattle.farm_base.specs.Counts.{count_of}
 use Rattle.farm_batch.proofs.SoFar.{SoFar}
 use Rattle.farm_batch.specs.Desks.{KeepsDesk}
 use Rattle.farm_batch.proofs.batch.answer_lines.Given as goal

@@ -1,3 +1,4 @@
+-- Answers to the open goals of `put_page`.
 use Rattle.std.proofs.Common.{inl, inr, ℕ, List, take, refl, sym, subst}
 use Rattle.farm_base.specs.Known.{Adds}
 use Rattle.farm_http.specs.declared.page.Page.{Page}

@@ -1,3 +1,4 @@
+-- Answers to the open goals of `are_computable`.
 use Rattle.std.proofs.Common.{◌≡◌, ◌≤◌, List, length, subst}
 use Rattle.site_items.specs.declared.records.Tank.{Tank}
 use Rattle.farm_book.proofs.TablesRead.{AreRead, read_computable, read_more, site_rising}

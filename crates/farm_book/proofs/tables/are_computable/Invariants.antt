@@ -1,3 +1,4 @@
+-- The invariants of the loops of `are_computable`.
 use Rattle.farm_book.proofs.TablesRead.{AreRead}
 use Rattle.farm_book.proofs.tables.are_computable.Given as goal
 

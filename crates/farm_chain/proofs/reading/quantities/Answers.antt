@@ -1,3 +1,4 @@
+-- Answers to the open goals of `quantities`.
 use Rattle.std.proofs.Common.{◌≡◌, List, ℤ, Result, Ok, Err, sym, ◌∙◌, rules}
 use Rattle.farm_fixed.specs.declared.records.Reading.{Reading}
 use Rattle.farm_fixed.specs.declared.records.Sample.{Sample}

@@ -1,3 +1,4 @@
+-- Answers to the open goals of `gross_observed`.
 use Rattle.std.proofs.Common.{arith, rules}
 use Rattle.std.proofs.lemmas.Int.{ints}
 use Rattle.farm_rounding.specs.declared.table.TheConstants.{GROSS_OBSERVED}

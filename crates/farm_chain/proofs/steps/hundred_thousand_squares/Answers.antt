@@ -1,3 +1,4 @@
+-- Answers to the open goals of `hundred_thousand_squares`.
 use Rattle.std.proofs.Common.{ℤ, pos, ◌*◌, ◌≤ℤ◌, subst, sym, arith}
 use Rattle.std.proofs.lemmas.Grind.{common_steps}
 use Rattle.farm_chain.proofs.Squares.{square_low, square_high}

@@ -1,3 +1,4 @@
+-- Answers to the open goals of `net_standard`.
 use Rattle.std.proofs.Common.{pos, ◌-ℤ◌, arith, rules}
 use Rattle.std.proofs.lemmas.Int.{ints}
 use Rattle.farm_chain.proofs.Rounded.{product_rounded}

@@ -1,3 +1,4 @@
+-- Answers to the open goals of `roof_adjustment`.
 use Rattle.std.proofs.Common.{◌≡◌, ◌^◌, false, List, ℤ, pos, neg_ℤ, ◌*ℤ◌, ◌≤ℤ◌, ap, ◌∙◌, arith, rules}
 use Rattle.std.proofs.lemmas.Int.{ints}
 use Rattle.std.specs.Int.RustNames.{unsigned_abs}

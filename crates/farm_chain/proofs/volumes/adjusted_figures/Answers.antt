@@ -1,3 +1,4 @@
+-- Answers to the open goals of `adjusted_figures`.
 use Rattle.std.proofs.Common.{◌≡◌, false, List, ℤ, pos, Ok, rules}
 use Rattle.std.specs.Int.RustNames.{int_lt}
 use Rattle.farm_fixed.specs.declared.records.Shell.{Shell}

@@ -1,3 +1,4 @@
+-- Answers to the open goals of `blanks_at_start`.
 use Rattle.std.proofs.Common.{◌≡◌, ◌∙◌, length, get_or, sym, arith, rules, true, false}
 use Rattle.std.proofs.lemmas.List.{drop_all}
 use Rattle.farm_base.specs.Bytes.{is_blank}

@@ -1,3 +1,4 @@
+-- Answers to the open goals of `length_before_blanks`.
 use Rattle.std.proofs.Common.{◌≡◌, ◌<◌, ◌+◌, ◌-◌, length, take, get_or, arith, rules, true, false, refl}
 use Rattle.std.proofs.lemmas.List.{length-take, take_all, take_more}
 use Rattle.farm_base.specs.Bytes.{is_blank}

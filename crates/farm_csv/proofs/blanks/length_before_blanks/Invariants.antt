@@ -1,3 +1,4 @@
+-- The invariants of the loops of `length_before_blanks`.
 use Rattle.std.proofs.Common.{◌≡◌, ◌-◌, take}
 use Rattle.farm_csv.specs.Blanks.{length_before_blanks}
 use Rattle.farm_csv.proofs.blanks.length_before_blanks.Given as goal

@@ -1,7 +1,8 @@
+-- Answers to the open goals of `rows_below_header`.
 use Rattle.std.proofs.Common.{◌∙◌, sym, arith}
 use Rattle.std.proofs.lemmas.Result.{err_from_is_err_and}
 use Rattle.csv.specs.Records.{fields_of}
-use Rattle.farm_csv.specs.Left.{left_of}
+use Rattle.farm_csv.specs.Reader.{left_of}
 use Rattle.farm_csv.specs.Records.{records_of}
 use Rattle.farm_csv.specs.Rows.{below_header}
 use Rattle.farm_csv.proofs.FirstNoRow.{first_of_answer}

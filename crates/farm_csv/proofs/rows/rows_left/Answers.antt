@@ -1,7 +1,8 @@
+-- Answers to the open goals of `rows_left`.
 use Rattle.std.proofs.Common.{◌≡◌, ◌∙◌, length, Some, sym, rules}
 use Rattle.std.proofs.lemmas.Result.{err_from_is_err_and}
 use Rattle.csv.specs.Records.{fields_of}
-use Rattle.farm_csv.specs.Left.{left_of}
+use Rattle.farm_csv.specs.Reader.{left_of}
 use Rattle.farm_csv.proofs.MoreRows.{count_on, fault_of_rows, rows_on}
 use Rattle.farm_csv.proofs.rows.rows_left.Goals as goal
 

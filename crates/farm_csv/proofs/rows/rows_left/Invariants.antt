@@ -1,5 +1,6 @@
+-- The invariants of the loops of `rows_left`.
 use Rattle.std.proofs.Common.{◌≡◌, ◌+◌, length}
-use Rattle.farm_csv.specs.Left.{IsReading, is_even_left, left_of}
+use Rattle.farm_csv.specs.Reader.{IsReading, is_even_left, left_of}
 use Rattle.farm_csv.specs.Rows.{rows_from}
 use Rattle.farm_csv.proofs.MoreRows.{prepended}
 use Rattle.farm_csv.proofs.rows.rows_left.Given as goal

@@ -1,5 +1,6 @@
+-- The invariants of the loops of `shown`.
 use Rattle.std.proofs.Common.{length}
-use Rattle.farm_csv.specs.Left.{IsReading, left_of}
+use Rattle.farm_csv.specs.Reader.{IsReading, left_of}
 use Rattle.farm_csv.proofs.tests.shown.Given as goal
 
 abbrev pub invariant-loop-record : goal.invariant-loop-record

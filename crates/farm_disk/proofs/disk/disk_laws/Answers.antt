@@ -1,3 +1,4 @@
+-- Answers to the open goals of `disk_laws`.
 use Rattle.farm_disk.proofs.Images.{begun_keeps_images, begun_reaches, empty_write_changes_nothing, synced_is_image, synced_is_one, written_is_image, written_over, written_reaches}
 use Rattle.farm_disk.proofs.States.{added_is_present, past_stays, sync_leaves_one}
 use Rattle.farm_disk.proofs.disk.disk_laws.Goals as goal

@@ -1,3 +1,4 @@
+-- Answers to the open goals of `image_at`.
 use Rattle.std.proofs.Common.{◌≡◌, ◌∷◌, ◌+◌, ◌-◌, ◌<◌, nat_lt, drop, length, sym, ap, ◌∙◌, refl, rules}
 use Rattle.std.proofs.lemmas.List.{drop_more}
 use Rattle.farm_disk.specs.Rebuilt.{as_found, image_by}

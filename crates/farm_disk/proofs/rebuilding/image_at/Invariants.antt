@@ -1,3 +1,4 @@
+-- The invariants of the loops of `image_at`.
 use Rattle.std.proofs.Common.{◌≡◌, drop}
 use Rattle.farm_disk.specs.Rebuilt.{found_at, rebuilt}
 use Rattle.farm_disk.proofs.rebuilding.image_at.Given as goal

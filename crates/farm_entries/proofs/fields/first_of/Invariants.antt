@@ -1,3 +1,4 @@
+-- The invariants of the loops of `first_of`.
 use Rattle.std.proofs.Common.{◌≡◌, ◌+◌, drop}
 use Rattle.farm_history.specs.Places.{first_from}
 use Rattle.farm_entries.proofs.fields.first_of.Given as goal

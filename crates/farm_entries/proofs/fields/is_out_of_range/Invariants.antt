@@ -1,3 +1,4 @@
+-- The invariants of the loops of `is_out_of_range`.
 use Rattle.std.proofs.Common.{◌≡◌, drop}
 use Rattle.std.specs.List.{list_all}
 use Rattle.farm_fixed.specs.Range.{is_within}

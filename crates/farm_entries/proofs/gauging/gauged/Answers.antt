@@ -1,3 +1,4 @@
+-- Answers to the open goals of `gauged`.
 use Rattle.std.proofs.Common.{rules, ◌≡◌, IsTrue, Some, None, Ok, List, take, length-take, ap, ◌∙◌, pos, negsuc, ℤ, sym, subst, arith}
 use Rattle.std.specs.Int.{w64}
 use Rattle.std.proofs.lemmas.Int.{to_z-of_z}

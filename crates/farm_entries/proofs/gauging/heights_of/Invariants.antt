@@ -1,3 +1,4 @@
+-- The invariants of the loops of `heights_of`.
 use Rattle.std.proofs.Common.{◌≡◌, take}
 use Rattle.farm_entries.proofs.gauging.heights_of.Given as goal
 

@@ -1,3 +1,4 @@
+-- The invariants of the loops of `book_of`.
 use Rattle.std.proofs.Common.{◌≡◌, drop}
 use Rattle.farm_stock.specs.Books.{book_of}
 use Rattle.farm_entries.proofs.ledger.book_of.Given as goal

@@ -1,3 +1,4 @@
+-- Answers to the open goals of `post_all`.
 use Rattle.std.proofs.Common.{ℕ, ◌+◌, ◌*◌, ◌^◌, ◌≤◌, List, map, ap, sym, ◌∙◌, subst, arith}
 use Rattle.std.proofs.lemmas.List.Elements.{All-weaker}
 use Rattle.farm_stock.specs.declared.book.Book.{Book}

@@ -1,3 +1,4 @@
+-- Answers to the open goals of `post_one`.
 use Rattle.std.proofs.Common.{get_or, ap, ◌∙◌, pos, set}
 use Rattle.farm_stock.specs.declared.book.Book.{Book}
 use Rattle.farm_entries.proofs.BooksPosted.{posted_elsewhere, posted_here, posted_more}

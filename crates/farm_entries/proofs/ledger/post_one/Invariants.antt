@@ -1,3 +1,4 @@
+-- The invariants of the loops of `post_one`.
 use Rattle.std.proofs.Common.{◌≡◌, ◌++◌, drop, map, take}
 use Rattle.farm_entries.specs.Ledgers.{posted_to}
 use Rattle.farm_entries.proofs.ledger.post_one.Given as goal

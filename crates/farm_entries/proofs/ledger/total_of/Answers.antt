@@ -1,3 +1,4 @@
+-- Answers to the open goals of `total_of`.
 use Rattle.std.proofs.Common.{◌+◌, ◌*◌, sym, subst, arith}
 use Rattle.farm_stock.proofs.Amounts.{total_more}
 use Rattle.farm_entries.specs.Bounds.{IsAtMost, most_posted}

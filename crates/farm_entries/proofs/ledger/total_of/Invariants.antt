@@ -1,3 +1,4 @@
+-- The invariants of the loops of `total_of`.
 use Rattle.std.proofs.Common.{◌≡◌, ◌*◌, drop}
 use Rattle.farm_stock.specs.Books.{plus, total_of}
 use Rattle.farm_entries.specs.Bounds.{IsAtMost, most_posted}

@@ -1,3 +1,4 @@
+-- The invariants of the loops of `is_ended`.
 use Rattle.std.proofs.Common.{◌≡◌, drop}
 use Rattle.std.specs.List.{list_any}
 use Rattle.farm_history.specs.Movements.{is_end_of}

@@ -1,3 +1,4 @@
+-- Answers to the open goals of `closed`.
 use Rattle.std.proofs.Common.{refl}
 use Rattle.farm_entries.proofs.WrongWays.{any_wrong, none_wrong}
 use Rattle.farm_entries.proofs.tickets.closed.Goals as goal

@@ -1,3 +1,4 @@
+-- Answers to the open goals of `goes_wrong`.
 use Rattle.std.proofs.Common.{◌≡◌, Bool, true, false, refl, ◌∙◌, sym}
 use Rattle.farm_entries.proofs.WrongWays.{any_wrong, none_wrong}
 use Rattle.farm_entries.proofs.tickets.goes_wrong.Goals as goal

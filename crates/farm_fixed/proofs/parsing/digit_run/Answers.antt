@@ -1,3 +1,4 @@
+-- Answers to the open goals of `digit_run`.
 use Rattle.std.proofs.Common.{◌≡◌, ◌+◌, ◌*◌, ◌^◌, min, ◌∷◌, [], ◌++◌, take, get_or, arith, sym, ◌∙◌}
 use Rattle.std.proofs.lemmas.List.{take_more}
 use Rattle.std.proofs.lemmas.Str.{digit_value_digit}

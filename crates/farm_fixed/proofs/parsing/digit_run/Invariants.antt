@@ -1,3 +1,4 @@
+-- The invariants of the loops of `digit_run`.
 use Rattle.std.proofs.Common.{◌≡◌, ◌^◌, ◌≤◌, min, take}
 use Rattle.std.specs.Char.{IsAsciiDigit}
 use Rattle.std.specs.List.{AllByRecursion}

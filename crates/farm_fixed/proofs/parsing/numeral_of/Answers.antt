@@ -1,3 +1,4 @@
+-- Answers to the open goals of `numeral_of`.
 use Rattle.std.proofs.Common.{◌≡◌, ◌<◌, ◌∷◌, length, take, arith, refl, ap, ◌∙◌}
 use Rattle.std.proofs.lemmas.List.{length-take-le}
 use Rattle.farm_fixed.proofs.DigitRuns.{split_of, bad_without_whole, bad_after_whole, bad_after_point, whole_numeral, decimal_numeral}

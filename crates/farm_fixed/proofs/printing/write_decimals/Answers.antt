@@ -1,3 +1,4 @@
+-- Answers to the open goals of `write_decimals`.
 use Rattle.std.proofs.Common.{length, ap, arith}
 use Rattle.farm_fixed.proofs.PrintingLaws.{short_decimals, padded_at_end}
 use Rattle.farm_fixed.proofs.printing.write_decimals.Goals as goal

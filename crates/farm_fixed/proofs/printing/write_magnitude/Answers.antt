@@ -1,3 +1,4 @@
+-- Answers to the open goals of `write_magnitude`.
 use Rattle.std.proofs.Common.{ℕ, ◌^◌, length, ap, arith, length-set}
 use Rattle.std.proofs.lemmas.Nat.{mod_below}
 use Rattle.farm_fixed.proofs.PrintingLaws.{some_scale, short_whole, small_quotient}

@@ -1,3 +1,4 @@
+-- Answers to the open goals of `write_text`.
 use Rattle.std.proofs.Common.{◌≡◌, length, ap, ◌∙◌, true, false, pos, arith, w64}
 use mir.Val.{SFits}
 use Rattle.std.proofs.lemmas.Int.{to_z-of_z}

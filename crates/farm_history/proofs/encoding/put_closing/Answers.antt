@@ -1,3 +1,4 @@
+-- Answers to the open goals of `put_closing`.
 use Rattle.farm_history.specs.Encoding.{command_bytes}
 use Rattle.farm_history.proofs.Joined.{three_joined}
 use Rattle.farm_history.proofs.encoding.put_closing.Goals as goal

@@ -1,3 +1,4 @@
+-- Answers to the open goals of `put_dip`.
 use Rattle.std.proofs.Common.{ℕ, [], ◌∷◌, ◌++◌, length, ap, ◌∙◌, arith, rules, length-append}
 use Rattle.std.specs.Int.{w64}
 use Rattle.std.proofs.lemmas.Int.{to_z-of_z}

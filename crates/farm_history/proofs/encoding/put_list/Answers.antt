@@ -1,3 +1,4 @@
+-- Answers to the open goals of `put_list`.
 use Rattle.std.proofs.Common.{ℕ, length, take, All, FitsSigned, subst, ap, arith, rules, length-append}
 use Rattle.std.proofs.lemmas.List.{length-take}
 use Rattle.std.specs.Int.{w64}

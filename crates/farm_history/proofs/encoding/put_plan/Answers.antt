@@ -1,3 +1,4 @@
+-- Answers to the open goals of `put_plan`.
 use Rattle.std.proofs.Common.{◌∷◌, ◌++◌, sym, ap, ◌∙◌}
 use Rattle.std.specs.Int.{w16, to_be_bytes}
 use Rattle.farm_history.specs.Encoding.{gauged_bytes, plan_bytes}

@@ -1,3 +1,4 @@
+-- Answers to the open goals of `put_settle`.
 use Rattle.farm_history.specs.Encoding.{command_bytes}
 use Rattle.farm_history.proofs.Joined.{two_joined}
 use Rattle.farm_history.proofs.encoding.put_settle.Goals as goal

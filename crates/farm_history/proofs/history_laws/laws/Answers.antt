@@ -1,3 +1,4 @@
+-- Answers to the open goals of `laws`.
 use Rattle.farm_history.proofs.Books.{books_grow, books_mean}
 use Rattle.farm_history.proofs.Dips.{dip_faults_mean}
 use Rattle.farm_history.proofs.Gains.{gains_mean, gains_stand}

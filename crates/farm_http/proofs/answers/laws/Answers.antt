@@ -1,3 +1,4 @@
+-- Answers to the open goals of `laws`.
 use Rattle.std.proofs.Common.{refl}
 use Rattle.serde_json.proofs.OnLiterals.{serde_json_on_literals}
 use Rattle.farm_http.specs.Answers.{body_text}

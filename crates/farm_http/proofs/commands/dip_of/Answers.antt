@@ -1,3 +1,4 @@
+-- Answers to the open goals of `dip_of`.
 use Rattle.std.proofs.Common.{refl, rules, w64}
 use Rattle.std.proofs.lemmas.Int.{to_z-of_z}
 use Rattle.farm_http.specs.Requests.{dip_of}

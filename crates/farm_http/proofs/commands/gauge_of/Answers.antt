@@ -1,3 +1,4 @@
+-- Answers to the open goals of `gauge_of`.
 use Rattle.std.proofs.Common.{refl, rules, w64}
 use Rattle.std.proofs.lemmas.Int.{to_z-of_z}
 use Rattle.farm_http.specs.Requests.{gauge_of}

@@ -1,3 +1,4 @@
+-- Answers to the open goals of `transfer_of`.
 use Rattle.std.proofs.Common.{refl}
 use Rattle.farm_http.specs.Requests.{transfer_of}
 use Rattle.farm_http.proofs.commands.transfer_of.Goals as goal

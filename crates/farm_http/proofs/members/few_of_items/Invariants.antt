@@ -1,3 +1,4 @@
+-- The invariants of the loops of `few_of_items`.
 use Rattle.std.proofs.Common.{map}
 use Rattle.serde_json.specs.View.{view}
 use Rattle.farm_http.proofs.ShortLists.{IsFilled}

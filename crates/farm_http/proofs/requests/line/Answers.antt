@@ -1,3 +1,4 @@
+-- Answers to the open goals of `line`.
 use Rattle.serde_json.specs.View.{view}
 use Rattle.farm_http.proofs.Lines.{line_asks, line_is_bad, value_is}
 use Rattle.farm_http.proofs.requests.line.Goals as goal

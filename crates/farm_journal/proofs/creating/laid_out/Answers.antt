@@ -1,3 +1,4 @@
+-- Answers to the open goals of `laid_out`.
 use Rattle.farm_journal.proofs.Measured.{gives_none, is_opening, safe_from, was_empty}
 use Rattle.farm_journal.proofs.creating.laid_out.Goals as goal
 

@@ -1,3 +1,4 @@
+-- Answers to the open goals of `lay_out`.
 use Rattle.std.proofs.Common.{refl}
 use Rattle.farm_journal.proofs.LaidOut.{extends_three, three_rests, three_safe, two_safe}
 use Rattle.farm_journal.proofs.MakingSteps.{extends_of, first_each, on_ok}

@@ -1,3 +1,4 @@
+-- Answers to the open goals of `opening_of`.
 use Rattle.std.proofs.Common.{◌++◌, [], ◌∷◌, ap, ◌∙◌}
 use Rattle.farm_journal.specs.Layout.{counted, opening, signature}
 use Rattle.farm_journal.proofs.creating.opening_of.Goals as goal

@@ -1,3 +1,4 @@
+-- Answers to the open goals of `journal_laws`.
 use Rattle.farm_journal.proofs.Gates.{stands_on_each}
 use Rattle.farm_journal.proofs.OneReading.{one_damage, one_reading, whole_is_not_refused}
 use Rattle.farm_journal.proofs.laws.journal_laws.Goals as goal

@@ -1,3 +1,4 @@
+-- Answers to the open goals of `lay_record`.
 use Rattle.std.proofs.Common.{◌≡◌, ℕ, ◌+◌, ◌-◌, ◌<◌, ◌≤◌, List, [], ◌∷◌, ◌++◌, length, take, drop, get_or, refl, sym, ap, ◌∙◌, arith, slice_set, append_assoc}
 use Rattle.std.proofs.lemmas.List.{drop_more, length_push, set_at, take_at}
 use Rattle.std.specs.Int.{to_be_bytes, w32}

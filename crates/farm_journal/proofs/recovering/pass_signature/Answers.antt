@@ -1,3 +1,4 @@
+-- Answers to the open goals of `pass_signature`.
 use Rattle.std.proofs.Common.{◌≡◌, ◌≤◌, length, true, false, nat_eq, sym, ap, ◌∙◌, subst}
 use Rattle.std.specs.List.{starts_with}
 use Rattle.farm_base.specs.Known.{WhereKnown}

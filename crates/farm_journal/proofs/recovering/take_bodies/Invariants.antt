@@ -1,6 +1,7 @@
+-- The invariants of the loops of `take_bodies`.
 use Rattle.std.proofs.Common.{◌≡◌, ◌+◌, ◌-◌, ◌≤◌, length}
 use Rattle.farm_base.specs.Known.{Stays}
-use Rattle.farm_journal.specs.Reading.{HasTaken}
+use Rattle.farm_journal.specs.Progress.{HasTaken}
 use Rattle.farm_journal.specs.Windows.{Shows}
 use Rattle.farm_journal.specs.declared.limits.TheConstants.{MAX_BODIES}
 use Rattle.farm_journal.proofs.recovering.take_bodies.Given as goal

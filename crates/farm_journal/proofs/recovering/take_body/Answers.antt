@@ -1,10 +1,12 @@
+-- Answers to the open goals of `take_body`.
 use Rattle.std.proofs.Common.{◌≡◌, ◌+◌, [], ◌∷◌, ap, sym, ◌∙◌, subst, arith, rules, Err}
 use Rattle.std.specs.Prelude.{IfErr}
 use Rattle.farm_base.specs.Known.{Stays}
-use Rattle.farm_journal.specs.Reading.{HasTaken, IsDamageOr, IsGate, IsRefusedWith}
+use Rattle.farm_journal.specs.Progress.{HasTaken, IsDamageOr, IsGate, IsRefusedWith}
 use Rattle.farm_journal.specs.Recovery.{IsJudged, IsWhole, TakesNext}
 use Rattle.farm_journal.specs.Windows.{BeginsWith, WhereLeft}
-use Rattle.farm_journal.proofs.Known.{known_still, stays_then}
+use Rattle.farm_base.proofs.Known.{stays_then}
+use Rattle.farm_journal.proofs.Known.{known_still}
 use Rattle.farm_journal.proofs.Records.{counting_within}
 use Rattle.farm_journal.proofs.Refusing.{gave_up, refused_cut, refused_no_gate}
 use Rattle.farm_journal.proofs.Taking.{ahead_of, given_is, taken_still, went_on}

@@ -1,6 +1,7 @@
+-- Answers to the open goals of `take_header`.
 use Rattle.std.proofs.Common.{◌≡◌, ◌+◌, [], take, drop, ap, sym, ◌∙◌, subst, rules, Err}
 use Rattle.std.specs.Prelude.{IfErr, OnOk}
-use Rattle.farm_journal.specs.Reading.{HasTaken, IsDamageOr, IsRefusedWith}
+use Rattle.farm_journal.specs.Progress.{HasTaken, IsDamageOr, IsRefusedWith}
 use Rattle.farm_journal.specs.Recovery.{IsJudged, IsWhole, TakesNext}
 use Rattle.farm_journal.specs.Windows.{BeginsWith, WhereLeft}
 use Rattle.farm_journal.proofs.Known.{known_still}

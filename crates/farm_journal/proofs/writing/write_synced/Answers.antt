@@ -1,3 +1,4 @@
+-- Answers to the open goals of `write_synced`.
 use Rattle.std.proofs.Common.{refl}
 use Rattle.farm_journal.proofs.Steps.{both_done, sync_failed, write_failed}
 use Rattle.farm_journal.proofs.writing.write_synced.Goals as goal

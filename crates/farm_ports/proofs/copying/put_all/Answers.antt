@@ -1,3 +1,4 @@
+-- Answers to the open goals of `put_all`.
 use Rattle.std.proofs.Common.{◌≤◌, ◌-◌, length, drop, take, arith, length-take, ◌∙◌}
 use Rattle.farm_ports.proofs.Parts.{adds_on}
 use Rattle.farm_ports.proofs.copying.put_all.Goals as goal

@@ -1,3 +1,4 @@
+-- The invariants of the loops of `put_all`.
 use Rattle.std.proofs.Common.{◌≡◌, ◌≤◌, ◌-◌, length, take}
 use Rattle.farm_base.specs.Known.{Adds}
 use Rattle.farm_ports.proofs.copying.put_all.Given as goal

@@ -1,3 +1,4 @@
+-- Answers to the open goals of `read_up_to`.
 use Rattle.std.proofs.Common.{◌++◌}
 use Rattle.farm_base.proofs.Additions.{takings_add_up}
 use Rattle.farm_ports.proofs.Parts.{on_err}

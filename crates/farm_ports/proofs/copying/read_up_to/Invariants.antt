@@ -1,3 +1,4 @@
+-- The invariants of the loops of `read_up_to`.
 use Rattle.std.proofs.Common.{◌≡◌, ◌≤◌, ◌-◌, vec_len, length}
 use Rattle.farm_base.specs.Known.{Takes}
 use Rattle.farm_ports.proofs.copying.read_up_to.Given as goal

@@ -1,3 +1,4 @@
+-- The invariants of the loops of `file_named`.
 use Rattle.std.proofs.Common.{◌≡◌, drop}
 use Rattle.farm_ports.specs.Folders.{file_named, files_of}
 use Rattle.farm_ports.proofs.files.file_named.Given as goal

@@ -1,3 +1,4 @@
+-- Answers to the open goals of `link_laws`.
 use Rattle.farm_ports.proofs.LinkCalls.{calls_add_up, no_call_adds_none}
 use Rattle.farm_ports.proofs.links.link_laws.Goals as goal
 

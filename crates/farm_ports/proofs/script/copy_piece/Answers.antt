@@ -1,3 +1,4 @@
+-- Answers to the open goals of `copy_piece`.
 use Rattle.std.proofs.Common.{arith, rules}
 use Rattle.std.proofs.lemmas.Grind.{common_steps}
 use Rattle.farm_ports.proofs.Copies.{copy_takes}

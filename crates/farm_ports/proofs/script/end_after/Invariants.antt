@@ -1,3 +1,4 @@
+-- The invariants of the loops of `end_after`.
 use Rattle.std.proofs.Common.{◌≡◌, drop}
 use Rattle.farm_ports.specs.Pieces.{end_after}
 use Rattle.farm_ports.proofs.script.end_after.Given as goal

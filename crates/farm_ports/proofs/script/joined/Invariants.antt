@@ -1,3 +1,4 @@
+-- The invariants of the loops of `joined`.
 use Rattle.std.proofs.Common.{◌≡◌, ◌++◌, length, take, drop, flat_map}
 use Rattle.farm_ports.specs.Pieces.{ends_from}
 use Rattle.farm_ports.proofs.script.joined.Given as goal

@@ -1,7 +1,9 @@
+-- Answers to the open goals of `mean_of_three`.
 use Rattle.std.proofs.Common.{rules, IsTrue, ℤ, pos, ◌+ℤ◌, sym, subst}
 use Rattle.std.specs.Int.{w128}
 use Rattle.std.proofs.lemmas.Int.{to_z-of_z}
 use Rattle.farm_fixed.specs.Range.{IsWithin}
+use Rattle.farm_fixed.specs.declared.limits.TheConstants.{MOST_HEIGHT}
 use Rattle.farm_rounding.specs.Multiple.{IsNearest, is_step}
 use Rattle.farm_rounding.specs.Table.{Row, row_at}
 use Rattle.farm_rounding.specs.declared.table.TheConstants.{TAPE_MEAN}
@@ -14,7 +16,7 @@ height-requires c =
     let total : ℤ = c.args.first +ℤ c.args.second +ℤ c.args.third in
     let meaning : IsNearest row.1 total 3 row.0 c.nearest.result = search rules in
     let allowed : IsTrue (is_step row.0) = search rules in
-    let P : ℤ → Type 0 = λ x. IsWithin (pos 0) (pos 50000) x in
+    let P : ℤ → Type 0 = λ x. IsWithin (pos 0) MOST_HEIGHT x in
     let first : P c.args.first = subst P c.get.ensures.value c.get.ensures.range in
     let second : P c.args.second = subst P c.get-2.ensures.value c.get-2.ensures.range in
     let third : P c.args.third = subst P c.get-3.ensures.value c.get-3.ensures.range in

@@ -1,3 +1,4 @@
+-- Answers to the open goals of `rounded_mean`.
 use Rattle.std.proofs.Common.{rules, ℤ, pos, negsuc, sym, subst}
 use Rattle.std.specs.Int.{w128}
 use Rattle.std.specs.Int.RustNames.{unsigned_abs}

@@ -1,3 +1,4 @@
+-- The invariants of the loops of `total`.
 use Rattle.std.proofs.Common.{◌≡◌, ◌*◌, drop, pos, ◌+ℤ◌, ◌≤ℤ◌}
 use Rattle.farm_readings.specs.Readings.{total}
 use Rattle.farm_readings.proofs.temperatures.total.Given as goal

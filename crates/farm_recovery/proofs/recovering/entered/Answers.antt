@@ -1,5 +1,6 @@
+-- Answers to the open goals of `entered`.
 use Rattle.std.proofs.Common.{◌∙◌, Err, ap, arith}
-use Rattle.site_reading.specs.Readers.{IsBytes}
+use Rattle.site_decoding.specs.Readers.{IsBytes}
 use Rattle.farm_site.proofs.BytesRead.{PartsAreRead}
 use Rattle.farm_recovery.proofs.Acceptance.{next_is_accepted}
 use Rattle.farm_recovery.proofs.Judging.{entered_recordable, next_refused, room_left, taken_more}
@@ -7,7 +8,7 @@ use Rattle.farm_recovery.proofs.recovering.entered.Goals as goal
 
 pub returns-in-Ok-clause-judged : goal.returns-in-Ok-clause-judged
 returns-in-Ok-clause-judged g c =
-    let all = c.reading_laws.ensures in
+    let all = c.decoding_laws.ensures in
     let laws : PartsAreRead = record { heads = all.heads; products = all.products; parties = all.parties; tanks = all.tanks; lines = all.lines } in
     next_is_accepted laws g.row.LIMIT c.args.book.now.history c.args.bytes.now c.requires.recordable c.in-Ok.ensures.entered.is_next
 
@@ -26,7 +27,7 @@ returns-in-Ok-clause-room g c = λ went.
 
 pub returns-in-Err-NotNext-clause-judged : goal.returns-in-Err-NotNext-clause-judged
 returns-in-Err-NotNext-clause-judged g c =
-    let all = c.reading_laws.ensures in
+    let all = c.decoding_laws.ensures in
     let laws : PartsAreRead = record { heads = all.heads; products = all.products; parties = all.parties; tanks = all.tanks; lines = all.lines } in
     let fits : IsBytes c.args.bytes.now = λ i. omega (arith, c.type_inv.bytes i) in
     next_refused laws g.row.LIMIT c.args.book.now.history c.args.bytes.now fits c.requires.recordable

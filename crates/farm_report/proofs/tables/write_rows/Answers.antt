@@ -1,5 +1,7 @@
+-- Answers to the open goals of `write_rows`.
 use Rattle.std.proofs.Common.{rules, pos}
-use Rattle.farm_report.proofs.Rows.{begins_before, one_row_more}
+use Rattle.text_pieces.proofs.Lengths.{begins_before}
+use Rattle.farm_report.proofs.Rows.{one_row_more}
 use Rattle.farm_report.proofs.tables.write_rows.Goals as goal
 
 pub returns-in_err-write_row : goal.returns-in_err-write_row

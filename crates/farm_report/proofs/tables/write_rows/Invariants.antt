@@ -1,3 +1,4 @@
+-- The invariants of the loops of `write_rows`.
 use Rattle.std.proofs.Common.{◌≡◌, ◌++◌, take}
 use Rattle.farm_report.specs.Issued.{rows_from}
 use Rattle.farm_report.proofs.tables.write_rows.Given as goal

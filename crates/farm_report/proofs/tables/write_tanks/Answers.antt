@@ -1,5 +1,6 @@
+-- Answers to the open goals of `write_tanks`.
 use Rattle.std.proofs.Common.{rules}
-use Rattle.farm_report.proofs.Rows.{begins_before}
+use Rattle.text_pieces.proofs.Lengths.{begins_before}
 use Rattle.farm_report.proofs.tables.write_tanks.Goals as goal
 
 pub returns-in_err-write_tank : goal.returns-in_err-write_tank

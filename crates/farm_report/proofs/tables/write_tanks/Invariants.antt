@@ -1,3 +1,4 @@
+-- The invariants of the loops of `write_tanks`.
 use Rattle.std.proofs.Common.{◌≡◌, ◌++◌, take}
 use Rattle.farm_report.specs.Issued.{issued_text}
 use Rattle.farm_report.proofs.tables.write_tanks.Given as goal

@@ -1,3 +1,4 @@
+-- Answers to the open goals of `product`.
 use Rattle.std.proofs.Common.{ℤ, pos, ◌≤ℤ◌, subst, sym, rules}
 use Rattle.farm_rounding.proofs.Products.{positive_product, product_size}
 use Rattle.farm_rounding.proofs.arithmetic.product.Goals as goal

@@ -1,3 +1,4 @@
+-- Answers to the open goals of `nearest`.
 use Rattle.std.proofs.Common.{◌≡◌, ℕ, ◌+◌, ◌*◌, ◌/◌, ◌^◌, ◌<◌, ◌≤◌, ap, subst, sym, ◌∙◌, ℤ, pos, negsuc, ◌≤ℤ◌, to_z, of_z, arith, rules}
 use Rattle.std.proofs.Math.Nat.{mul-le-mul_left}
 use Rattle.std.proofs.lemmas.Int.{ints, to_z-of_z}

@@ -1,5 +1,6 @@
+-- Answers to the open goals of `ask_lines`.
 use Rattle.std.proofs.Common.{◌≡◌, ap, false}
-use Rattle.batch_lines.specs.Reader.{count_of}
+use Rattle.farm_base.specs.Counts.{count_of}
 use Rattle.farm_run.specs.Disks.{IsLater}
 use Rattle.farm_run.proofs.BatchEnds.{batch_ended, on_err_all}
 use Rattle.farm_run.proofs.DisksLeft.{later_more, leaves}

@@ -1,5 +1,6 @@
+-- Answers to the open goals of `batch`.
 use Rattle.std.proofs.Common.{inl}
-use Rattle.batch_lines.specs.Reader.{count_of}
+use Rattle.farm_base.specs.Counts.{count_of}
 use Rattle.farm_run.specs.Disks.{IsLater}
 use Rattle.farm_run.proofs.DisksLeft.{handed_back, later_more}
 use Rattle.farm_run.proofs.NoDesks.{not_asked, not_recovered}

@@ -1,3 +1,4 @@
+-- Answers to the open goals of `init`.
 use Rattle.std.proofs.Common.{ℕ, inl, ap, refl, Some, Err, arith}
 use Rattle.std.specs.declared.alloc.Global.{Global}
 use Rattle.std.specs.Prelude.{Vec}

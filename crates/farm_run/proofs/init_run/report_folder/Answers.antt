@@ -1,3 +1,4 @@
+-- Answers to the open goals of `report_folder`.
 use Rattle.std.proofs.Common.{rules}
 use Rattle.farm_run.proofs.InitRuns.{folder_and_disk_failed, folder_failed, folder_failed_on_bytes, has_none, has_some}
 use Rattle.farm_run.proofs.init_run.report_folder.Goals.{in-Ok-eq0, in-Ok, in-Err}

@@ -1,3 +1,4 @@
+-- Answers to the open goals of `answer_input`.
 use Rattle.std.proofs.Common.{ℕ, ap, Some, Err, arith}
 use Rattle.std.specs.declared.alloc.Global.{Global}
 use Rattle.std.specs.Prelude.{Vec}

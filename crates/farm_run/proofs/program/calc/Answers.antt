@@ -1,3 +1,4 @@
+-- Answers to the open goals of `calc`.
 use Rattle.std.proofs.Common.{ap, Err, arith}
 use Rattle.farm_run.specs.Answers.{calc_of}
 use Rattle.farm_run.specs.Texts.{refusal_text}

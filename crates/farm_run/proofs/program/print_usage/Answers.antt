@@ -1,3 +1,4 @@
+-- Answers to the open goals of `print_usage`.
 use Rattle.farm_run.specs.Texts.{usage_line}
 use Rattle.farm_run.proofs.Printing.{says_last}
 use Rattle.farm_run.proofs.program.print_usage.Goals as goal

@@ -1,3 +1,4 @@
+-- Answers to the open goals of `table`.
 use Rattle.std.proofs.Common.{ℕ, inl, inr, ap, refl, Some, Ok, Err, arith}
 use Rattle.std.specs.declared.alloc.Global.{Global}
 use Rattle.std.specs.Prelude.{Vec}

@@ -1,3 +1,4 @@
+-- Answers to the open goals of `deliver`.
 use Rattle.std.proofs.Common.{[], ◌∷◌, inr, arith}
 use Rattle.farm_run.specs.Texts.{no_memory, port_fault}
 use Rattle.farm_run.proofs.Printing.{says_after_fault}

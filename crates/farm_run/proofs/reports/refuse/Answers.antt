@@ -1,3 +1,4 @@
+-- Answers to the open goals of `refuse`.
 use Rattle.farm_run.proofs.Runs.{refused_said}
 use Rattle.farm_run.proofs.reports.refuse.Goals as goal
 

@@ -1,3 +1,4 @@
+-- Answers to the open goals of `report_no_memory`.
 use Rattle.std.proofs.Common.{inl, [], arith}
 use Rattle.farm_run.specs.Texts.{no_memory, port_fault}
 use Rattle.farm_run.proofs.Printing.{says_after_fault, after_a_text}

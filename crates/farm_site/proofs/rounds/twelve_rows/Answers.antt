@@ -1,3 +1,4 @@
+-- Answers to the open goals of `twelve_rows`.
 use Rattle.std.proofs.Common.{◌≡◌, ◌+◌, ◌<◌, length, Ok, ◌∙◌, arith}
 use Rattle.std.proofs.lemmas.List.{length-set}
 use Rattle.toml.specs.View.{view}

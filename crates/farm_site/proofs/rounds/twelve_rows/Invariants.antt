@@ -1,3 +1,4 @@
+-- The invariants of the loops of `twelve_rows`.
 use Rattle.std.proofs.Common.{◌≡◌, [], drop, take, map, length, None}
 use Rattle.toml.specs.View.{view}
 use Rattle.farm_rounding.specs.Table.{first_bad_row}

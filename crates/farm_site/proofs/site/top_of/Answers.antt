@@ -1,3 +1,4 @@
+-- Answers to the open goals of `top_of`.
 use Rattle.std.proofs.Common.{◌≡◌, ap, Result, Ok, Err, codes, rules}
 use Rattle.toml.specs.View.{view}
 use Rattle.farm_base.specs.Steps.{◌>>=◌}

@@ -1,3 +1,4 @@
+-- Answers to the open goals of `add`.
 use Rattle.farm_stock.proofs.Places.{raised_fits, written_back}
 use Rattle.farm_stock.proofs.book.add.Goals as goal
 

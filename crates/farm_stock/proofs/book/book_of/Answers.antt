@@ -1,3 +1,4 @@
+-- Answers to the open goals of `book_of`.
 use Rattle.std.proofs.Common.{sym}
 use Rattle.farm_stock.proofs.Places.{book_at_place}
 use Rattle.farm_stock.proofs.book.book_of.Goals as goal

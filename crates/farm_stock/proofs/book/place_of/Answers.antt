@@ -1,3 +1,4 @@
+-- Answers to the open goals of `place_of`.
 use Rattle.std.proofs.Common.{arith}
 use Rattle.farm_stock.proofs.Places.{no_book}
 use Rattle.farm_stock.proofs.book.place_of.Goals as goal

@@ -1,3 +1,4 @@
+-- The invariants of the loops of `place_of`.
 use Rattle.std.proofs.Common.{◌≢◌, ℕ, ◌<◌, get_or}
 use Rattle.farm_stock.specs.declared.book.Book.{Book}
 use Rattle.farm_stock.proofs.book.place_of.Given as goal

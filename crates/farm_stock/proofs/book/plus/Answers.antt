@@ -1,3 +1,4 @@
+-- Answers to the open goals of `plus`.
 use Rattle.std.proofs.Common.{arith}
 use Rattle.std.proofs.lemmas.Int.{ints}
 use Rattle.farm_stock.proofs.Amounts.{same_amount}

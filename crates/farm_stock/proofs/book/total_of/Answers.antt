@@ -1,3 +1,4 @@
+-- Answers to the open goals of `total_of`.
 use Rattle.std.proofs.Common.{ap}
 use Rattle.farm_stock.proofs.Amounts.{total_more, within_more}
 use Rattle.farm_stock.proofs.book.total_of.Goals as goal

@@ -1,3 +1,4 @@
+-- The invariants of the loops of `total_of`.
 use Rattle.std.proofs.Common.{◌≡◌, ◌≤◌, ◌+◌, ◌^◌, drop}
 use Rattle.std.specs.Int.RustNames.{unsigned_abs}
 use Rattle.farm_stock.specs.Books.{plus, total_of}

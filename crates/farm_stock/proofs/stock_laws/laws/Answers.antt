@@ -1,3 +1,4 @@
+-- Answers to the open goals of `laws`.
 use Rattle.farm_stock.proofs.AddUp.{books_add_up, totals_add_up}
 use Rattle.farm_stock.proofs.stock_laws.laws.Goals as goal
 

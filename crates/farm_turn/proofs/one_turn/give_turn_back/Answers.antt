@@ -1,3 +1,4 @@
+-- Answers to the open goals of `give_turn_back`.
 use Rattle.std.proofs.Common.{rules, arith}
 use Rattle.farm_turn.specs.Chronicles.{features}
 use Rattle.farm_turn.specs.Sharing.{only}

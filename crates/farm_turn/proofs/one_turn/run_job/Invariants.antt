@@ -1,3 +1,4 @@
+-- The invariants of the loops of `run_job`.
 use Rattle.std.proofs.Common.{◌-◌}
 use Rattle.farm_turn.specs.Sharing.{only}
 use Rattle.farm_turn.proofs.one_turn.run_job.Given as goal

@@ -1,3 +1,4 @@
+-- Answers to the open goals of `take_turn`.
 use Rattle.std.proofs.Common.{arith}
 use Rattle.farm_turn.specs.Chronicles.{features}
 use Rattle.farm_turn.specs.Sharing.{only}

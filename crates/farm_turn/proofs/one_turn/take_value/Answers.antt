@@ -1,3 +1,4 @@
+-- Answers to the open goals of `take_value`.
 use Rattle.std.proofs.Common.{◌≡◌, ℕ, List, [], ◌∷◌, ◌∙◌, ap, sym, Some}
 use Rattle.atomic_table.specs.Table.{rest}
 use Rattle.farm_turn.proofs.one_turn.take_value.Goals as goal

@@ -1,3 +1,4 @@
+-- The invariants of the loops of `wait_for_turn`.
 use Rattle.std.proofs.Common.{◌≡◌, Some}
 use Rattle.farm_turn.proofs.one_turn.wait_for_turn.Given as goal
 

@@ -1,3 +1,4 @@
+-- Answers to the open goals of `joined_seat`.
 use Rattle.std.proofs.Common.{◌≡◌, ◌∷◌, ap, false, Some, arith}
 use Rattle.std.proofs.lemmas.List.Elements.{All-cons, All-pop}
 use Rattle.farm_turn.specs.Chronicles.{features}

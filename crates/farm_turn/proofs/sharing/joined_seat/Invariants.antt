@@ -1,3 +1,4 @@
+-- The invariants of the loops of `joined_seat`.
 use Rattle.std.proofs.Common.{◌≡◌, List, [], ◌++◌, length, false}
 use Rattle.std.specs.Prelude.{All}
 use Rattle.farm_turn.specs.Views.{PassView, together}

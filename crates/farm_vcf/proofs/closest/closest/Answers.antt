@@ -1,3 +1,4 @@
+-- Answers to the open goals of `closest`.
 use Rattle.farm_vcf.proofs.Searching.{searched_above, searched_below, searched_first}
 use Rattle.std.proofs.Common.{◌∙◌, sym}
 use Rattle.farm_vcf.proofs.closest.closest.Goals as goal

@@ -1,3 +1,4 @@
+-- Answers to the open goals of `first_not_below`.
 use Rattle.std.proofs.Common.{rules, of_calls}
 use Rattle.std.proofs.lemmas.List.Sorted.{IsPartitionPoint-from_clause}
 use Rattle.std.specs.Int.RustNames.{int_lt}

@@ -1,3 +1,4 @@
+-- The invariants of the loops of `rises`.
 use Rattle.std.proofs.Common.{ℕ, ◌+◌, ◌<◌, ◌<ℤ◌}
 use Rattle.farm_vcf.specs.Closest.{listed_at}
 use Rattle.farm_vcf.proofs.closest.rises.Given as goal

@@ -1,3 +1,4 @@
+-- Answers to the open goals of `row_of`.
 use Rattle.std.proofs.Common.{◌≡◌, ◌∙◌, length, sym, arith}
 use Rattle.csv.specs.Records.{fields_of}
 use Rattle.farm_vcf.proofs.Fields.{field_there, not_three, three_fields}
@@ -23,7 +24,7 @@ returns-in_err-factor c =
 
 pub returns : goal.returns
 returns c =
-    c.row_of_fields.ensures ∙ sym (three_fields (fields_of c.args.fields.now) c.in_ok-density.density.now c.in_ok-temperature.temperature.now c.in_ok-factor.factor.now
+    c.row_of_fields.ensures.row_of_fields ∙ sym (three_fields (fields_of c.args.fields.now) c.in_ok-density.density.now c.in_ok-temperature.temperature.now c.in_ok-factor.factor.now
     (sym c.len.ensures ∙ c.if-len-ne3.false)
     (rw c.in_ok-density.was at c.get.ensures.value)
     (rw c.in_ok-temperature.was at c.get-2.ensures.value)

@@ -1,3 +1,4 @@
+-- Answers to the open goals of `vcf_of`.
 use Rattle.farm_vcf.proofs.Fields.{vcf_of_fault, vcf_of_rows}
 use Rattle.farm_vcf.proofs.records.vcf_of.Goals as goal
 

@@ -1,3 +1,4 @@
+-- The invariants of the loops of `grid_from`.
 use Rattle.std.proofs.Common.{◌≡◌, ◌+◌, ◌∷◌, drop, length}
 use Rattle.farm_vcf.specs.GrowingRows.{grown_on}
 use Rattle.farm_vcf.specs.Rows.{grid_of_rows}

@@ -1,3 +1,4 @@
+-- Answers to the open goals of `grid_of_rows`.
 use Rattle.farm_vcf.proofs.Blocks.{no_rows, some_rows}
 use Rattle.farm_vcf.proofs.Meanings.{answer_of_rows}
 use Rattle.farm_vcf.proofs.rows.grid_of_rows.Goals as goal

@@ -1,6 +1,6 @@
 -- What the bytes are is the definition's answer, which means what the rule says and stays when bytes follow.
 use Rattle.std.proofs.Common.{◌≡◌, ◌∙◌, sym, refl, arith}
-use Rattle.modbus_frame.specs.Reading.{frame_answer}
+use Rattle.modbus_frame.specs.Fields.{frame_answer}
 use Rattle.modbus_frame.proofs.Meaning.{frame_means}
 use Rattle.modbus_frame.proofs.Stays.{frame_stays}
 use Rattle.modbus_frame.proofs.response.read_response.Goals as goal

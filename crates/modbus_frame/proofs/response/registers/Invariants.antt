@@ -1,5 +1,6 @@
+-- The invariants of the loops of `registers`.
 use Rattle.std.proofs.Common.{◌≡◌, ◌-◌, ◌++◌, replicate}
-use Rattle.modbus_frame.specs.Reading.{words_of}
+use Rattle.modbus_frame.specs.Fields.{words_of}
 use Rattle.modbus_frame.proofs.response.registers.Given as goal
 
 abbrev pub invariant-loop-i : goal.invariant-loop-i

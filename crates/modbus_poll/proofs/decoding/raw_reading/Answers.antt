@@ -1,3 +1,4 @@
+-- Answers to the open goals of `raw_reading`.
 use Rattle.modbus_poll.proofs.Gauges.{gauge_is}
 use Rattle.modbus_poll.proofs.decoding.raw_reading.Goals as goal
 

@@ -1,3 +1,4 @@
+-- Answers to the open goals of `valued`.
 use Rattle.modbus_poll.proofs.Gauges.{gauge_is}
 use Rattle.modbus_poll.proofs.polled.valued.Goals as goal
 

@@ -1,3 +1,4 @@
+-- Answers to the open goals of `receive`.
 use Rattle.std.proofs.Common.{◌∙◌, refl, sym, arith, take, length-take, lit≤}
 use Rattle.modbus_poll.proofs.ComePieces.{has_come_more, none_has_come}
 use Rattle.modbus_poll.proofs.Needs.{needs_few}

@@ -1,3 +1,4 @@
+-- The invariants of the loops of `receive`.
 use Rattle.std.proofs.Common.{◌≡◌, ◌≤◌, ◌-◌, take}
 use Rattle.modbus_poll.proofs.ComePieces.{HasCome}
 use Rattle.modbus_poll.proofs.receiving.receive.Given as goal

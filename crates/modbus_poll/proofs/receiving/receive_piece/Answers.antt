@@ -1,3 +1,4 @@
+-- Answers to the open goals of `receive_piece`.
 use Rattle.std.proofs.Common.{arith}
 use Rattle.modbus_poll.proofs.ComePieces.{takes_piece}
 use Rattle.modbus_poll.proofs.receiving.receive_piece.Goals as goal

@@ -1,3 +1,4 @@
+-- Answers to the open goals of `send_whole`.
 use Rattle.std.proofs.Common.{◌≤◌, ◌-◌, length, drop, take, arith, length-take, length-drop, ◌∙◌}
 use Rattle.modbus_poll.proofs.SentPieces.{has_sent_more}
 use Rattle.modbus_poll.proofs.sending.send_whole.Goals as goal

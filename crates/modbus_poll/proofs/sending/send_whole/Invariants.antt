@@ -1,3 +1,4 @@
+-- The invariants of the loops of `send_whole`.
 use Rattle.std.proofs.Common.{◌≡◌, ◌≤◌, ◌-◌, length, take}
 use Rattle.modbus_poll.proofs.SentPieces.{HasSent}
 use Rattle.modbus_poll.proofs.sending.send_whole.Given as goal

@@ -1,3 +1,4 @@
+-- Answers to the open goals of `append_all`.
 use Rattle.std.proofs.Common.{◌≡◌, ℕ, ◌+◌, List, [], ◌∷◌, ◌∙◌, length, inl, inr, ap, arith, length-append, length-drop}
 use Rattle.farm_turn.specs.Chronicles.{GrowsBy, since}
 use Rattle.shared_log.proofs.callers.append_all.Goals as goal

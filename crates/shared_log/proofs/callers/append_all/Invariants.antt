@@ -1,3 +1,4 @@
+-- The invariants of the loops of `append_all`.
 use Rattle.std.proofs.Common.{◌≡◌, ◌+◌, length}
 use Rattle.farm_turn.specs.Views.{numbers_of}
 use Rattle.shared_log.proofs.callers.append_all.Given as goal

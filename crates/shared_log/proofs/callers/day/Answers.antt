@@ -1,3 +1,4 @@
+-- Answers to the open goals of `day`.
 use Rattle.std.proofs.Common.{◌∙◌, ap, sym, length}
 use Rattle.std.specs.Prelude.{sum_by}
 use Rattle.farm_turn.specs.Views.{numbers_of}

@@ -1,3 +1,4 @@
+-- The invariants of the loops of `enrolled_passes`.
 use Rattle.std.proofs.Common.{◌≡◌, ◌+◌, ◌≤◌, None}
 use Rattle.std.specs.Prelude.{All, sum_by}
 use Rattle.farm_turn.specs.Views.{left_of, numbers_of}

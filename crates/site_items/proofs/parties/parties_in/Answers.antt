@@ -1,3 +1,4 @@
+-- Answers to the open goals of `parties_in`.
 use Rattle.std.proofs.Common.{refl, arith}
 use Rattle.site_items.specs.Parties.{is_party, party_number, party_of}
 use Rattle.site_keys.proofs.PlacedFacts.{numbered_more, placed_length, placed_numbered}

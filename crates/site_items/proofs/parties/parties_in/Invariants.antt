@@ -1,3 +1,4 @@
+-- The invariants of the loops of `parties_in`.
 use Rattle.std.proofs.Common.{◌≡◌, ◌+◌, true, [], drop, length, map}
 use Rattle.toml.specs.View.{view}
 use Rattle.site_keys.specs.Lists.{are_numbered, numbered_from}

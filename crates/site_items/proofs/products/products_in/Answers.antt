@@ -1,6 +1,8 @@
+-- Answers to the open goals of `products_in`.
 use Rattle.std.proofs.Common.{refl, arith}
 use Rattle.site_items.specs.Products.{is_product, product_number, product_of}
-use Rattle.site_keys.proofs.Kept.{known_before, stays_then}
+use Rattle.farm_base.proofs.Known.{stays_then}
+use Rattle.site_keys.proofs.Kept.{known_before}
 use Rattle.site_keys.proofs.PlacedFacts.{numbered_more, placed_length, placed_numbered}
 use Rattle.site_items.proofs.products.products_in.Goals as goal
 

@@ -1,3 +1,4 @@
+-- The invariants of the loops of `products_in`.
 use Rattle.std.proofs.Common.{◌≡◌, ◌+◌, true, List, [], Some, drop, length, map}
 use Rattle.toml.specs.View.{view}
 use Rattle.farm_base.specs.Known.{Stays}

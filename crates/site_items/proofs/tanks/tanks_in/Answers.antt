@@ -1,7 +1,9 @@
+-- Answers to the open goals of `tanks_in`.
 use Rattle.std.proofs.Common.{map, refl, arith}
 use Rattle.site_items.specs.Products.{product_number}
 use Rattle.site_items.specs.Tanks.{is_tank, tank_number, tank_of}
-use Rattle.site_keys.proofs.Kept.{known_before, stays_then}
+use Rattle.farm_base.proofs.Known.{stays_then}
+use Rattle.site_keys.proofs.Kept.{known_before}
 use Rattle.site_keys.proofs.PlacedFacts.{numbered_more, placed_length, placed_numbered}
 use Rattle.site_items.proofs.tanks.tanks_in.Goals as goal
 

@@ -1,3 +1,4 @@
+-- Answers to the open goals of `content`.
 use Rattle.std.proofs.Common.{arith}
 use Rattle.farm_ports.specs.Folders.{file_named}
 use Rattle.site_keys.proofs.Contents.{long_file, whole_file}

@@ -1,3 +1,4 @@
+-- Answers to the open goals of `toml_of`.
 use Rattle.std.proofs.Common.{◌≡◌, Bool, true, false, List, ℕ, None, Ok, ap, sym, refl}
 use Rattle.std.specs.Str.{is_utf8}
 use Rattle.std.proofs.lemmas.Str.{IsUtf8-from_is_utf8, is_utf8-from_IsUtf8}

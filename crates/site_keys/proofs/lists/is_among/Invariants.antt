@@ -1,3 +1,4 @@
+-- The invariants of the loops of `is_among`.
 use Rattle.std.proofs.Common.{◌≡◌, drop, map}
 use Rattle.site_keys.specs.Lists.{is_among}
 use Rattle.site_keys.proofs.lists.is_among.Given as goal

@@ -1,3 +1,4 @@
+-- The invariants of the loops of `item_numbered`.
 use Rattle.std.proofs.Common.{◌≡◌, drop, map}
 use Rattle.site_keys.specs.Lists.{is_among, item_numbered}
 use Rattle.site_keys.proofs.lists.item_numbered.Given as goal

@@ -1,3 +1,4 @@
+-- The invariants of the loops of `known`.
 use Rattle.std.proofs.Common.{◌≡◌, drop, map}
 use Rattle.site_keys.specs.Lists.{known}
 use Rattle.site_keys.proofs.lists.known.Given as goal

@@ -1,3 +1,4 @@
+-- The invariants of the loops of `place_of`.
 use Rattle.std.proofs.Common.{◌≡◌, ◌+◌, drop, map}
 use Rattle.site_keys.specs.Lists.{place_among}
 use Rattle.site_keys.proofs.lists.place_of.Given as goal

@@ -1,6 +1,7 @@
+-- The invariants of the loops of `lies_within`.
 use Rattle.std.proofs.Common.{◌≡◌, drop}
 use Rattle.std.specs.List.{list_all}
-use Rattle.modbus_poll.specs.Maps.{is_between}
+use Rattle.farm_fixed.specs.Range.{is_between}
 use Rattle.site_keys.proofs.texts.lies_within.Given as goal
 
 abbrev pub invariant-loop-byte : goal.invariant-loop-byte

@@ -1,3 +1,4 @@
+-- Answers to the open goals of `gauges_from`.
 use Rattle.std.proofs.Common.{◌≡◌, ◌++◌, ◌∷◌, [], Ok, map, rules, arith}
 use Rattle.toml.specs.View.{view}
 use Rattle.modbus_poll.specs.Maps.{is_gauge_map}

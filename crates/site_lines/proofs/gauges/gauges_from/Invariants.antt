@@ -1,3 +1,4 @@
+-- The invariants of the loops of `gauges_from`.
 use Rattle.std.proofs.Common.{◌≡◌, true, ◌++◌, [], drop, length, map}
 use Rattle.std.specs.List.{list_all}
 use Rattle.toml.specs.View.{view}

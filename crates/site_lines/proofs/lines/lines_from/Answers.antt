@@ -1,3 +1,4 @@
+-- Answers to the open goals of `lines_from`.
 use Rattle.std.proofs.Common.{◌≡◌, ◌+◌, ◌++◌, ◌∷◌, [], map, rules, arith}
 use Rattle.std.proofs.lemmas.List.{append_assoc}
 use Rattle.modbus_poll.specs.Maps.{is_line_map}

@@ -1,3 +1,4 @@
+-- The invariants of the loops of `deadwoods_at`.
 use Rattle.std.proofs.Common.{◌≡◌, [], drop, map}
 use Rattle.toml.specs.View.{view}
 use Rattle.site_keys.specs.Lists.{read_from}

@@ -1,3 +1,4 @@
+-- Answers to the open goals of `table_of_file`.
 use Rattle.std.proofs.Common.{◌∙◌, sym}
 use Rattle.std.proofs.lemmas.Result.{err_from_is_err_and}
 use Rattle.site_tables.proofs.Files.{file_of_fault, file_of_rows}

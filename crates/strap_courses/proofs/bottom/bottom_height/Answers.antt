@@ -1,3 +1,4 @@
+-- Answers to the open goals of `bottom_height`.
 use Rattle.std.proofs.Common.{sym, ap, ◌∙◌}
 use Rattle.std.specs.Int.RustNames.{unsigned_abs}
 use Rattle.strap_courses.specs.Courses.{Point}

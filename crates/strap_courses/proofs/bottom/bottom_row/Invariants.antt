@@ -1,3 +1,4 @@
+-- The invariants of the loops of `bottom_row`.
 use Rattle.std.proofs.Common.{◌≡◌, ◌-◌, drop}
 use Rattle.strap_courses.specs.Courses.{bottom_volume}
 use Rattle.strap_courses.proofs.bottom.bottom_row.Given as goal

@@ -1,3 +1,4 @@
+-- Answers to the open goals of `whole_bottom`.
 use Rattle.std.proofs.Common.{◌-◌, ◌^◌, length, ℤ, pos, w64, sym, ap, ◌∙◌, subst, arith, rules}
 use mir.Val.{SFits}
 use Rattle.std.proofs.lemmas.Int.{to_z-of_z}

@@ -1,3 +1,4 @@
+-- Answers to the open goals of `deadwood_parts`.
 use Rattle.std.proofs.Common.{◌≡◌, ◌+◌, ◌*◌, ◌≤◌, ◌^◌, drop, ℤ, ◌+ℤ◌, to_z, of_z, sym, subst, ap, ◌∙◌, arith, rules}
 use mir.Val.{SFits}
 use Rattle.std.specs.Int.{w128}

@@ -1,3 +1,4 @@
+-- The invariants of the loops of `deadwood_parts`.
 use Rattle.std.proofs.Common.{◌≡◌, ◌*◌, ◌≤◌, ◌^◌, drop, ◌+ℤ◌}
 use Rattle.std.specs.Int.RustNames.{unsigned_abs}
 use Rattle.strap_courses.specs.Rows.{deadwood_parts}

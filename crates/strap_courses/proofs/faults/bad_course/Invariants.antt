@@ -1,3 +1,4 @@
+-- The invariants of the loops of `bad_course`.
 use Rattle.std.proofs.Common.{◌≡◌, ◌+◌, drop}
 use Rattle.strap_courses.specs.Faults.{bad_course}
 use Rattle.strap_courses.proofs.faults.bad_course.Given as goal

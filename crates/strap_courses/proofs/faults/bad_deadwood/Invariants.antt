@@ -1,3 +1,4 @@
+-- The invariants of the loops of `bad_deadwood`.
 use Rattle.std.proofs.Common.{◌≡◌, ◌+◌, drop}
 use Rattle.strap_courses.specs.Faults.{bad_deadwood}
 use Rattle.strap_courses.proofs.faults.bad_deadwood.Given as goal

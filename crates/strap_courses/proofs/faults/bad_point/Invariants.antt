@@ -1,3 +1,4 @@
+-- The invariants of the loops of `bad_point`.
 use Rattle.std.proofs.Common.{◌≡◌, ◌+◌, ◌-◌, pos, drop, get_or}
 use Rattle.strap_courses.specs.Faults.{bad_point, unfollowed}
 use Rattle.strap_courses.proofs.faults.bad_point.Given as goal

@@ -1,3 +1,4 @@
+-- The invariants of the loops of `height`.
 use Rattle.std.proofs.Common.{◌≡◌, ◌+◌, ◌*◌, ◌≤◌, drop}
 use Rattle.strap_courses.specs.Courses.{height_of}
 use Rattle.strap_courses.proofs.shell.height.Given as goal

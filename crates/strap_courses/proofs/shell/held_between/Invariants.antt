@@ -1,3 +1,4 @@
+-- The invariants of the loops of `held_between`.
 use Rattle.std.proofs.Common.{◌≡◌, ◌+◌, ◌*◌, ◌≤◌, ◌^◌, drop}
 use Rattle.strap_courses.specs.Courses.{held_between, height_of}
 use Rattle.strap_courses.proofs.shell.held_between.Given as goal

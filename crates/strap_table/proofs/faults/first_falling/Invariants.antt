@@ -1,3 +1,4 @@
+-- The invariants of the loops of `first_falling`.
 use Rattle.std.proofs.Common.{◌≡◌, ◌-◌, drop}
 use Rattle.strap_table.specs.Capacity.{row_at}
 use Rattle.strap_table.specs.Faults.{first_falling, falling_row}

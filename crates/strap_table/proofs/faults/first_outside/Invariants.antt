@@ -1,3 +1,4 @@
+-- The invariants of the loops of `first_outside`.
 use Rattle.std.proofs.Common.{◌≡◌, drop}
 use Rattle.strap_table.specs.Faults.{first_outside}
 use Rattle.strap_table.proofs.faults.first_outside.Given as goal

@@ -1,3 +1,4 @@
+-- Answers to the open goals of `between`.
 use Rattle.std.proofs.Common.{◌≡◌, ◌^◌, ℤ, pos, ◌+ℤ◌, ◌-ℤ◌, ◌*ℤ◌, to_z, of_z, w64, subst, sym, ap, ◌∙◌, rules}
 use mir.Val.{SFits}
 use Rattle.std.specs.Int.{w128}

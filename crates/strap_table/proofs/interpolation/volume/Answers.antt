@@ -1,3 +1,4 @@
+-- Answers to the open goals of `volume`.
 use Rattle.std.proofs.Common.{◌≡◌, ℕ, ◌≤◌, ◌^◌, ℤ, pos, to_z, of_z, w64, subst, sym, ◌∙◌, arith, rules}
 use mir.Val.{SFits}
 use Rattle.std.specs.Int.{w128}

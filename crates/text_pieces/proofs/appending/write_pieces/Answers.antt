@@ -1,3 +1,4 @@
+-- Answers to the open goals of `write_pieces`.
 use Rattle.std.proofs.Common.{rules}
 use Rattle.text_pieces.proofs.Lengths.{begins_before}
 use Rattle.text_pieces.proofs.appending.write_pieces.Goals as goal

@@ -1,3 +1,4 @@
+-- The invariants of the loops of `write_pieces`.
 use Rattle.std.proofs.Common.{◌≡◌, ◌++◌, take}
 use Rattle.text_pieces.specs.Pieces.{text_of_pieces}
 use Rattle.text_pieces.proofs.appending.write_pieces.Given as goal

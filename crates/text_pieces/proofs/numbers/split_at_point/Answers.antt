@@ -1,5 +1,7 @@
+-- Answers to the open goals of `split_at_point`.
 use Rattle.std.proofs.Common.{arith}
-use Rattle.text_pieces.proofs.QuantityTexts.{all_decimals, nothing_whole, some_scale}
+use Rattle.farm_fixed.proofs.PrintingLaws.{some_scale}
+use Rattle.text_pieces.proofs.QuantityTexts.{all_decimals, nothing_whole}
 use Rattle.text_pieces.proofs.numbers.split_at_point.Goals as goal
 
 pub returns-then-places-ge-BEYOND-clause-whole : goal.returns-then-places-ge-BEYOND-clause-whole

@@ -1,3 +1,4 @@
+-- Answers to the open goals of `write_decimals`.
 use Rattle.std.proofs.Common.{rules}
 use Rattle.std.proofs.lemmas.Fmt.{length-decimal-le}
 use Rattle.text_pieces.proofs.numbers.write_decimals.Goals as goal

@@ -1,3 +1,4 @@
+-- Answers to the open goals of `write_quantity`.
 use Rattle.std.proofs.Common.{List, ℕ, w64, subst}
 use mir.Val.{SFits}
 use Rattle.std.proofs.lemmas.Int.{to_z-of_z}

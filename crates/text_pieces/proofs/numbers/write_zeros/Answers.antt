@@ -1,3 +1,4 @@
+-- Answers to the open goals of `write_zeros`.
 use Rattle.std.proofs.Common.{◌++◌, ap, ◌∙◌}
 use Rattle.std.proofs.lemmas.List.{take-replicate}
 use Rattle.text_pieces.proofs.numbers.write_zeros.Goals as goal

@@ -1,3 +1,4 @@
+-- Answers to the open goals of `a_transfer_posts`.
 use Rattle.std.proofs.Common.{refl}
 use Rattle.worked_rows.proofs.postings.a_transfer_posts.Goals as goal
 

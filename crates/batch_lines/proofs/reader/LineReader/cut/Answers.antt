@@ -1,3 +1,4 @@
+-- Answers to the open goals of `cut`.
 use Rattle.std.proofs.Common.{◌≡◌, ◌+◌, ◌-◌, ◌≤◌, ℕ, List, ◌++◌, ◌∷◌, length, take, drop, arith, ap, ◌∙◌, sym, subst}
 use Rattle.std.proofs.lemmas.List.{drop-drop, drop_all, length-take-le, take_all}
 use Rattle.batch_lines.specs.declared.limits.TheConstants.{LINE_FEED, MOST_BYTES}

@@ -1,3 +1,4 @@
+-- Answers to the open goals of `keep`.
 use Rattle.std.proofs.Common.{◌≡◌, ◌+◌, ◌≤◌, length, take, drop, ◌-◌, ◌++◌, sym, arith, ap, ◌∙◌, length-append}
 use Rattle.std.proofs.lemmas.List.{length-take-le}
 use Rattle.batch_lines.proofs.reader.LineReader.keep.Goals as goal

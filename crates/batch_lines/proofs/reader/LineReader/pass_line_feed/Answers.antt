@@ -1,3 +1,4 @@
+-- Answers to the open goals of `pass_line_feed`.
 use Rattle.batch_lines.proofs.Pieces.{in_hand_after}
 use Rattle.batch_lines.proofs.reader.LineReader.pass_line_feed.Goals as goal
 

@@ -1,3 +1,4 @@
+-- Answers to the open goals of `read`.
 use Rattle.std.proofs.Common.{◌≡◌, [], arith, ap, ◌∙◌, sym, subst, refl, rules, Ok}
 use Rattle.std.proofs.lemmas.List.{nil_from_length}
 use Rattle.batch_lines.specs.declared.reader.Moved.TheVariants as moves

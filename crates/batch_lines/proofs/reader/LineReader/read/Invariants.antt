@@ -1,3 +1,4 @@
+-- The invariants of the loops of `read`.
 use Rattle.std.proofs.Common.{◌≡◌}
 use Rattle.batch_lines.proofs.Steps.{Comes, cuts_left}
 use Rattle.batch_lines.proofs.reader.LineReader.read.Given as goal

@@ -1,5 +1,8 @@
+-- Answers to the open goals of `of_lines`.
 use Rattle.std.proofs.Common.{◌≡◌, ◌+◌, codes, pos, Ok, refl, sym, ap, ◌∙◌, rules}
 use Rattle.farm_base.specs.Steps.{or_fault}
+use Rattle.farm_vcf.specs.declared.grid.TheConstants.{MOST_FACTORS}
+use Rattle.strap_table.specs.declared.faults.TheConstants.{MOST_ROWS}
 use Rattle.calc_input.specs.Lines.{line_at, words_of}
 use Rattle.calc_input.specs.LevelsLine.{levels_of}
 use Rattle.calc_input.specs.TableRows.{counted, rows_from}
@@ -50,9 +53,9 @@ returns-in-Some-clause-form c =
     let many = c.in_ok-many.many in
     let taken = taken_in_order all c.due.new.self c.table_of.new.lines c.due-2.new.self c.grid_from.new.lines count many c.due.ensures.rest c.in_ok-table.ensures.rest c.due-2.ensures.rest c.in_ok-vcf.ensures.rest in
     table_read all count many c.in_ok-table.table c.in_ok-vcf.vcf c.in_ok-levels.levels _
-    (ap (λ line. or_fault 1 (counted (codes "table") 2 5001 (words_of line))) (sym c.due.ensures.line) ∙ c.in_ok-count.ensures.count)
+    (ap (λ line. or_fault 1 (counted (codes "table") 2 MOST_ROWS (words_of line))) (sym c.due.ensures.line) ∙ c.in_ok-count.ensures.count)
     (c.in_ok-table.ensures.rows all c.due.ensures.rest)
-    (ap (λ line. or_fault (count + 2) (counted (codes "factors") 1 100000 (words_of line))) (sym (c.due-2.ensures.line ∙ taken.after_volumes)) ∙ c.in_ok-many.ensures.count)
+    (ap (λ line. or_fault (count + 2) (counted (codes "factors") 1 MOST_FACTORS (words_of line))) (sym (c.due-2.ensures.line ∙ taken.after_volumes)) ∙ c.in_ok-many.ensures.count)
     (c.in_ok-vcf.ensures.grid all taken.after_count)
     (ap (λ line. or_fault (count + many + 3) (levels_of (words_of line))) (sym (c.due-3.ensures.line ∙ taken.after_factors)) ∙ c.in_ok-levels.ensures.levels)
     (ap (first_used (count + many + 3 + 1)) (sym (c.due-3.ensures.rest ∙ taken.after_levels)) ∙ sym c.first_used.ensures ∙ c.in-Some.is)
@@ -64,9 +67,9 @@ returns-in-None-clause-form c =
     let many = c.in_ok-many.many in
     let taken = taken_in_order all c.due.new.self c.table_of.new.lines c.due-2.new.self c.grid_from.new.lines count many c.due.ensures.rest c.in_ok-table.ensures.rest c.due-2.ensures.rest c.in_ok-vcf.ensures.rest in
     table_read all count many c.in_ok-table.table c.in_ok-vcf.vcf c.in_ok-levels.levels _
-    (ap (λ line. or_fault 1 (counted (codes "table") 2 5001 (words_of line))) (sym c.due.ensures.line) ∙ c.in_ok-count.ensures.count)
+    (ap (λ line. or_fault 1 (counted (codes "table") 2 MOST_ROWS (words_of line))) (sym c.due.ensures.line) ∙ c.in_ok-count.ensures.count)
     (c.in_ok-table.ensures.rows all c.due.ensures.rest)
-    (ap (λ line. or_fault (count + 2) (counted (codes "factors") 1 100000 (words_of line))) (sym (c.due-2.ensures.line ∙ taken.after_volumes)) ∙ c.in_ok-many.ensures.count)
+    (ap (λ line. or_fault (count + 2) (counted (codes "factors") 1 MOST_FACTORS (words_of line))) (sym (c.due-2.ensures.line ∙ taken.after_volumes)) ∙ c.in_ok-many.ensures.count)
     (c.in_ok-vcf.ensures.grid all taken.after_count)
     (ap (λ line. or_fault (count + many + 3) (levels_of (words_of line))) (sym (c.due-3.ensures.line ∙ taken.after_factors)) ∙ c.in_ok-levels.ensures.levels)
     (ap (first_used (count + many + 3 + 1)) (sym (c.due-3.ensures.rest ∙ taken.after_levels)) ∙ sym c.first_used.ensures ∙ c.in-None.is)

@@ -1,3 +1,4 @@
+-- Answers to the open goals of `commit`.
 use Rattle.std.proofs.Common.{rules, ◌≡◌, ◌∙◌, ℕ, option_map, ap, sym, subst}
 use Rattle.farm_stock.specs.Books.{plus}
 use Rattle.farm_stock.specs.Postings.{amount_of, at_tank}

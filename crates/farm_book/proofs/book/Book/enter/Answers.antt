@@ -1,9 +1,9 @@
+-- Answers to the open goals of `enter`.
 use Rattle.std.proofs.Common.{rules, ◌∙◌, ap}
 use Rattle.farm_history.specs.History.{History, with_entry}
 use Rattle.farm_history.specs.Verdicts.{IsNext}
 use Rattle.farm_book.proofs.book.Book.enter.Goals as goal
 
--- src/entering.rt:36:5
 pub returns-in_ok-reserve-in-Accept-clause-entered : goal.returns-in_ok-reserve-in-Accept-clause-entered
 returns-in_ok-reserve-in-Accept-clause-entered g c =
     let next : IsNext g.row.LIMIT c.args.self.now.history c.in-Ok.entry = search rules in

@@ -1,3 +1,4 @@
+-- Answers to the open goals of `last_moment`.
 use Rattle.std.proofs.Common.{rules, ◌≡◌, ◌-◌, ◌∙◌, List, [], length, Some, pos, sym, subst}
 use Rattle.std.specs.Prelude.{slice_get}
 use Rattle.std.specs.Int.{w64}

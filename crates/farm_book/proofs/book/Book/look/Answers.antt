@@ -1,3 +1,4 @@
+-- Answers to the open goals of `look`.
 use Rattle.std.proofs.Common.{◌≡◌, ℕ, subst}
 use Rattle.farm_book.specs.Replies.{IsTicketReply, IssuesAt}
 use Rattle.farm_book.proofs.book.Book.look.Goals as goal

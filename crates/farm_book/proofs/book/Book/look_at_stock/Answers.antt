@@ -1,3 +1,4 @@
+-- Answers to the open goals of `look_at_stock`.
 use Rattle.std.proofs.Common.{◌≡◌, Some, None, unwrap_or, subst}
 use Rattle.farm_history.specs.Conservation.{IsBoundedBook}
 use Rattle.farm_history.specs.History.{History, last_place}

@@ -1,3 +1,4 @@
+-- Answers to the open goals of `look_at_ticket`.
 use Rattle.std.proofs.Common.{◌≡◌, Some, None}
 use Rattle.farm_history.specs.Tickets.{ticket_at}
 use Rattle.farm_book.proofs.Replies.{issues_there, none_there, ticket_given}

@@ -1,3 +1,4 @@
+-- Answers to the open goals of `look_at_total`.
 use Rattle.std.proofs.Common.{◌≡◌, length}
 use Rattle.farm_history.specs.History.{History, last_place}
 use Rattle.farm_history.specs.Stocks.{total_of}

@@ -1,3 +1,4 @@
+-- Answers to the open goals of `past`.
 use Rattle.std.proofs.Common.{subst}
 use Rattle.farm_entries.specs.Pasts.{IsReadable, history_of}
 use Rattle.farm_book.specs.Kept.{IsSound, Kept}

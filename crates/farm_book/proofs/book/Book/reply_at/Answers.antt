@@ -1,3 +1,4 @@
+-- Answers to the open goals of `reply_at`.
 use Rattle.std.proofs.Common.{◌≡◌, Some, None}
 use Rattle.farm_history.specs.Stocks.{gain_at}
 use Rattle.farm_history.specs.Tickets.{ticket_at}

@@ -1,3 +1,4 @@
+-- Answers to the open goals of `ask`.
 use Rattle.std.proofs.Common.{◌≡◌, ◌∙◌, ◌+◌, ◌-◌, ◌^◌, min, false, ap, refl, sym, subst, w64, ℤ}
 use Rattle.std.proofs.lemmas.Int.{to_z-of_z}
 use Rattle.farm_base.specs.Counts.{Rose, raised}

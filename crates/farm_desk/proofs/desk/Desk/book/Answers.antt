@@ -1,3 +1,4 @@
+-- Answers to the open goals of `book`.
 use Rattle.std.proofs.Common.{refl, subst}
 use Rattle.farm_desk.specs.States.{IsDurable}
 use Rattle.farm_desk.proofs.Durable.{durable}

@@ -1,3 +1,4 @@
+-- Answers to the open goals of `create`.
 use Rattle.std.proofs.Common.{◌∙◌, sym, subst, rules}
 use Rattle.farm_site.specs.Sites.{described}
 use Rattle.farm_desk.specs.Asking.{IsCrashSafe}

@@ -1,3 +1,4 @@
+-- Answers to the open goals of `finish`.
 use Rattle.std.proofs.Common.{◌∙◌, ap, refl, sym}
 use Rattle.farm_book.specs.Kept.{Kept}
 use Rattle.farm_records.specs.Histories.{certain}
@@ -7,12 +8,12 @@ use Rattle.farm_desk.proofs.desk.Desk.finish.Goals as goal
 
 pub returns-clause-since : goal.returns-clause-since
 returns-clause-since g c =
-    finished_since g.D.Disk.trace g.row.LIMIT _ c.args.self c.self.view_is c.settle.new.self.journal.disk c.into_disk.result c.into_disk.ensures
+    finished_since g.D.Disk.trace g.row.LIMIT _ c.args.self c.self.view_is c.settle.new.self.journal.disk c.into_disk.result c.into_disk.ensures.disk
     g.D.Disk.faults c.self.inside.records.journal c.self.invariant c.settle.ensures.extends c.settle.ensures.images
 
 pub returns-clause-now : goal.returns-clause-now
 returns-clause-now g c =
-    finished_now g.D.Disk.trace g.row.LIMIT _ c.args.self c.self.view_is c.settle.new.self.journal.disk c.into_disk.result c.into_disk.ensures
+    finished_now g.D.Disk.trace g.row.LIMIT _ c.args.self c.self.view_is c.settle.new.self.journal.disk c.into_disk.result c.into_disk.ensures.disk
     c.settle.new.self.doubt c.is_err-doubt.result c.settle.new.self.book.history c.settle.new.self.journal refl
     (ap (λ (kept : Kept). kept.history) c.settle.ensures.book) (c.settle.ensures.settled ∙ sym c.is_err-doubt.ensures.value) c.settle.ensures.kept
 
@@ -20,30 +21,30 @@ pub returns-clause-acknowledged : goal.returns-clause-acknowledged
 returns-clause-acknowledged g c = λ moment count fewer each.
     acknowledged_since g.row.LIMIT c.args.self.history (certain c.args.self.doubt c.args.self.history) count moment (g.D.Disk.trace c.args.self.disk)
     (g.D.Disk.trace c.into_disk.result) fewer
-    (finished_extends g.D.Disk.trace g.row.LIMIT _ c.args.self c.self.view_is c.settle.new.self.journal.disk c.into_disk.result c.into_disk.ensures c.settle.ensures.extends)
-    (finished_images g.D.Disk.trace g.row.LIMIT _ c.args.self c.self.view_is c.settle.new.self.journal.disk c.into_disk.result c.into_disk.ensures c.settle.ensures.images)
+    (finished_extends g.D.Disk.trace g.row.LIMIT _ c.args.self c.self.view_is c.settle.new.self.journal.disk c.into_disk.result c.into_disk.ensures.disk c.settle.ensures.extends)
+    (finished_images g.D.Disk.trace g.row.LIMIT _ c.args.self c.self.view_is c.settle.new.self.journal.disk c.into_disk.result c.into_disk.ensures.disk c.settle.ensures.images)
     each
 
 pub returns-clause-extends : goal.returns-clause-extends
 returns-clause-extends g c =
-    finished_extends g.D.Disk.trace g.row.LIMIT _ c.args.self c.self.view_is c.settle.new.self.journal.disk c.into_disk.result c.into_disk.ensures c.settle.ensures.extends
+    finished_extends g.D.Disk.trace g.row.LIMIT _ c.args.self c.self.view_is c.settle.new.self.journal.disk c.into_disk.result c.into_disk.ensures.disk c.settle.ensures.extends
 
 pub returns-clause-cause : goal.returns-clause-cause
 returns-clause-cause g c = λ is.
-    finished_rose g.D.Disk.trace g.row.LIMIT _ c.args.self c.self.view_is c.settle.new.self.journal.disk c.into_disk.result c.into_disk.ensures g.D.Disk.faults
+    finished_rose g.D.Disk.trace g.row.LIMIT _ c.args.self c.self.view_is c.settle.new.self.journal.disk c.into_disk.result c.into_disk.ensures.disk g.D.Disk.faults
     (at_err c.settle.result _ (sym c.is_err-doubt.ensures.value ∙ is) c.settle.ensures.cause.failed)
 
 pub returns-clause-quiet : goal.returns-clause-quiet
 returns-clause-quiet g c = λ is.
-    finished_quiet g.D.Disk.trace g.row.LIMIT _ c.args.self c.self.view_is c.settle.new.self.journal.disk c.into_disk.result c.into_disk.ensures g.D.Disk.faults
+    finished_quiet g.D.Disk.trace g.row.LIMIT _ c.args.self c.self.view_is c.settle.new.self.journal.disk c.into_disk.result c.into_disk.ensures.disk g.D.Disk.faults
     (at_ok c.settle.result _ (sym c.is_err-doubt.ensures.value ∙ is) c.settle.ensures.quiet)
 
 pub returns-clause-once : goal.returns-clause-once
 returns-clause-once g c = λ is.
-    finished_once g.D.Disk.trace g.row.LIMIT _ c.args.self c.self.view_is c.settle.new.self.journal.disk c.into_disk.result c.into_disk.ensures g.D.Disk.faults
+    finished_once g.D.Disk.trace g.row.LIMIT _ c.args.self c.self.view_is c.settle.new.self.journal.disk c.into_disk.result c.into_disk.ensures.disk g.D.Disk.faults
     (at_err c.settle.result _ (sym c.is_err-doubt.ensures.value ∙ is) c.settle.ensures.once)
 
 pub returns-clause-counted_once_more : goal.returns-clause-counted_once_more
 returns-clause-counted_once_more g c = λ is.
-    finished_counted g.D.Disk.trace g.row.LIMIT _ c.args.self c.self.view_is c.settle.new.self.journal.disk c.into_disk.result c.into_disk.ensures g.D.Disk.faults
+    finished_counted g.D.Disk.trace g.row.LIMIT _ c.args.self c.self.view_is c.settle.new.self.journal.disk c.into_disk.result c.into_disk.ensures.disk g.D.Disk.faults
     c.self.invariant.counted (at_err c.settle.result _ (sym c.is_err-doubt.ensures.value ∙ is) c.settle.ensures.cause.failed)

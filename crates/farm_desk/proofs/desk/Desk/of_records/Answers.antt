@@ -1,3 +1,4 @@
+-- Answers to the open goals of `of_records`.
 use Rattle.std.proofs.Common.{◌≡◌, length, ap, arith}
 use Rattle.farm_desk.proofs.Made.{images_from, images_now}
 use Rattle.farm_desk.proofs.desk.Desk.of_records.Goals as goal

@@ -1,3 +1,4 @@
+-- Answers to the open goals of `write`.
 use Rattle.std.proofs.Common.{◌≡◌, ◌∷◌, ◌++◌, [], true, false, sym, ◌∙◌, ap, rules}
 use Rattle.farm_disk.specs.declared.disk_call.DiskCall.TheVariants.{Write}
 use Rattle.farm_disk.specs.Images.{written_at}

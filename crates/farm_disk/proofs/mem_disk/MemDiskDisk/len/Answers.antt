@@ -1,3 +1,4 @@
+-- Answers to the open goals of `len`.
 use Rattle.farm_disk.proofs.MemoryCalls.{kept_measures}
 use Rattle.farm_disk.proofs.mem_disk.MemDiskDisk.len.Goals as goal
 

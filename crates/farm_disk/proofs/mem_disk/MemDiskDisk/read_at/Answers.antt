@@ -1,3 +1,4 @@
+-- Answers to the open goals of `read_at`.
 use Rattle.std.proofs.Common.{◌≡◌, length, rules}
 use Rattle.farm_disk.proofs.MemoryCalls.{kept_reads}
 use Rattle.farm_disk.proofs.mem_disk.MemDiskDisk.read_at.Goals as goal

@@ -1,3 +1,4 @@
+-- Answers to the open goals of `stand`.
 use Rattle.farm_disk.proofs.Replay.{present_is_image}
 use Rattle.farm_disk.proofs.mem_disk.MemDiskDisk.stand.Goals as goal
 

@@ -1,3 +1,4 @@
+-- Answers to the open goals of `sync`.
 use Rattle.std.proofs.Common.{◌≡◌, ◌∷◌, ◌++◌, [], arith, rules, length-append}
 use Rattle.farm_disk.proofs.MemoryCalls.{kept_passes, kept_sync}
 use Rattle.farm_disk.specs.declared.disk_call.DiskCall.TheVariants.{Sync}

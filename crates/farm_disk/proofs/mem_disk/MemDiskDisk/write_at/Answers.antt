@@ -1,3 +1,4 @@
+-- Answers to the open goals of `write_at`.
 use Rattle.std.proofs.Common.{◌≡◌, ◌∷◌, ◌++◌, [], arith, rules, length-append}
 use Rattle.farm_disk.proofs.MemoryCalls.{kept_passes, kept_write}
 use Rattle.farm_disk.specs.declared.disk_call.DiskCall.TheVariants.{Write}

@@ -1,3 +1,4 @@
+-- The invariants of the loops of `opened`.
 use Rattle.std.proofs.Common.{◌≡◌, [], length, take}
 use Rattle.site_items.specs.declared.tanks.TheConstants.{MOST_TANKS}
 use Rattle.farm_entries.specs.Ledgers.{books_with}

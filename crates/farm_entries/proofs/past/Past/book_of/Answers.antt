@@ -1,3 +1,4 @@
+-- Answers to the open goals of `book_of`.
 use Rattle.std.proofs.Common.{Option, sym, ◌∙◌, subst}
 use Rattle.std.specs.Prelude.{IfSome}
 use Rattle.farm_fixed.specs.declared.records.Amount.{Amount}

@@ -1,3 +1,4 @@
+-- Answers to the open goals of `gain_after`.
 use Rattle.std.proofs.Common.{Some, ap, sym, ◌∙◌, subst}
 use Rattle.farm_history.specs.Figures.{figures_at}
 use Rattle.farm_history.specs.Postings.{less}

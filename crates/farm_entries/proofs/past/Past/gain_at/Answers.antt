@@ -1,3 +1,4 @@
+-- Answers to the open goals of `gain_at`.
 use Rattle.std.proofs.Common.{sym, ◌∙◌}
 use Rattle.farm_entries.specs.Pasts.{history_of}
 use Rattle.farm_entries.proofs.HistoryStocks.{gain_at_is}

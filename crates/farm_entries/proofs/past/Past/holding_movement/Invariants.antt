@@ -1,3 +1,4 @@
+-- The invariants of the loops of `holding_movement`.
 use Rattle.std.proofs.Common.{◌≡◌, ◌+◌, drop}
 use Rattle.farm_history.specs.Movements.{holding_from}
 use Rattle.farm_entries.proofs.past.Past.holding_movement.Given as goal

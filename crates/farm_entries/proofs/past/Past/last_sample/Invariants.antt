@@ -1,3 +1,4 @@
+-- The invariants of the loops of `last_sample`.
 use Rattle.std.proofs.Common.{◌≡◌, ◌+◌, drop}
 use Rattle.farm_base.specs.Steps.{or_else}
 use Rattle.farm_history.specs.Commands.{is_sample_of}

@@ -1,3 +1,4 @@
+-- The invariants of the loops of `last_settlement`.
 use Rattle.std.proofs.Common.{◌≡◌, ◌+◌, drop}
 use Rattle.farm_base.specs.Steps.{or_else}
 use Rattle.farm_history.specs.Commands.{settles}

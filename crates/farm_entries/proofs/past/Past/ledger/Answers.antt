@@ -1,3 +1,4 @@
+-- Answers to the open goals of `ledger`.
 use Rattle.std.proofs.Common.{◌+◌, [], List, get_or, pos, ap, sym, ◌∙◌, subst}
 use Rattle.farm_stock.specs.declared.book.Book.{Book}
 use Rattle.site_items.specs.declared.records.Tank.{Tank}

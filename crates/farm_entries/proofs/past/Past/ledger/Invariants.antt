@@ -1,3 +1,4 @@
+-- The invariants of the loops of `ledger`.
 use Rattle.farm_entries.specs.Ledgers.{AreBooksTo}
 use Rattle.farm_entries.specs.Pasts.{history_of}
 use Rattle.farm_entries.proofs.past.Past.ledger.Given as goal

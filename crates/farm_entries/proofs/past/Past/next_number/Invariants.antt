@@ -1,3 +1,4 @@
+-- The invariants of the loops of `next_number`.
 use Rattle.std.proofs.Common.{◌≡◌, ◌+◌, ◌≤◌, drop}
 use Rattle.farm_history.specs.Tickets.{tickets_in}
 use Rattle.farm_entries.proofs.past.Past.next_number.Given as goal

@@ -1,3 +1,4 @@
+-- Answers to the open goals of `open_movement`.
 use Rattle.std.proofs.Common.{rules, ◌≤◌, length, sym}
 use Rattle.farm_entries.specs.Pasts.{history_of}
 use Rattle.farm_entries.proofs.EntriesAt.{opening_there}

@@ -1,3 +1,4 @@
+-- Answers to the open goals of `posted_by`.
 use Rattle.std.proofs.Common.{arith}
 use Rattle.farm_history.specs.History.{last_place}
 use Rattle.farm_history.specs.Postings.{postings_of}

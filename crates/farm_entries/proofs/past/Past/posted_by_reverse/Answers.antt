@@ -1,3 +1,4 @@
+-- Answers to the open goals of `posted_by_reverse`.
 use Rattle.std.proofs.Common.{sym, subst}
 use Rattle.farm_entries.specs.Bounds.{AreSmallPostings}
 use Rattle.farm_entries.specs.Ledgers.{listed_postings}

@@ -1,3 +1,4 @@
+-- Answers to the open goals of `posted_by_settle`.
 use Rattle.std.proofs.Common.{◌+◌, [], ◌∷◌, sym, subst}
 use Rattle.farm_stock.specs.declared.posting.Kind.TheVariants.{Gain}
 use Rattle.farm_stock.specs.declared.posting.Posting.{Posting}

@@ -1,3 +1,4 @@
+-- Answers to the open goals of `recorded_sample`.
 use Rattle.std.proofs.Common.{rules, ◌≡◌, IsTrue, None, pos, ℤ, sym, subst}
 use Rattle.std.specs.Int.{w64}
 use Rattle.std.proofs.lemmas.Int.{to_z-of_z}

@@ -1,3 +1,4 @@
+-- The invariants of the loops of `reversal_of`.
 use Rattle.std.proofs.Common.{◌≡◌, ◌+◌, drop}
 use Rattle.farm_history.specs.Commands.{reverses}
 use Rattle.farm_history.specs.Places.{first_from}

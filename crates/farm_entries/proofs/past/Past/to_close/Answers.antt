@@ -1,3 +1,4 @@
+-- Answers to the open goals of `to_close`.
 use Rattle.std.proofs.Common.{sym}
 use Rattle.farm_entries.specs.Pasts.{history_of}
 use Rattle.farm_entries.proofs.Sides.{sides_match}

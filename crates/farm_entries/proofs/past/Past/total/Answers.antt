@@ -1,3 +1,4 @@
+-- Answers to the open goals of `total`.
 use Rattle.std.proofs.Common.{◌∙◌}
 use Rattle.farm_entries.specs.Pasts.{history_of}
 use Rattle.farm_entries.proofs.HistoryStocks.{total_is}

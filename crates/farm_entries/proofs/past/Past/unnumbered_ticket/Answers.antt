@@ -1,3 +1,4 @@
+-- Answers to the open goals of `unnumbered_ticket`.
 use Rattle.std.proofs.Common.{◌≡◌, Option, option_and_then, ap, sym, ◌∙◌, subst}
 use Rattle.std.specs.Prelude.{IfSome}
 use Rattle.farm_ticket.specs.Tickets.{Ticket}

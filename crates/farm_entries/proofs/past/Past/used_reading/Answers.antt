@@ -1,3 +1,4 @@
+-- Answers to the open goals of `used_reading`.
 use Rattle.std.proofs.Common.{◌≡◌, get_or, pos}
 use Rattle.farm_base.specs.Steps.{or_else}
 use Rattle.farm_history.specs.declared.command.Command.TheVariants.{Gauge}

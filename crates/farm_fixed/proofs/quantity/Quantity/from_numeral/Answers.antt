@@ -1,3 +1,4 @@
+-- Answers to the open goals of `from_numeral`.
 use Rattle.std.proofs.Common.{◌≡◌, ◌≤◌, ◌<◌, ◌-◌, length, arith, rules, sym, ap, ◌∙◌, w64}
 use mir.Val.{SFits}
 use Rattle.std.proofs.lemmas.Int.{to_z-of_z}
@@ -22,6 +23,6 @@ returns g c =
     let value = value_from_digits g.U.Unit.PLACES number c.is_negative.result c.args.numeral.value c.args.numeral.decimals _ c.scaled-magnitude.result c.with_sign-units.result
     c.is_negative.ensures c.requires.decimals c.requires.value missing c.scaled-magnitude.ensures c.with_sign-units.ensures in
     let in_word : SFits w64 c.with_sign-units.result = search rules in
-    let range_kept : OkIff c.new.result (IsWithin g.U.Unit.LEAST g.U.Unit.MOST c.with_sign-units.result) c.with_sign-units.result = simp to_z-of_z at c.new.ensures in
+    let range_kept : OkIff c.new.result (IsWithin g.U.Unit.LEAST g.U.Unit.MOST c.with_sign-units.result) c.with_sign-units.result = simp to_z-of_z at c.new.ensures.in_range in
     let answered = from_new g.U.Unit.PLACES g.U.Unit.LEAST g.U.Unit.MOST number c.with_sign-units.result c.new.result g.U.Unit.small fits value range_kept in
     from_mapped g.U.Unit.PLACES g.U.Unit.LEAST g.U.Unit.MOST number c.new.result c.map_err.result _ (λ e fault post. search rules) answered c.map_err.ensures.cases

@@ -1,3 +1,4 @@
+-- Answers to the open goals of `read`.
 use Rattle.std.proofs.Common.{sym, ◌∙◌}
 use Rattle.farm_fixed.proofs.ParsingLaws.{quantity_of-empty, quantity_of-bad, quantity_of-number, empty_length, some_length, right_answer_for}
 use Rattle.farm_fixed.proofs.quantity.Quantity.read.Goals as goal

@@ -1,3 +1,4 @@
+-- Answers to the open goals of `write`.
 use Rattle.std.proofs.Common.{rules}
 use Rattle.farm_fixed.proofs.RoundTrip.{reads_back}
 use Rattle.farm_fixed.proofs.quantity.Quantity.write.Goals as goal

@@ -1,3 +1,4 @@
+-- Answers to the open goals of `put`.
 use Rattle.std.proofs.Common.{◌++◌, sym, ap, ◌∙◌, rules}
 use Rattle.std.specs.Int.{w64}
 use Rattle.std.proofs.lemmas.Int.{to_z-of_z}

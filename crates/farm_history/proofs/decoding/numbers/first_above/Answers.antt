@@ -1,3 +1,4 @@
+-- Answers to the open goals of `first_above`.
 use Rattle.std.proofs.Common.{drop, sym, ap, ◌∙◌, arith}
 use Rattle.std.proofs.lemmas.List.{drop_all}
 use Rattle.farm_history.specs.Decoding.{first_above}

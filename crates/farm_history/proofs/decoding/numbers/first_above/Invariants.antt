@@ -1,3 +1,4 @@
+-- The invariants of the loops of `first_above`.
 use Rattle.std.proofs.Common.{◌≡◌, ◌≤◌, drop, length}
 use Rattle.farm_history.specs.Decoding.{first_above}
 use Rattle.farm_history.proofs.decoding.numbers.first_above.Given as goal

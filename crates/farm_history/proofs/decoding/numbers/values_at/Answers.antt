@@ -1,3 +1,4 @@
+-- Answers to the open goals of `values_at`.
 use Rattle.std.proofs.Common.{◌<◌, length, take, arith, rules, w64}
 use Rattle.std.proofs.lemmas.Int.{to_z-of_z}
 use Rattle.std.proofs.lemmas.List.{length-set, take_more_set}

@@ -1,3 +1,4 @@
+-- The invariants of the loops of `values_at`.
 use Rattle.std.proofs.Common.{◌≡◌, ◌-◌, take, drop, length, replicate, pos}
 use Rattle.farm_history.specs.Decoding.{numbers_at}
 use Rattle.farm_history.proofs.Counted.{with_front}

@@ -1,3 +1,4 @@
+-- Answers to the open goals of `read`.
 use Rattle.std.proofs.Common.{Ok, sym, ap, ◌∙◌, arith}
 use Rattle.farm_history.proofs.EntryReader.{entry_found, entry_only, entry_place}
 use Rattle.farm_history.proofs.Readers.{ok_is}
@@ -23,5 +24,5 @@ returns-in-Err-clause-only c = λ entry typed well_formed encoded.
     let read = entry_only c.args.bytes.now entry typed well_formed encoded in
     absurd (cc (c.in-Err.ensures.whole, read))
 
-pub returns-in-Err-clause-place : goal.returns-in-Err-clause-place
-returns-in-Err-clause-place c = (entry_place c.args.bytes.now c.in-Err.left (λ i. omega (arith, c.type_inv.bytes i)) c.in-Err.ensures.whole).1
+pub returns-in-Err-clause-offset : goal.returns-in-Err-clause-offset
+returns-in-Err-clause-offset c = (entry_place c.args.bytes.now c.in-Err.left (λ i. omega (arith, c.type_inv.bytes i)) c.in-Err.ensures.whole).1

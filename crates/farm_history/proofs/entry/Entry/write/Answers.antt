@@ -1,3 +1,4 @@
+-- Answers to the open goals of `write`.
 use Rattle.std.proofs.Common.{◌+◌, ◌<◌, ◌≤◌, ◌++◌, length, vec_capacity, vec_len, ap, ◌∙◌, subst, rules}
 use Rattle.farm_history.specs.Encoding.{command_bytes}
 use Rattle.farm_history.proofs.Joined.{stamp_and_command}

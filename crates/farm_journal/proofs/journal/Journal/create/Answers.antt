@@ -1,3 +1,4 @@
+-- Answers to the open goals of `create`.
 use Rattle.std.proofs.Common.{◌∙◌}
 use Rattle.farm_journal.proofs.Measured.{first_gate, made_stands}
 use Rattle.farm_journal.proofs.journal.Journal.create.Goals as goal

@@ -1,3 +1,4 @@
+-- Answers to the open goals of `open_gate`.
 use Rattle.std.proofs.Common.{refl}
 use Rattle.farm_journal.proofs.Putting.{on_err}
 use Rattle.farm_journal.proofs.Opening.{open_images, open_stands, open_stays}

@@ -1,3 +1,4 @@
+-- Answers to the open goals of `put_body`.
 use Rattle.std.proofs.Common.{◌+◌, Some, length, refl, ap, ◌∙◌}
 use Rattle.farm_journal.specs.Standing.{JournalState}
 use Rattle.farm_journal.proofs.Putting.{on_err, put_images, put_stays, put_stands, put_step}

@@ -1,3 +1,4 @@
+-- Answers to the open goals of `recover`.
 use Rattle.std.proofs.Common.{◌≡◌, sym, ◌∙◌, subst}
 use Rattle.farm_base.specs.Known.{WhereKnown}
 use Rattle.farm_disk.specs.Images.{present}

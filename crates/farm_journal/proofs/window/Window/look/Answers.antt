@@ -1,7 +1,9 @@
+-- Answers to the open goals of `look`.
 use Rattle.std.proofs.Common.{◌≡◌, ◌+◌, ◌-◌, ◌<◌, ◌≤◌, length, take, drop, ap, sym, refl, ◌∙◌, subst, arith, length-take, length-drop}
 use Rattle.farm_base.specs.Known.{Stays}
 use Rattle.farm_journal.specs.Windows.{BeginsWith, Shows, WhereLeft}
-use Rattle.farm_journal.proofs.Known.{known_still, stays_same, stays_then}
+use Rattle.farm_base.proofs.Known.{stays_same, stays_then}
+use Rattle.farm_journal.proofs.Known.{known_still}
 use Rattle.farm_journal.proofs.Fronts.{begins_same, begins_size}
 use Rattle.farm_journal.proofs.Windows.{begins_longer, front_kept, shows_all, shows_more}
 use Rattle.farm_journal.proofs.window.Window.look.Goals as goal

@@ -1,3 +1,4 @@
+-- The invariants of the loops of `look`.
 use Rattle.std.proofs.Common.{◌≡◌, ◌-◌, ◌≤◌, length, take}
 use Rattle.farm_base.specs.Known.{Stays}
 use Rattle.farm_journal.specs.Windows.{BeginsWith, WhereLeft}

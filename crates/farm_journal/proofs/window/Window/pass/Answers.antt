@@ -1,3 +1,4 @@
+-- Answers to the open goals of `pass`.
 use Rattle.std.proofs.Common.{◌≡◌, ◌+◌, ◌-◌, ◌≤◌, length, take, drop, ap, sym, ◌∙◌, arith, length-take}
 use Rattle.farm_journal.proofs.Windows.{passed, shows_passed}
 use Rattle.farm_journal.proofs.window.Window.pass.Goals as goal

@@ -1,3 +1,4 @@
+-- Answers to the open goals of `sync`.
 use Rattle.std.proofs.Common.{◌≡◌, ⊎_elim, ap, subst}
 use Rattle.farm_disk.specs.Images.{synced, unchanged}
 use Rattle.farm_disk.specs.Runs.{Extends, WritesNothing}

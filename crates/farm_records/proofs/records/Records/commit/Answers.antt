@@ -1,3 +1,4 @@
+-- Answers to the open goals of `commit`.
 use Rattle.std.proofs.Common.{rules, true, sym, subst}
 use Rattle.farm_history.specs.History.{History}
 use Rattle.farm_records.specs.Records.{AreRecords}

@@ -1,3 +1,4 @@
+-- Answers to the open goals of `entry_of`.
 use Rattle.std.proofs.Common.{◌∙◌, ap, w64, to_z, of_z, ℤ}
 use Rattle.std.proofs.lemmas.Int.{to_z-of_z}
 use Rattle.farm_history.specs.declared.entry.Entry.{Entry}
@@ -6,7 +7,6 @@ use Rattle.farm_history.specs.History.{last_moment}
 use Rattle.farm_history.proofs.MomentReader.{moment_fits}
 use Rattle.farm_records.proofs.records.Records.entry_of.Goals as goal
 
--- src/asking.rt:52:5
 pub returns-clause-entry : goal.returns-clause-entry
 unfolding stamped_moment
 returns-clause-entry g c =

@@ -1,10 +1,10 @@
+-- Answers to the open goals of `put`.
 use Rattle.farm_journal.specs.Layout.{IsJournalOf}
 use Rattle.farm_site.specs.Encoding.{site_encoding}
 use Rattle.farm_records.specs.Histories.{Recovers, entry_encodings}
 use Rattle.farm_records.proofs.Traces.{since_weaker}
 use Rattle.farm_records.proofs.records.Records.put.Goals as goal
 
--- src/records.rt:101:9
 pub returns-clause-images : goal.returns-clause-images
 returns-clause-images g c =
     let history = c.args.self.now.book.history in

@@ -1,3 +1,4 @@
+-- Answers to the open goals of `refusals`.
 use Rattle.farm_site.proofs.BytesRead.{PartsAreRead}
 use Rattle.farm_records.specs.Histories.{IsRecordable}
 use Rattle.farm_recovery.proofs.Judging.{of_history}
@@ -6,7 +7,7 @@ use Rattle.farm_recovery.proofs.recovering.Recovering.refusals.Goals as goal
 
 pub returns : goal.returns
 returns g c =
-    let all = c.reading_laws.ensures in
+    let all = c.decoding_laws.ensures in
     let laws : PartsAreRead = record { heads = all.heads; products = all.products; parties = all.parties; tanks = all.tanks; lines = all.lines } in
     let limit = g.row.LIMIT in
     record {

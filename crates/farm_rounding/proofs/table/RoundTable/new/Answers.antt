@@ -1,3 +1,4 @@
+-- Answers to the open goals of `new`.
 use Rattle.std.proofs.Common.{◌+◌, rules, arith}
 use Rattle.std.proofs.lemmas.Grind.{common_steps}
 use Rattle.farm_rounding.proofs.Rows.{first_bad_of, table_from_rows}

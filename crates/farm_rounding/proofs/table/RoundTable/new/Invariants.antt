@@ -1,3 +1,4 @@
+-- The invariants of the loops of `new`.
 use Rattle.std.proofs.Common.{◌≡◌, ◌+◌, drop}
 use Rattle.farm_rounding.specs.Table.{first_bad_row}
 use Rattle.farm_rounding.proofs.table.RoundTable.new.Given as goal

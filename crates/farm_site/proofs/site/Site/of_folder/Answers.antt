@@ -1,3 +1,4 @@
+-- Answers to the open goals of `of_folder`.
 use Rattle.std.proofs.Common.{◌≡◌, Ok}
 use Rattle.toml.specs.View.{view}
 use Rattle.site_keys.proofs.Kept.{known_before}

@@ -1,3 +1,4 @@
+-- Answers to the open goals of `read`.
 use Rattle.farm_site.proofs.Meaning.{read_means, read_misses, where_known}
 use Rattle.farm_site.proofs.site.Site.read.Goals as goal
 

@@ -1,12 +1,13 @@
+-- Answers to the open goals of `whole`.
 use Rattle.std.proofs.Common.{◌≡◌, Ok, arith}
-use Rattle.site_reading.specs.Decoding.{lines_at, tanks_at}
-use Rattle.site_reading.specs.Readers.{IsBytes}
+use Rattle.site_decoding.specs.Decoding.{lines_at, tanks_at}
+use Rattle.site_decoding.specs.Readers.{IsBytes}
 use Rattle.farm_site.proofs.BytesRead.{PartsAreRead, parts_read}
 use Rattle.farm_site.proofs.site.Site.whole.Goals as goal
 
 pub invariant_of-result : goal.invariant_of-result
 invariant_of-result c =
-    let all = c.reading_laws.ensures in
+    let all = c.decoding_laws.ensures in
     let laws : PartsAreRead = record { heads = all.heads; products = all.products; parties = all.parties; tanks = all.tanks; lines = all.lines } in
     let fits : IsBytes c.args.bytes.now = λ i. omega (arith, c.type_inv.bytes i) in
     let products = c.in_ok-products in

@@ -1,3 +1,4 @@
+-- Answers to the open goals of `post`.
 use Rattle.std.proofs.Common.{◌≡◌, ◌++◌, drop, length, take, subst, arith}
 use Rattle.std.proofs.lemmas.Grind.{common_steps}
 use Rattle.farm_stock.specs.Postings.{posted}

@@ -1,3 +1,4 @@
+-- Answers to the open goals of `write_single`.
 use Rattle.std.proofs.Common.{rules}
 use Rattle.farm_ticket.specs.Line.{single_line}
 use Rattle.farm_ticket.proofs.Reversals.{reversal_before}

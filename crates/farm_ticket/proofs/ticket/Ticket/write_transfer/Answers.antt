@@ -1,3 +1,4 @@
+-- Answers to the open goals of `write_transfer`.
 use Rattle.std.proofs.Common.{rules}
 use Rattle.farm_ticket.specs.Line.{transfer_line}
 use Rattle.farm_ticket.proofs.Reversals.{reversal_before}

@@ -1,3 +1,4 @@
+-- Answers to the open goals of `close`.
 use Rattle.std.proofs.Common.{◌≡◌, ap, subst}
 use Rattle.farm_turn.specs.Chronicles.{features}
 use Rattle.farm_turn.specs.Sharing.{IsClosed}

@@ -1,3 +1,4 @@
+-- Answers to the open goals of `enrol`.
 use Rattle.std.proofs.Common.{ap, rules}
 use Rattle.farm_turn.specs.Chronicles.{features}
 use Rattle.farm_turn.specs.Views.{known_of}

@@ -1,3 +1,4 @@
+-- Answers to the open goals of `new`.
 use Rattle.std.proofs.Common.{◌∷◌, [], rules}
 use Rattle.farm_turn.specs.Chronicles.{features}
 use Rattle.farm_turn.proofs.Opening.{opens}

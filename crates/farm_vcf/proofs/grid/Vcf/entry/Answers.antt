@@ -1,3 +1,4 @@
+-- Answers to the open goals of `entry`.
 use Rattle.std.proofs.Common.{◌∙◌, sym, arith}
 use Rattle.farm_vcf.proofs.Entries.{entry_means, factor_read, is_entry, no_density, no_temperature}
 use Rattle.farm_vcf.proofs.grid.Vcf.entry.Goals as goal

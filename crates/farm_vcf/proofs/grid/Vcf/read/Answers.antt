@@ -1,3 +1,4 @@
+-- Answers to the open goals of `read`.
 use Rattle.farm_vcf.proofs.Texts.{answer_of_text}
 use Rattle.farm_vcf.proofs.grid.Vcf.read.Goals as goal
 

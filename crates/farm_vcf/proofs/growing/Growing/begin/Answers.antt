@@ -1,3 +1,4 @@
+-- Answers to the open goals of `begin`.
 use Rattle.std.proofs.Common.{◌≡◌, ◌∷◌, List, rules, subst, sym}
 use Rattle.farm_vcf.specs.declared.rows.Listed.{Listed}
 use Rattle.farm_vcf.specs.GrowingRows.{Grown, begun, grown_on}

@@ -1,8 +1,8 @@
+-- Answers to the open goals of `body`.
 use Rattle.std.proofs.Common.{option_map}
 use Rattle.journal_bench.proofs.Bodies.{are_zeros, takes_next}
 use Rattle.journal_bench.proofs.zeros.ZerosTaker.body.Goals as goal
 
--- src/zeros.rt:64:5
 pub returns-clause-taken : goal.returns-clause-taken
 returns-clause-taken c =
     let zeros_are = are_zeros c.args.bytes.now c.as_slice.result.now c.as_slice.ensures c.if-ne.ensures in

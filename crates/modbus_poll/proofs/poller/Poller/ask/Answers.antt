@@ -1,3 +1,4 @@
+-- Answers to the open goals of `ask`.
 use Rattle.std.proofs.Common.{rules}
 use Rattle.modbus_poll.proofs.Ways.{decides, fails}
 use Rattle.modbus_poll.proofs.poller.Poller.ask.Goals as goal

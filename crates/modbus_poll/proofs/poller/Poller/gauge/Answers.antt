@@ -1,3 +1,4 @@
+-- Answers to the open goals of `gauge`.
 use Rattle.std.proofs.Common.{◌≡◌, List, get_or, true, sym, subst}
 use Rattle.modbus_poll.specs.declared.map.GaugeMap.{GaugeMap}
 use Rattle.modbus_poll.specs.Maps.{is_gauge_map}

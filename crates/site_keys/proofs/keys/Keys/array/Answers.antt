@@ -1,3 +1,4 @@
+-- Answers to the open goals of `array`.
 use Rattle.std.proofs.Common.{◌≡◌, Some, Ok, List, map, ap, sym, ◌∙◌}
 use Rattle.toml.specs.Data.{as_array, get}
 use Rattle.toml.specs.View.{array_view, view}

@@ -1,3 +1,4 @@
+-- Answers to the open goals of `new`.
 use Rattle.std.proofs.Common.{rules}
 use Rattle.strap_courses.specs.Faults.{reported}
 use Rattle.strap_courses.proofs.FirstFault.{reported_is, tank_is}

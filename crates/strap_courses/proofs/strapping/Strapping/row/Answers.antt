@@ -1,3 +1,4 @@
+-- Answers to the open goals of `row`.
 use Rattle.std.proofs.Common.{◌≤◌, ◌^◌, All, List, sym, subst}
 use Rattle.std.specs.Int.RustNames.{unsigned_abs}
 use Rattle.strap_courses.specs.declared.parts.Deadwood.{Deadwood}

@@ -1,10 +1,13 @@
+-- Answers to the open goals of `row_count`.
 use Rattle.std.proofs.Common.{◌≡◌, ◌≤◌, List, ap, ◌∙◌, arith}
+use Rattle.std.specs.Int.RustNames.{unsigned_abs}
+use Rattle.farm_fixed.specs.declared.limits.TheConstants.{MOST_HEIGHT}
 use Rattle.strap_courses.specs.declared.parts.Course.{Course}
 use Rattle.strap_courses.specs.Courses.{height_of}
 use Rattle.strap_courses.proofs.Faultless.{faultless}
 use Rattle.strap_courses.proofs.strapping.Strapping.row_count.Goals as goal
 
-low_enough : (c : goal.After-height) → c.height.result ≤ 50000
+low_enough : (c : goal.After-height) → c.height.result ≤ unsigned_abs MOST_HEIGHT
 low_enough c =
     let inside = c.self.inside in
     let good = faultless (record { courses = inside.courses.items; deadwoods = inside.deadwoods.items; bottom = inside.bottom.items }) c.self.invariant in

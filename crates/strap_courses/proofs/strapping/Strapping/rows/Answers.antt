@@ -1,3 +1,4 @@
+-- Answers to the open goals of `rows`.
 use Rattle.std.proofs.Common.{◌≡◌, ◌+◌, ◌-◌, ◌^◌, ◌++◌, [], ◌∷◌, List, None, ℤ, pos, to_z, of_z, w64, refl, sym, subst, ap, ◌∙◌, rules}
 use mir.Val.{SFits}
 use Rattle.std.specs.Int.{w128}

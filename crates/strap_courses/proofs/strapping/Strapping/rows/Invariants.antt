@@ -1,3 +1,4 @@
+-- The invariants of the loops of `rows`.
 use Rattle.std.proofs.Common.{◌≡◌, ◌-◌, ◌++◌, pos}
 use Rattle.strap_courses.specs.Rows.{first_wrong, rows_from}
 use Rattle.strap_courses.proofs.strapping.Strapping.rows.Given as goal

@@ -1,6 +1,9 @@
+-- Answers to the open goals of `volume`.
 use Rattle.std.proofs.Common.{◌≡◌, ◌≤◌, List, None, pos, to_z, of_z, ◌+ℤ◌, sym, subst, ap, ◌∙◌, rules, arith}
 use Rattle.std.specs.Int.{w128}
+use Rattle.std.specs.Int.RustNames.{unsigned_abs}
 use Rattle.std.proofs.lemmas.Int.{ints, to_z-of_z}
+use Rattle.farm_fixed.specs.declared.limits.TheConstants.{MOST_HEIGHT}
 use Rattle.farm_rounding.specs.declared.table.TheConstants.{STRAPPED_ROW}
 use Rattle.strap_courses.specs.declared.parts.Course.{Course}
 use Rattle.strap_courses.specs.Courses.{Point, StrappedTank, bottom_height, exact_volume, held_between, height_of, last_point}
@@ -28,7 +31,7 @@ pub held_between-above-requires : goal.held_between-above-requires
 held_between-above-requires c =
     let inside = c.self.inside in
     let good = faultless (record { courses = inside.courses.items; deadwoods = inside.deadwoods.items; bottom = inside.bottom.items }) c.self.invariant in
-    let P : List Course → Type 0 = λ courses. height_of courses ≤ 50000 in
+    let P : List Course → Type 0 = λ courses. height_of courses ≤ unsigned_abs MOST_HEIGHT in
     subst P (sym c.deref-3.ensures.value) good.height
 
 pub returns-clause-value : goal.returns-clause-value

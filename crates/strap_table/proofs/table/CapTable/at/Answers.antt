@@ -1,3 +1,4 @@
+-- Answers to the open goals of `at`.
 use Rattle.std.proofs.Common.{◌≡◌, ◌%◌, ◌/◌, ◌+◌, pos, to_z, w64, rules, arith}
 use Rattle.std.proofs.lemmas.Int.{ints, to_z-of_z}
 use Rattle.std.specs.Int.RustNames.{unsigned_abs}

@@ -1,3 +1,4 @@
+-- Answers to the open goals of `from_rows`.
 use Rattle.std.proofs.Common.{ap, rules}
 use Rattle.std.specs.Prelude.{Err}
 use Rattle.strap_table.proofs.FirstFault.{fault_is, no_fault, one_fault}

@@ -1,3 +1,4 @@
+-- Answers to the open goals of `push_numbers`.
 use Rattle.std.proofs.Common.{◌≡◌, ◌++◌, length, take, All, FitsSigned, sym, ap, subst, ◌∙◌, arith, rules, get_or, length-append, append_assoc, pos, w64}
 use mir.Val.{SFits}
 use Rattle.std.proofs.lemmas.Int.{to_z-of_z}

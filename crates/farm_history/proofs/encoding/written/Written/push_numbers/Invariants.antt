@@ -1,3 +1,4 @@
+-- The invariants of the loops of `push_numbers`.
 use Rattle.std.proofs.Common.{◌≡◌, ◌++◌, take, All, FitsSigned}
 use Rattle.std.specs.Int.{w64}
 use Rattle.std.specs.List.{flat_map}

@@ -1,0 +1,12 @@
+-- Answers to the open goals of `len_of_head`.
+use Rattle.std.proofs.Common.{arith, length-append}
+use Rattle.std.specs.List.{flat_map}
+use Rattle.site_bytes.specs.Encoding.{row_bytes}
+use Rattle.site_bytes.proofs.Sizes.{length-rounds}
+use Rattle.site_bytes.proofs.encoding.heads.len_of_head.Goals as goal
+
+pub returns-clause-len : goal.returns-clause-len
+returns-clause-len c =
+    let rounds = length-rounds c.args.rounds.now in
+    let both = length-append c.args.name.now (flat_map row_bytes c.args.rounds.now) in
+    omega arith

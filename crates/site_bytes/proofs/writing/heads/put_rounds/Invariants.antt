@@ -1,9 +1,0 @@
-use Rattle.std.proofs.Common.{take}
-use Rattle.std.specs.List.{flat_map}
-use Rattle.site_bytes.specs.Buffers.{IsPut}
-use Rattle.site_bytes.specs.Encoding.{row_bytes}
-use Rattle.site_bytes.proofs.writing.heads.put_rounds.Given as goal
-
--- the rows so far were put
-abbrev pub invariant-loop-index : goal.invariant-loop-index
-invariant-loop-index l = IsPut l.fn.out l.out (flat_map row_bytes (take l.index l.rounds))

@@ -1,7 +1,0 @@
-use Rattle.std.proofs.Common.{length, ap, arith}
-use Rattle.site_bytes.proofs.Sizes.{length-grid}
-use Rattle.site_bytes.proofs.writing.products.len_of_grid.Goals as goal
-
-pub returns-clause-len : goal.returns-clause-len
-returns-clause-len c =
-    omega (arith, length-grid c.args.vcf.now, ap length c.densities.ensures.value, ap length c.temperatures.ensures.value, ap length c.factors.ensures.value)

@@ -1,7 +1,0 @@
-use Rattle.std.proofs.Common.{length, ap, arith}
-use Rattle.site_bytes.proofs.Sizes.{length-tank}
-use Rattle.site_bytes.proofs.writing.tanks.TankMeasured.len.Goals as goal
-
-pub returns-clause-len : goal.returns-clause-len
-returns-clause-len c =
-    omega (arith, length-tank c.args.self.now, ap length c.rows.ensures.value, c.len_of_option.ensures.len)

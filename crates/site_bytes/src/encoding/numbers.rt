@@ -1,0 +1,50 @@
+//! Numbers of lists: densities, temperatures and factors of a product, and the rows of a capacity table.
+
+ghost use Rattle.std.specs.Prelude.{negsuc, pos};
+ghost use Rattle.std.specs.Int.{w16, w32};
+ghost use Rattle.farm_fixed.specs.Range.{IsWithin, IsVolume};
+ghost use Rattle.site_bytes.specs.Encoding.{natural_bytes, signed_bytes};
+
+use crate::encoding::encoded::{Encoded, put};
+use farm_fixed::{Centi, Dens, Fac5};
+
+impl Encoded for Dens {
+    ghost bytes = { natural_bytes w16 };
+
+    ghost typed = { IsWithin (pos 4000) (pos 12000) };
+
+    fn put(&self, out: &mut Vec<u8>) {
+        put(out, &(self.get() as u16).to_be_bytes());
+    }
+}
+
+impl Encoded for Centi {
+    ghost bytes = { signed_bytes w16 };
+
+    ghost typed = { IsWithin (negsuc 9999) (pos 30000) };
+
+    fn put(&self, out: &mut Vec<u8>) {
+        put(out, &(self.get() as i16).to_be_bytes());
+    }
+}
+
+impl Encoded for Fac5 {
+    ghost bytes = { natural_bytes w32 };
+
+    ghost typed = { IsWithin (pos 50000) (pos 150000) };
+
+    fn put(&self, out: &mut Vec<u8>) {
+        put(out, &(self.get() as u32).to_be_bytes());
+    }
+}
+
+/// A row of a capacity table, in litres.
+impl Encoded for i64 {
+    ghost bytes = { natural_bytes w32 };
+
+    ghost fits = { IsVolume };
+
+    fn put(&self, out: &mut Vec<u8>) {
+        put(out, &(*self as u32).to_be_bytes());
+    }
+}

@@ -1,0 +1,11 @@
+-- The lemmas of `site_decoding`, by topic.
+pub mod Readers
+mod NumberReaders
+mod ListReaders
+mod HeadReaders
+mod ProductReaders
+mod TankReaders
+mod GaugeReaders
+mod LineReaders
+mod Counted
+mod Grids

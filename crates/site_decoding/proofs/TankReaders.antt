@@ -1,0 +1,275 @@
+-- The reader of tanks.
+use Rattle.std.proofs.Common.{◌≡◌, ℕ, ◌^◌, ◌<◌, ◌&&◌, ◌==◌, nat_le, Bool, true, false, List, [], ◌∷◌, ◌++◌, length, get_or, map, Option, Some, None, refl, subst, append_assoc, ℤ, pos, negsuc, arith}
+use Rattle.std.specs.Prelude.{IfSome, IsTrue}
+use Rattle.std.specs.Int.{w16, w32, w64, to_be_bytes}
+use Rattle.std.specs.Int.RustNames.{FitsSigned}
+use Rattle.std.specs.List.{list_all}
+use Rattle.std.proofs.lemmas.Bool.{eqb-true}
+use Rattle.std.proofs.lemmas.Int.{ints}
+use Rattle.std.proofs.lemmas.List.{get_or_default}
+use Rattle.farm_base.proofs.BoolTests.{and_parts, leb-true}
+use Rattle.farm_fixed.specs.declared.records.Amount.{Amount}
+use Rattle.farm_fixed.specs.declared.records.Shell.{Shell}
+use Rattle.farm_fixed.specs.Range.{IsWithin, is_within, is_between}
+use Rattle.farm_fixed.proofs.ParsingLaws.{is_within-true}
+use Rattle.site_items.specs.declared.records.Product.{Product}
+use Rattle.site_items.specs.declared.records.Tank.{Tank}
+use Rattle.site_items.specs.Facts.{are_products, are_tanks}
+use Rattle.site_items.specs.Products.{is_product, product_number}
+use Rattle.site_items.specs.Names.{is_name}
+use Rattle.site_items.specs.Shells.{is_roof, is_spec}
+use Rattle.site_items.specs.Tanks.{is_opening, is_stock, is_tank, tank_number}
+use Rattle.site_items.proofs.TankParts.{coefficient_within, product_there, roof_is, spec_is}
+use Rattle.site_keys.specs.Lists.{are_numbered, is_among}
+use Rattle.strap_table.specs.declared.fault.TableFault.{TableFault}
+use Rattle.strap_table.specs.declared.tank.Roof.{Roof}
+use Rattle.strap_table.specs.declared.tank.TankSpec.{TankSpec}
+use Rattle.strap_table.specs.Capacity.{IsCapTable}
+use Rattle.strap_table.specs.Faults.{first_fault}
+use Rattle.strap_table.proofs.FirstFault.{fault_is, no_fault}
+use Rattle.strap_table.proofs.Rows.{table_from_rows}
+use Rattle.site_decoding.specs.Decoding.{amount_at, have_none, roof_at, shell_at, spec_at, table_at, tank_at, tanks_at}
+use Rattle.site_bytes.specs.Encoding.{amount_bytes, flag_byte, list_bytes, natural_bytes, option_bytes, roof_bytes, shell_bytes, short_list_bytes, signed_bytes, tank_bytes}
+use Rattle.site_decoding.specs.Parts.{AreTanks}
+use Rattle.site_decoding.specs.Readers.{IsReader}
+use Rattle.site_bytes.specs.Typed.{IsTypedRoof, IsTypedTank}
+use Rattle.site_decoding.proofs.ListReaders.{AreListed, all_as, list_reader, option_reader, short_list_reader}
+use Rattle.site_decoding.proofs.NumberReaders.{IsNatural, flag_reader, height_reader, natural_reader, natural_within, number16_reader, signed64_reader, temperature_reader, wide16, wide32}
+use Rattle.site_decoding.proofs.ProductReaders.{items_fit, number_small, numbered_sound}
+use Rattle.site_decoding.proofs.Readers.{made_reader, reader_as, tested_reader, then_reader}
+
+-- What is fixed of a tank.
+
+-- the numbers of a shell are of their types
+abbrev FitsShell : Shell → Type 0
+FitsShell shell = Unit {0} × (IsNatural (2 ^ 16) shell.coefficient × IsWithin (negsuc 9999) (pos 30000) shell.reference)
+
+-- the bytes of a shell are those of its flag and its numbers, one after another
+shell_same : (insulated : Bool) (coefficient reference : ℤ) → shell_bytes (record { insulated = insulated; coefficient = coefficient; reference = reference }) ≡
+    (flag_byte insulated ∷ []) ++ (natural_bytes w16 coefficient ++ signed_bytes w16 reference)
+unfolding shell_bytes
+shell_same insulated coefficient reference = refl
+
+-- shells
+shell_reader : IsReader FitsShell shell_bytes shell_at
+unfolding shell_at
+shell_reader =
+    made_reader (then_reader flag_reader (λ insulated h. then_reader (natural_reader w16 (2 ^ 16) wide16) (λ coefficient i. temperature_reader))) (record {
+      to = λ f h. h;
+      same = λ f h. shell_same f.0 f.1.0 f.1.1;
+      of = λ shell. (shell.insulated, (shell.coefficient, shell.reference));
+      back = λ shell h. refl;
+      of_fits = λ shell h. h;
+    })
+
+-- the range of a height
+abbrev IsHeight : ℤ → Type 0
+IsHeight = IsWithin (pos 0) (pos 50000)
+
+-- the numbers of a roof are of their types
+abbrev FitsRoof : Roof → Type 0
+FitsRoof roof = IsNatural (2 ^ 32) roof.mass × (IsHeight roof.low × IsHeight roof.high)
+
+-- the bytes of a roof are those of its numbers, one after another
+roof_same : (mass low high : ℤ) → roof_bytes (record { mass = mass; low = low; high = high }) ≡ natural_bytes w32 mass ++ (natural_bytes w16 low ++ natural_bytes w16 high)
+unfolding roof_bytes
+roof_same mass low high = refl
+
+-- roofs
+roof_reader : IsReader FitsRoof roof_bytes roof_at
+unfolding roof_at
+roof_reader =
+    made_reader (then_reader (natural_reader w32 (2 ^ 32) wide32) (λ mass h. then_reader height_reader (λ low i. height_reader))) (record {
+      to = λ f h. h;
+      same = λ f h. roof_same f.0 f.1.0 f.1.1;
+      of = λ roof. (roof.mass, (roof.low, roof.high));
+      back = λ roof h. refl;
+      of_fits = λ roof h. h;
+    })
+
+-- the bytes of what is fixed of a tank
+spec_bytes : TankSpec → List ℕ
+spec_bytes spec = shell_bytes spec.shell ++ (natural_bytes w16 spec.height ++ option_bytes roof_bytes spec.roof)
+
+-- its numbers are of their types
+abbrev FitsSpec : TankSpec → Type 0
+FitsSpec spec = FitsShell spec.shell × (IsHeight spec.height × IfSome spec.roof FitsRoof)
+
+-- what is fixed of tanks
+spec_reader : IsReader FitsSpec spec_bytes spec_at
+unfolding spec_at spec_bytes
+spec_reader =
+    made_reader (then_reader shell_reader (λ shell h. then_reader height_reader (λ height i. option_reader roof_reader))) (record {
+      to = λ f h. h;
+      same = λ f h. refl;
+      of = λ spec. (spec.shell, (spec.height, spec.roof));
+      back = λ spec h. refl;
+      of_fits = λ spec h. h;
+    })
+
+-- Capacity tables and opening stocks.
+
+-- rows without a fault
+fault_none : (fault : Option TableFault) → have_none fault ≡ true → fault ≡ None
+fault_none None test = refl
+fault_none (Some fault) test = cc
+
+-- the rows of a table test as having none
+rows_sound : (rows : List ℤ) → IsCapTable rows → have_none (first_fault rows) ≡ true
+rows_sound rows table = by (first_fault rows) refl
+  where
+    by : (fault : Option TableFault) → first_fault rows ≡ fault → have_none (first_fault rows) ≡ true
+    by None e = rw e refl
+    by (Some fault) e = absurd (no_fault rows fault table (fault_is rows fault e))
+
+-- they are of their types
+rows_fit : (rows : List ℤ) → IsCapTable rows → AreListed (IsNatural (2 ^ 32)) (2 ^ 16) rows
+rows_fit rows table =
+    (omega (arith, table.most), λ k row within. subst (IsNatural (2 ^ 32)) (get_or_default rows k (pos 0) row within) (natural_within 0 (10 ^ 9) (2 ^ 32) (omega arith) (get_or rows k (pos 0)) (table.volumes k)))
+
+-- capacity tables
+table_reader : IsReader IsCapTable (list_bytes w16 (natural_bytes w32)) table_at
+unfolding table_at
+table_reader =
+    reader_as (tested_reader (λ rows. have_none (first_fault rows)) (list_reader w16 (2 ^ 16) wide16 (natural_reader w32 (2 ^ 32) wide32)))
+    (λ rows h. table_from_rows rows (fault_none (first_fault rows) h.1))
+    (λ rows h. (rows_fit rows h, rows_sound rows h))
+
+-- both parts of a stock are of their types
+abbrev FitsAmount : Amount → Type 0
+FitsAmount amount = FitsSigned w64 amount.litres × FitsSigned w64 amount.kg
+
+-- the bytes of a stock are those of its litres and its kilograms, one after another
+amount_same : (litres kg : ℤ) → amount_bytes (record { litres = litres; kg = kg }) ≡ signed_bytes w64 litres ++ signed_bytes w64 kg
+unfolding amount_bytes
+amount_same litres kg = refl
+
+-- opening stocks
+amount_reader : IsReader FitsAmount amount_bytes amount_at
+unfolding amount_at
+amount_reader =
+    made_reader (then_reader signed64_reader (λ litres h. signed64_reader)) (record {
+      to = λ f h. h;
+      same = λ f h. amount_same f.0 f.1;
+      of = λ amount. (amount.litres, amount.kg);
+      back = λ amount h. refl;
+      of_fits = λ amount h. h;
+    })
+
+-- Tanks.
+
+-- the fields of a tank are of their types
+abbrev FitsTank : Tank → Type 0
+FitsTank tank = (tank.number < 2 ^ 16) × ((tank.product < 2 ^ 16) × (FitsSpec tank.spec × (IsCapTable tank.table × FitsAmount tank.opening)))
+
+-- seven texts in a row, those of what is fixed of a tank together
+tank_regroup : (a b c d e f g : List ℕ) → a ++ b ++ c ++ d ++ e ++ f ++ g ≡ a ++ (b ++ ((c ++ (d ++ e)) ++ (f ++ g)))
+tank_regroup a b c d e f g = simp append_assoc
+
+-- the bytes of a tank are those of its numbers, of what is fixed, of its table and of its stock, one after another
+tank_same : (number product : ℕ) (spec : TankSpec) (table : List ℤ) (opening : Amount) →
+    tank_bytes (record { number = number; product = product; spec = spec; table = table; opening = opening }) ≡
+    to_be_bytes w16 number ++ (to_be_bytes w16 product ++ (spec_bytes spec ++ (list_bytes w16 (natural_bytes w32) table ++ amount_bytes opening)))
+unfolding tank_bytes spec_bytes
+tank_same number product spec table opening =
+    tank_regroup (to_be_bytes w16 number) (to_be_bytes w16 product) (shell_bytes spec.shell) (natural_bytes w16 spec.height) (option_bytes roof_bytes spec.roof)
+    (list_bytes w16 (natural_bytes w32) table) (amount_bytes opening)
+
+-- tanks
+tank_reader : IsReader FitsTank tank_bytes tank_at
+unfolding tank_at
+tank_reader =
+    made_reader
+    (then_reader number16_reader (λ number h. then_reader number16_reader (λ product i. then_reader spec_reader (λ spec j.
+    then_reader table_reader (λ table k. amount_reader)))))
+    (record {
+      to = λ f h. h;
+      same = λ f h. tank_same f.0 f.1.0 f.1.1.0 f.1.1.1.0 f.1.1.1.1;
+      of = λ tank. (tank.number, (tank.product, (tank.spec, (tank.table, tank.opening))));
+      back = λ tank h. refl;
+      of_fits = λ tank h. h;
+    })
+
+-- What a site's tank has.
+
+-- the number of one of some sound items is of two bytes
+pub among_small : {A : Type 0} (number : A → ℕ) (sound : A → Bool) (items : List A) (n : ℕ) → ((item : A) → sound item ≡ true → number item < 2 ^ 16) →
+    list_all sound items ≡ true → is_among n (map number items) ≡ true → n < 2 ^ 16
+among_small number sound [] n small all among = absurd cc
+among_small number sound (item ∷ items) n small all among =
+    let parts = and_parts (sound item) (list_all sound items) all in
+    by (number item == n) refl (among_small number sound items n small parts.1) parts.0
+  where
+    by : (here : Bool) → (number item == n) ≡ here → (is_among n (map number items) ≡ true → n < 2 ^ 16) → sound item ≡ true → n < 2 ^ 16
+    by true e later first = subst (λ m. m < 2 ^ 16) (eqb-true (number item) n e) (small item first)
+    by false e later first = later (rw e at among)
+
+-- a stock of a site is of its type
+stock_fits : (stock : ℤ) → is_stock stock ≡ true → FitsSigned w64 stock
+stock_fits stock test = let within = is_within-true (negsuc 999999999) (pos (10 ^ 9)) stock test in omega (arith, ints, within.low, within.high)
+
+-- a roof of a site, whose zone is of its type, is
+roof_fits : (roof : Option Roof) → is_roof roof ≡ true → IfSome roof IsTypedRoof → IfSome roof FitsRoof
+roof_fits None sound typed = tt
+roof_fits (Some roof) sound typed =
+    let mass = is_within-true (pos 1) (pos (10 ^ 7)) roof.mass (and_parts (is_within (pos 1) (pos (10 ^ 7)) roof.mass) _ sound).0 in
+    (natural_within 1 (10 ^ 7) (2 ^ 32) (omega arith) roof.mass mass, (typed.low, typed.high))
+
+-- the reference height of a tank
+height_of : (spec : TankSpec) → is_spec spec ≡ true → IsHeight spec.height
+height_of spec sound =
+    let coefficient = is_within (pos 0) (pos 1000) spec.shell.coefficient in
+    let height = is_within (pos 1) (pos 50000) spec.height in
+    let both = and_parts coefficient height (and_parts (coefficient && height) (is_roof spec.roof) sound).0 in
+    let within = is_within-true (pos 1) (pos 50000) spec.height both.1 in
+    record { low = omega (arith, ints, within.low); high = within.high }
+
+-- a sound tank is of its types
+tank_fits : (products : List ℕ) (tank : Tank) → ((n : ℕ) → is_among n products ≡ true → n < 2 ^ 16) → is_tank products tank ≡ true → IsTypedTank tank → FitsTank tank
+tank_fits products tank small sound typed =
+    let number = is_between 1 65535 tank.number in
+    let product = is_among tank.product products in
+    let three = and_parts (number && product && is_spec tank.spec) (is_opening tank.opening) sound in
+    let two = and_parts (number && product) (is_spec tank.spec) three.0 in
+    let stocks = and_parts (is_stock tank.opening.litres) (is_stock tank.opening.kg) three.1 in
+    let coefficient = natural_within 0 1000 (2 ^ 16) (omega arith) tank.spec.shell.coefficient (coefficient_within products tank sound) in
+    let roof = roof_fits tank.spec.roof (roof_is products tank sound) typed.roof in (
+      number_small tank.number (and_parts number product two.0).0,
+      (
+        small tank.product (product_there products tank sound),
+        (
+          ((tt, (coefficient, typed.reference)), (height_of tank.spec (spec_is products tank sound), roof)),
+          (typed.table, (stock_fits tank.opening.litres stocks.0, stock_fits tank.opening.kg stocks.1)),
+        ),
+      ),
+    )
+
+-- the numbers of a site's products are of two bytes
+products_small : (products : List Product) → are_products products ≡ true → (n : ℕ) → is_among n (map product_number products) ≡ true → n < 2 ^ 16
+products_small products sound n among =
+    let parts = and_parts (is_between 1 16 (length products)) (are_numbered product_number is_product products) sound in
+    among_small product_number is_product products n
+    (λ product test. number_small product.number (and_parts (is_between 1 65535 product.number) (is_name product.name) test).0)
+    (numbered_sound product_number is_product products parts.1) among
+
+-- the tanks of a site
+pub tanks_reader : (products : List Product) → IsTrue (are_products products) → IsReader (AreTanks products) (short_list_bytes tank_bytes) (tanks_at products)
+unfolding tanks_at
+tanks_reader products sound =
+    let numbers = map product_number products in
+    reader_as (tested_reader (are_tanks numbers) (short_list_reader tank_reader))
+    (λ tanks h. (h.1, all_as FitsTank IsTypedTank tanks typed_of h.0.1))
+    (λ tanks h.
+    let parts = and_parts (is_between 1 64 (length tanks)) (are_numbered tank_number (is_tank numbers) tanks) h.0 in
+    let few = leb-true (length tanks) 64 (and_parts (nat_le 1 (length tanks)) (nat_le (length tanks) 64) parts.0).1 in
+    let each = numbered_sound tank_number (is_tank numbers) tanks parts.1 in
+    ((omega (arith, few), items_fit (is_tank numbers) IsTypedTank FitsTank tanks each h.1 (λ tank. tank_fits numbers tank (products_small products sound))), h.0))
+  where
+    -- a roof that was read is of its type
+    roof_of : (roof : Option Roof) → IfSome roof FitsRoof → IfSome roof IsTypedRoof
+    roof_of None h = tt
+    roof_of (Some roof) h = record { low = h.1.0; high = h.1.1 }
+
+    -- and so is a tank
+    typed_of : (tank : Tank) → FitsTank tank → IsTypedTank tank
+    typed_of tank h = record { reference = h.1.1.0.0.1.1; roof = roof_of tank.spec.roof h.1.1.0.1.1; table = h.1.1.1.0 }

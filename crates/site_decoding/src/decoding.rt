@@ -1,0 +1,92 @@
+//! The parts of a site at the front of bytes: its head, its products, its parties, its tanks and its gauge lines. Each call answers
+//! the part and the bytes after it, `BadSite` exactly where the bytes begin with no such part.
+
+ghost use Rattle.std.specs.Prelude.{◌≡◌};
+ghost use Rattle.site_decoding.specs.ByteReaders.{Gives};
+ghost use Rattle.site_decoding.specs.Decoding.{head_at, lines_at, parties_at, products_at, tanks_at};
+
+mod gauges;
+mod heads;
+mod lists;
+mod numbers;
+mod products;
+mod tanks;
+
+use crate::SiteBytesFault;
+use crate::SiteBytesFault::BadSite;
+use crate::sound::{are_lines, are_parties, are_products, are_tanks};
+use farm_rounding::RoundTable;
+use heads::{format_at, name_at, rounds_at};
+use lists::{list16_at, short_list_at};
+use modbus_poll::LineMap;
+use site_items::{Name, Party, Product, Tank};
+use std::alloc::Global;
+
+/// The name of a site and its rounding table, after the byte of its format.
+#[tactic(auto, unfolding(crate::specs::Decoding::head_at))]
+pub fn head_at(alloc: Global, bytes: &[u8]) -> Result<((Name, RoundTable), &[u8]), SiteBytesFault>
+    ensures reads { Gives (λ x. (x.0, x.1.now)) result (head_at bytes.now) }
+{
+    let (_, rest) = format_at(bytes)?;
+    let (name, rest) = name_at(alloc, rest)?;
+    match rounds_at(rest) {
+        Ok((rounds, rest)) => Ok(((name, rounds), rest)),
+        Err(fault) => Err(fault),
+    }
+}
+
+/// The products of a site.
+#[tactic(auto, unfolding(crate::specs::Decoding::products_at))]
+pub fn products_at(alloc: Global, bytes: &[u8]) -> Result<(Vec<Product>, &[u8]), SiteBytesFault>
+    ensures reads { Gives (λ x. (x.0.items, x.1.now)) result (products_at bytes.now) }
+{
+    let (products, rest) = short_list_at(alloc, 15, bytes)?;
+    if !are_products(&products) {
+        return Err(BadSite);
+    }
+    Ok((products, rest))
+}
+
+/// The parties of a site.
+#[tactic(auto, unfolding(crate::specs::Decoding::parties_at))]
+pub fn parties_at(alloc: Global, bytes: &[u8]) -> Result<(Vec<Party>, &[u8]), SiteBytesFault>
+    ensures reads { Gives (λ x. (x.0.items, x.1.now)) result (parties_at bytes.now) }
+{
+    let (parties, rest) = list16_at(alloc, 3, bytes)?;
+    if !are_parties(&parties) {
+        return Err(BadSite);
+    }
+    Ok((parties, rest))
+}
+
+/// The tanks of a site, each of one of its products.
+#[tactic(auto, unfolding(crate::specs::Decoding::tanks_at))]
+pub fn tanks_at<'a>(
+    alloc: Global,
+    products: &[Product],
+    bytes: &'a [u8],
+) -> Result<(Vec<Tank>, &'a [u8]), SiteBytesFault>
+    ensures reads { Gives (λ x. (x.0.items, x.1.now)) result (tanks_at products.now bytes.now) }
+{
+    let (tanks, rest) = short_list_at(alloc, 30, bytes)?;
+    if !are_tanks(products, &tanks) {
+        return Err(BadSite);
+    }
+    Ok((tanks, rest))
+}
+
+/// The gauge lines of a site, whose gauges are on its tanks.
+#[tactic(auto, unfolding(crate::specs::Decoding::lines_at))]
+pub fn lines_at<'a>(
+    alloc: Global,
+    tanks: &[Tank],
+    bytes: &'a [u8],
+) -> Result<(Vec<LineMap>, &'a [u8]), SiteBytesFault>
+    ensures reads { Gives (λ x. (x.0.items, x.1.now)) result (lines_at tanks.now bytes.now) }
+{
+    let (lines, rest) = short_list_at(alloc, 4, bytes)?;
+    if !are_lines(alloc, tanks, &lines)? {
+        return Err(BadSite);
+    }
+    Ok((lines, rest))
+}

@@ -1,0 +1,93 @@
+//! The head of a site at the front of bytes: its format, its name and its rounding table.
+
+ghost use Rattle.std.specs.Prelude.{◌≡◌, ◌==◌, Ok, Err, if◌then◌else◌};
+ghost use Rattle.farm_rounding.specs.Table.{first_bad_row};
+ghost use Rattle.site_decoding.specs.ByteReaders.{Gives, byte_at, counted_at, tested_at};
+ghost use Rattle.site_decoding.specs.Decoding.{are_good, mode_of, name_at, round_at, rounds_at};
+ghost use Rattle.site_bytes.specs.declared.TheConstants.{FORMAT};
+
+use super::numbers::{byte_at, flag_at, text_at};
+use crate::SiteBytesFault;
+use crate::SiteBytesFault::BadSite;
+use crate::sound::is_name;
+use farm_rounding::{Mode, ROWS, RoundTable};
+use site_bytes::FORMAT;
+use site_items::Name;
+use std::alloc::Global;
+
+/// The byte of the format.
+pub fn format_at(bytes: &[u8]) -> Result<(u8, &[u8]), SiteBytesFault>
+    ensures reads { Gives (λ x. (x.0, x.1.now)) result (tested_at (λ format. format == FORMAT) byte_at bytes.now) }
+{
+    let (format, rest) = byte_at(bytes)?;
+    if format != FORMAT {
+        return Err(BadSite);
+    }
+    Ok((format, rest))
+}
+
+/// The name of a site.
+#[tactic(auto, unfolding(crate::specs::Decoding::name_at))]
+pub fn name_at(alloc: Global, bytes: &[u8]) -> Result<(Name, &[u8]), SiteBytesFault>
+    ensures reads { Gives (λ x. (x.0, x.1.now)) result (name_at bytes.now) }
+{
+    let (name, rest) = text_at(alloc, bytes)?;
+    if !is_name(&name) {
+        return Err(BadSite);
+    }
+    Ok((name, rest))
+}
+
+/// The rounding table.
+#[tactic(auto, unfolding(crate::specs::Decoding::rounds_at))]
+pub fn rounds_at(bytes: &[u8]) -> Result<(RoundTable, &[u8]), SiteBytesFault>
+    ensures reads { Gives (λ x. (x.0, x.1.now)) result (rounds_at bytes.now) }
+{
+    let (rows, rest) = rows_at(bytes)?;
+    Ok((table_of(rows)?, rest))
+}
+
+// Twelve rows of a rounding table.
+fn rows_at(bytes: &[u8]) -> Result<([(u8, Mode); ROWS], &[u8]), SiteBytesFault>
+    ensures reads { Gives (λ x. (x.0, x.1.now)) result (counted_at round_at ROWS bytes.now) }
+{
+    let mut rows = [(1, Mode::HalfAway); ROWS];
+    let mut rest = bytes;
+    for index in 0..ROWS {
+        let (row, after) = row_at(rest)?;
+        rows[index] = row;
+        rest = after;
+    }
+    Ok((rows, rest))
+}
+
+// A row of a rounding table.
+#[tactic(auto, unfolding(crate::specs::Decoding::round_at))]
+fn row_at(bytes: &[u8]) -> Result<((u8, Mode), &[u8]), SiteBytesFault>
+    ensures reads { Gives (λ x. (x.0, x.1.now)) result (round_at bytes.now) }
+{
+    let (step, rest) = byte_at(bytes)?;
+    let (toward_zero, rest) = flag_at(rest)?;
+    Ok(((step, mode_of(toward_zero)), rest))
+}
+
+// How a quotient is rounded.
+fn mode_of(toward_zero: bool) -> Mode
+    ensures mode { result ≡ mode_of toward_zero }
+{
+    if toward_zero {
+        Mode::TowardZero
+    } else {
+        Mode::HalfAway
+    }
+}
+
+// The rounding table of these rows, if they are one.
+fn table_of(rows: [(u8, Mode); ROWS]) -> Result<RoundTable, SiteBytesFault>
+    ensures table { result ≡ (if are_good (first_bad_row 1 rows) then Ok rows else Err SiteBytesFault.BadSite) }
+{
+    match RoundTable::new(rows) {
+        Ok(table) => Ok(table),
+        Err(_) => Err(BadSite),
+    }
+}

@@ -1,0 +1,101 @@
+//! Lists of things at the front of bytes, and things that may be missing.
+
+ghost use Rattle.std.specs.Prelude.{◌≡◌, ◌<◌, ◌^◌, List, ℕ, IfOk, Result, length};
+ghost use Rattle.std.specs.Int.{w16, w32};
+ghost use Rattle.site_decoding.specs.ByteReaders.{Gives, counted_at, list_at, option_at, short_list_at};
+
+use super::numbers::{byte_at, flag_at, u16_at, u32_at};
+use crate::SiteBytesFault;
+use std::alloc::Global;
+
+/// A thing that is read from bytes.
+pub trait Piece: Drop {
+    ghost use Rattle.site_decoding.specs.declared.fault.SiteBytesFault.{SiteBytesFault};
+
+    /// Its reader.
+    ghost reads: { List ℕ → Result (Self × List ℕ) SiteBytesFault };
+
+    /// The thing at the front of bytes, and the bytes after it.
+    fn read_at(alloc: Global, bytes: &[u8]) -> Result<(Self, &[u8]), SiteBytesFault>
+        ensures reads { Gives (λ x. (x.0, x.1.now)) result (reads bytes.now) };
+}
+
+/// This many things, each of at least `size` bytes. Room is taken at once, for no more than the bytes can hold.
+pub fn counted_at<T: Piece>(
+    alloc: Global,
+    count: usize,
+    size: usize,
+    bytes: &[u8],
+) -> Result<(Vec<T>, &[u8]), SiteBytesFault>
+    requires { 0 < size }
+    ensures reads { Gives (λ x. (x.0.items, x.1.now)) result (counted_at T.reads count bytes.now) }
+    ensures count { IfOk result (λ x. length x.0.items ≡ count) }
+{
+    let room = count.min(bytes.len() / size);
+    let mut items = Vec::with_capacity(alloc, room)?;
+    let mut rest = bytes;
+    for index in 0..count {
+        let (item, after) = T::read_at(alloc, rest)?;
+        items.push(item)?;
+        rest = after;
+    }
+    Ok((items, rest))
+}
+
+/// A list after its count of one byte.
+pub fn short_list_at<T: Piece>(
+    alloc: Global,
+    size: usize,
+    bytes: &[u8],
+) -> Result<(Vec<T>, &[u8]), SiteBytesFault>
+    requires { 0 < size }
+    ensures reads { Gives (λ x. (x.0.items, x.1.now)) result (short_list_at T.reads bytes.now) }
+{
+    let (count, rest) = byte_at(bytes)?;
+    let (items, rest) = counted_at(alloc, usize::from(count), size, rest)?;
+    Ok((items, rest))
+}
+
+/// A list after its count of 16 bits.
+pub fn list16_at<T: Piece>(
+    alloc: Global,
+    size: usize,
+    bytes: &[u8],
+) -> Result<(Vec<T>, &[u8]), SiteBytesFault>
+    requires { 0 < size }
+    ensures reads { Gives (λ x. (x.0.items, x.1.now)) result (list_at w16 T.reads bytes.now) }
+{
+    let (count, rest) = u16_at(bytes)?;
+    let (items, rest) = counted_at(alloc, usize::from(count), size, rest)?;
+    Ok((items, rest))
+}
+
+/// A list after its count of 32 bits.
+pub fn list32_at<T: Piece>(
+    alloc: Global,
+    size: usize,
+    bytes: &[u8],
+) -> Result<(Vec<T>, &[u8]), SiteBytesFault>
+    requires { 0 < size }
+    ensures reads { Gives (λ x. (x.0.items, x.1.now)) result (list_at w32 T.reads bytes.now) }
+    ensures count { IfOk result (λ x. length x.0.items < 2 ^ 32) }
+{
+    let (count, rest) = u32_at(bytes)?;
+    let (items, rest) = counted_at(alloc, count as usize, size, rest)?;
+    Ok((items, rest))
+}
+
+/// A thing that may be missing.
+pub fn option_at<T: Piece>(
+    alloc: Global,
+    bytes: &[u8],
+) -> Result<(Option<T>, &[u8]), SiteBytesFault>
+    ensures reads { Gives (λ x. (x.0, x.1.now)) result (option_at T.reads bytes.now) }
+{
+    let (there, rest) = flag_at(bytes)?;
+    if !there {
+        return Ok((None, rest));
+    }
+    let (thing, rest) = T::read_at(alloc, rest)?;
+    Ok((Some(thing), rest))
+}

@@ -1,0 +1,150 @@
+//! Tanks at the front of bytes.
+
+ghost use Rattle.std.specs.Prelude.{◌≡◌, Ok, Err, if◌then◌else◌};
+ghost use Rattle.strap_table.specs.Faults.{first_fault};
+ghost use Rattle.site_decoding.specs.ByteReaders.{Gives};
+ghost use Rattle.site_decoding.specs.Decoding.{amount_at, have_none, shell_at, spec_at, table_at};
+
+use super::lists::{Piece, list16_at, option_at};
+use super::numbers::{
+    flag_at, height_at, natural16_at, natural32_at, signed64_at, temperature_at, u16_at, u32_at,
+};
+use crate::SiteBytesFault;
+use crate::SiteBytesFault::BadSite;
+use farm_fixed::{Amount, Kg, Shell};
+use site_items::Tank;
+use std::alloc::Global;
+use strap_table::{CapTable, Roof, TankSpec};
+
+impl Piece for Tank {
+    ghost use Rattle.site_decoding.specs.Decoding.{tank_at};
+
+    ghost reads = { tank_at };
+
+    #[tactic(auto, unfolding(crate::specs::Decoding::tank_at))]
+    fn read_at(alloc: Global, bytes: &[u8]) -> Result<(Tank, &[u8]), SiteBytesFault> {
+        let (number, rest) = u16_at(bytes)?;
+        let (product, rest) = u16_at(rest)?;
+        let (spec, rest) = match spec_at(alloc, rest) {
+            Ok(read) => read,
+            Err(fault) => return Err(fault),
+        };
+        let (table, rest) = table_at(alloc, rest)?;
+        let (opening, rest) = amount_at(rest)?;
+        let tank = Tank {
+            number,
+            product,
+            spec,
+            table,
+            opening,
+        };
+        Ok((tank, rest))
+    }
+}
+
+// What is fixed of a tank.
+#[tactic(auto, unfolding(crate::specs::Decoding::spec_at))]
+fn spec_at(alloc: Global, bytes: &[u8]) -> Result<(TankSpec, &[u8]), SiteBytesFault>
+    ensures reads { Gives (λ x. (x.0, x.1.now)) result (spec_at bytes.now) }
+{
+    let (shell, rest) = match shell_at(bytes) {
+        Ok(read) => read,
+        Err(fault) => return Err(fault),
+    };
+    let (height, rest) = match height_at(rest) {
+        Ok(read) => read,
+        Err(fault) => return Err(fault),
+    };
+    match option_at(alloc, rest) {
+        Ok((roof, rest)) => {
+            let spec = TankSpec {
+                shell,
+                height,
+                roof,
+            };
+            Ok((spec, rest))
+        }
+        Err(fault) => Err(fault),
+    }
+}
+
+// A shell.
+#[tactic(auto, unfolding(crate::specs::Decoding::shell_at))]
+fn shell_at(bytes: &[u8]) -> Result<(Shell, &[u8]), SiteBytesFault>
+    ensures reads { Gives (λ x. (x.0, x.1.now)) result (shell_at bytes.now) }
+{
+    let (insulated, rest) = flag_at(bytes)?;
+    let (coefficient, rest) = natural16_at(rest)?;
+    match temperature_at(rest) {
+        Ok((reference, rest)) => {
+            let shell = Shell {
+                insulated,
+                coefficient,
+                reference,
+            };
+            Ok((shell, rest))
+        }
+        Err(fault) => Err(fault),
+    }
+}
+
+impl Piece for Roof {
+    ghost use Rattle.site_decoding.specs.Decoding.{roof_at};
+
+    ghost reads = { roof_at };
+
+    #[tactic(auto, unfolding(crate::specs::Decoding::roof_at, crate::specs::ByteReaders::natural_at))]
+    fn read_at(_: Global, bytes: &[u8]) -> Result<(Roof, &[u8]), SiteBytesFault> {
+        let (mass, rest) = u32_at(bytes)?;
+        let mass = Kg::new(i64::from(mass)).unwrap();
+        let (low, rest) = match height_at(rest) {
+            Ok(read) => read,
+            Err(fault) => return Err(fault),
+        };
+        match height_at(rest) {
+            Ok((high, rest)) => Ok((Roof { mass, low, high }, rest)),
+            Err(fault) => Err(fault),
+        }
+    }
+}
+
+// A row of a capacity table, in litres.
+impl Piece for i64 {
+    ghost use Rattle.std.specs.Int.{w32};
+    ghost use Rattle.site_decoding.specs.ByteReaders.{natural_at};
+
+    ghost reads = { natural_at w32 };
+
+    fn read_at(_: Global, bytes: &[u8]) -> Result<(i64, &[u8]), SiteBytesFault> {
+        natural32_at(bytes)
+    }
+}
+
+// A capacity table.
+#[tactic(auto, unfolding(crate::specs::Decoding::table_at))]
+fn table_at(alloc: Global, bytes: &[u8]) -> Result<(CapTable, &[u8]), SiteBytesFault>
+    ensures reads { Gives (λ x. (x.0, x.1.now)) result (table_at bytes.now) }
+{
+    let (rows, rest) = list16_at::<i64>(alloc, 4, bytes)?;
+    Ok((table_of(rows)?, rest))
+}
+
+// The table of these rows, if they are one.
+fn table_of(rows: Vec<i64>) -> Result<CapTable, SiteBytesFault>
+    ensures table { result ≡ (if have_none (first_fault rows.items) then Ok rows.items else Err SiteBytesFault.BadSite) }
+{
+    match CapTable::from_rows(rows) {
+        Ok(table) => Ok(table),
+        Err(_) => Err(BadSite),
+    }
+}
+
+// An opening stock.
+#[tactic(auto, unfolding(crate::specs::Decoding::amount_at))]
+fn amount_at(bytes: &[u8]) -> Result<(Amount, &[u8]), SiteBytesFault>
+    ensures reads { Gives (λ x. (x.0, x.1.now)) result (amount_at bytes.now) }
+{
+    let (litres, rest) = signed64_at(bytes)?;
+    let (kg, rest) = signed64_at(rest)?;
+    Ok((Amount { litres, kg }, rest))
+}

@@ -1,7 +1,0 @@
-use Rattle.std.proofs.Common.{◌≡◌, drop}
-use Rattle.site_lines.specs.Gauges.{are_distinct}
-use Rattle.site_reading.proofs.sound.gauged.are_distinct.Given as goal
-
--- the rest of the numbers decides
-abbrev pub invariant-loop-index : goal.invariant-loop-index
-invariant-loop-index l = are_distinct (drop l.index l.numbers) ≡ are_distinct l.numbers

@@ -1,4 +1,0 @@
-pub mod ByteReaders
-pub mod Decoding
-pub mod Readers
-pub mod Parts
