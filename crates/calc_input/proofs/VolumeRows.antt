@@ -5,10 +5,10 @@ use Rattle.std.specs.Int.RustNames.{int_lt}
 use Rattle.strap_table.specs.Faults.{first_outside, first_falling, first_fault, falling_row, wrong_length}
 use Rattle.farm_fixed.specs.Range.{is_within}
 use Rattle.farm_fixed.specs.Parsing.{quantity_of}
-use Rattle.farm_fixed.specs.declared.limits.TheConstants.{MOST_LITRES}
+use Rattle.farm_fixed.specs.declared.limits.TheConstants.{LEAST_UNITS, MOST_LITRES, MOST_UNITS}
 use Rattle.strap_table.specs.declared.faults.TheConstants.{MOST_ROWS}
 use Rattle.std.specs.Result.{result_ok, MatchResult, IsOk}
-use Rattle.strap_table.specs.declared.fault.TableFault.{TableFault}
+use Rattle.strap_table.specs.declared.faults.TableFault.{TableFault}
 use Rattle.calc_input.specs.Lines.{line_at, words_of}
 use Rattle.calc_input.specs.Fields.{within, volume_of}
 use Rattle.calc_input.specs.TableRows.{volume_in, row_of, rows_from, rows_then, with_row}
@@ -79,7 +79,7 @@ kept_within least most row (Some value) kept = kept_if least most row value (is_
 volume_inside : (word : List ℕ) (row : ℤ) → volume_of word ≡ Some row → is_within (pos 0) MOST_LITRES row ≡ true
 unfolding volume_of
 volume_inside word row is =
-    kept_within (pos 0) MOST_LITRES row (result_ok (quantity_of 0 (negsuc 99999999999999999) (pos 100000000000000000) word)) is
+    kept_within (pos 0) MOST_LITRES row (result_ok (quantity_of 0 LEAST_UNITS MOST_UNITS word)) is
 
 -- the volume of a line is within the range of a capacity table
 pub in_words : (words : List (List ℕ)) (row : ℤ) → volume_in words ≡ Some row → is_within (pos 0) MOST_LITRES row ≡ true

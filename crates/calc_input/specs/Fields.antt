@@ -7,7 +7,7 @@ use Rattle.std.specs.Str.Parse.{digits_value}
 use Rattle.farm_base.specs.Options.{◌>>=◌}
 use Rattle.farm_fixed.specs.Range.{is_within}
 use Rattle.farm_fixed.specs.Parsing.{quantity_of}
-use Rattle.farm_fixed.specs.declared.limits.TheConstants.{MOST_COEFFICIENT, MOST_HEIGHT, MOST_LITRES, MOST_ROOF_MASS}
+use Rattle.farm_fixed.specs.declared.limits.TheConstants.{LEAST_DENSITY, LEAST_FACTOR, LEAST_TEMPERATURE, LEAST_UNITS, MOST_COEFFICIENT, MOST_DENSITY, MOST_FACTOR, MOST_HEIGHT, MOST_LITRES, MOST_ROOF_MASS, MOST_SHARE, MOST_TEMPERATURE, MOST_UNITS}
 use Rattle.calc_input.specs.declared.fields.TheConstants.{MOST_DIGITS}
 
 -- a value that is there and in the range
@@ -17,32 +17,27 @@ within least most (Some value) = if is_within least most value then Some value e
 
 -- a volume to calculate with: litres, up to 10^9
 unfoldable pub volume_of : List ℕ → Option ℤ
-volume_of word = within (pos 0) MOST_LITRES (result_ok (quantity_of 0 (negsuc 99999999999999999) (pos 100000000000000000) word))
+volume_of word = within (pos 0) MOST_LITRES (result_ok (quantity_of 0 LEAST_UNITS MOST_UNITS word))
 
 -- the mass of a floating roof: kilograms, up to 10^7
 unfoldable pub roof_of : List ℕ → Option ℤ
-roof_of word = within (pos 0) MOST_ROOF_MASS (result_ok (quantity_of 0 (negsuc 99999999999999999) (pos 100000000000000000) word))
+roof_of word = within (pos 0) MOST_ROOF_MASS (result_ok (quantity_of 0 LEAST_UNITS MOST_UNITS word))
 
 -- a temperature
 unfoldable pub temperature_of : List ℕ → Option ℤ
-temperature_of word = result_ok (quantity_of 2 (negsuc 9999) (pos 30000) word)
+temperature_of word = result_ok (quantity_of 2 LEAST_TEMPERATURE MOST_TEMPERATURE word)
 
 -- a density
 unfoldable pub density_of : List ℕ → Option ℤ
-density_of word = result_ok (quantity_of 1 (pos 4000) (pos 12000) word)
+density_of word = result_ok (quantity_of 1 LEAST_DENSITY MOST_DENSITY word)
 
 -- a volume correction factor
 unfoldable pub factor_of : List ℕ → Option ℤ
-factor_of word = result_ok (quantity_of 5 (pos 50000) (pos 150000) word)
+factor_of word = result_ok (quantity_of 5 LEAST_FACTOR MOST_FACTOR word)
 
 -- a share of sediment and water
 unfoldable pub share_of : List ℕ → Option ℤ
-share_of word = result_ok (quantity_of 3 (pos 0) (pos 100000) word)
-
--- whether a shell is insulated
-unfoldable pub shell_of : List ℕ → Option Bool
-shell_of word =
-    if bytes_eq word (codes "bare") then Some false else (if bytes_eq word (codes "insulated") then Some true else None)
+share_of word = result_ok (quantity_of 3 (pos 0) MOST_SHARE word)
 
 -- a number that is written as 1 to 20 decimal digits
 unfoldable pub digits_of : List ℕ → Option ℕ

@@ -7,7 +7,8 @@ use Rattle.farm_fixed.specs.Range.{IsWithin}
 use Rattle.farm_fixed.specs.declared.limits.TheConstants.{MOST_COEFFICIENT, MOST_ROOF_MASS}
 use Rattle.strap_table.specs.declared.tank.Roof.{Roof}
 use Rattle.calc_input.specs.declared.levels_line.Levels.{Levels}
-use Rattle.calc_input.specs.Fields.{word_at, height_of, roof_of, temperature_of, density_of, share_of, shell_of, coefficient_of}
+use Rattle.farm_fixed.specs.Shells.{insulated_of}
+use Rattle.calc_input.specs.Fields.{word_at, height_of, roof_of, temperature_of, density_of, share_of, coefficient_of}
 
 -- a roof whose critical zone isn't upside down
 abbrev pub zoned : ℤ → ℤ → ℤ → Option Roof
@@ -18,7 +19,7 @@ unfoldable pub level_fields : List (List ℕ) → Option Levels
 level_fields words = do
   level ← height_of (word_at words 1)
   water ← height_of (word_at words 2)
-  insulated ← shell_of (word_at words 3)
+  insulated ← insulated_of (word_at words 3)
   liquid ← temperature_of (word_at words 4)
   ambient ← temperature_of (word_at words 5)
   reference ← temperature_of (word_at words 6)

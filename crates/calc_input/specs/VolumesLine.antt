@@ -5,14 +5,15 @@ use Rattle.farm_base.specs.Options.{◌>>=◌}
 use Rattle.farm_fixed.specs.Range.{IsWithin}
 use Rattle.farm_fixed.specs.declared.limits.TheConstants.{MOST_COEFFICIENT, MOST_LITRES, MOST_ROOF_MASS}
 use Rattle.calc_input.specs.declared.volumes_line.Volumes.{Volumes}
-use Rattle.calc_input.specs.Fields.{word_at, volume_of, roof_of, temperature_of, density_of, factor_of, share_of, shell_of, coefficient_of}
+use Rattle.farm_fixed.specs.Shells.{insulated_of}
+use Rattle.calc_input.specs.Fields.{word_at, volume_of, roof_of, temperature_of, density_of, factor_of, share_of, coefficient_of}
 
 -- the eleven fields after the name of the form
 unfoldable pub fields_of : List (List ℕ) → Option Volumes
 fields_of words = do
   tov ← volume_of (word_at words 1)
   fw ← volume_of (word_at words 2)
-  insulated ← shell_of (word_at words 3)
+  insulated ← insulated_of (word_at words 3)
   liquid ← temperature_of (word_at words 4)
   ambient ← temperature_of (word_at words 5)
   reference ← temperature_of (word_at words 6)

@@ -4,7 +4,7 @@ ghost use Rattle.std.specs.Prelude.{◌≡◌, ◌<◌, ◌≤◌, IfSome, IsTru
 ghost use Rattle.farm_fixed.specs.Range.{IsWithin};
 ghost use Rattle.std.specs.Str.{all_ascii_digits};
 ghost use Rattle.std.specs.Str.Parse.{digits_value};
-ghost use Rattle.calc_input.specs.Fields.{coefficient_of, density_of, digits_of, factor_of, roof_of, shell_of, share_of, temperature_of, volume_of, height_of, word_at};
+ghost use Rattle.calc_input.specs.Fields.{coefficient_of, density_of, digits_of, factor_of, roof_of, share_of, temperature_of, volume_of, height_of, word_at};
 
 use farm_base::is_all_digits;
 use farm_fixed::{
@@ -70,17 +70,6 @@ pub fn share_of(word: &[u8]) -> Option<Permil5>
     ensures { result ≡ share_of word.now }
 {
     Permil5::read(word).ok()
-}
-
-/// Whether a shell is insulated.
-#[tactic(auto, unfolding(crate::specs::Fields::shell_of))]
-pub fn shell_of(word: &[u8]) -> Option<bool>
-    ensures { result ≡ shell_of word.now }
-{
-    if word == b"bare".as_slice() {
-        return Some(false);
-    }
-    (word == b"insulated".as_slice()).then_some(true)
 }
 
 /// A height.

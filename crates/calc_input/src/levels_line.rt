@@ -4,9 +4,9 @@ ghost use Rattle.std.specs.Prelude.{◌≡◌, ◌≤◌, length, map, ◌≤ℤ
 ghost use Rattle.calc_input.specs.LevelsLine.{IsGauged, level_fields, levels_of, zoned};
 
 use crate::fields::{
-    coefficient_of, density_of, height_of, roof_of, share_of, shell_of, temperature_of, word_at,
+    coefficient_of, density_of, height_of, roof_of, share_of, temperature_of, word_at,
 };
-use farm_fixed::{Kg, Mm, Reading, Sample, Shell};
+use farm_fixed::{Kg, Mm, Reading, Sample, Shell, insulated_of};
 use strap_table::Roof;
 
 /// What a line of levels says.
@@ -44,7 +44,7 @@ impl Levels {
     {
         let level = height_of(word_at(words, 1))?;
         let water = height_of(word_at(words, 2))?;
-        let insulated = shell_of(word_at(words, 3))?;
+        let insulated = insulated_of(word_at(words, 3))?;
         let liquid = temperature_of(word_at(words, 4))?;
         let ambient = temperature_of(word_at(words, 5))?;
         let reference = temperature_of(word_at(words, 6))?;

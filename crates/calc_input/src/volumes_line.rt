@@ -4,10 +4,9 @@ ghost use Rattle.std.specs.Prelude.{◌≡◌, ◌≤◌, length, map, IfSome};
 ghost use Rattle.calc_input.specs.VolumesLine.{IsCalculable, fields_of, volumes_of};
 
 use crate::fields::{
-    coefficient_of, density_of, factor_of, roof_of, share_of, shell_of, temperature_of, volume_of,
-    word_at,
+    coefficient_of, density_of, factor_of, roof_of, share_of, temperature_of, volume_of, word_at,
 };
-use farm_fixed::{Centi, Fac5, Kg, Litres, Sample, Shell};
+use farm_fixed::{Centi, Fac5, Kg, Litres, Sample, Shell, insulated_of};
 
 /// What a line of observed volumes says.
 #[derive(Clone, Copy, Debug, PartialEq, Eq)]
@@ -52,7 +51,7 @@ impl Volumes {
     {
         let tov = volume_of(word_at(words, 1))?;
         let fw = volume_of(word_at(words, 2))?;
-        let insulated = shell_of(word_at(words, 3))?;
+        let insulated = insulated_of(word_at(words, 3))?;
         let liquid = temperature_of(word_at(words, 4))?;
         let ambient = temperature_of(word_at(words, 5))?;
         let reference = temperature_of(word_at(words, 6))?;

@@ -13,7 +13,7 @@ use Rattle.farm_history.specs.declared.verdict.Verdict.TheVariants.{Repeat, Refu
 use Rattle.farm_history.specs.Commands.{is_stop}
 use Rattle.farm_history.specs.Desk.{Answered, answered_on, desk_answer, looked_up, reply_at, stamped}
 use Rattle.farm_history.specs.History.{History, last_place, with_entry}
-use Rattle.farm_history.specs.Rules.{broken_rule, history_full, is_full, is_repeat, key_reused, same_key}
+use Rattle.farm_history.specs.Rules.{broken_rule, history_full, is_full, is_repeat, key_reused, has_same_key}
 use Rattle.farm_history.specs.Verdicts.{is_accepted, refused_or_accepted, repeated_or, verdict}
 use Rattle.farm_http.specs.Requests.{ask_of_line}
 use Rattle.farm_http.specs.declared.page.Page.TheVariants as pages
@@ -30,7 +30,7 @@ without_clock answer = record { page = answer.page; history = without_moments an
 -- whether the key stands in the history doesn't depend on the moments
 same_keys : (history : History) (entry : Entry) → key_reused (without_moments history) (without_moment entry) ≡ key_reused history entry
 unfolding key_reused
-same_keys history entry = ap (option_map KeyReused) (place_of_image without_moment (same_key entry) 1 history.entries)
+same_keys history entry = ap (option_map KeyReused) (place_of_image without_moment (has_same_key entry) 1 history.entries)
 
 -- whether the history is full doesn't depend on the moments
 same_room : (limit : ℕ) (history : History) (command : Command) → history_full limit (without_moments history) command ≡ history_full limit history command

@@ -155,7 +155,7 @@ same_calculated_in : (history : History) (gauged : Gauged) (tank : Tank) (produc
     calculated_in (without_moments history) gauged tank product ≡ calculated_in history gauged tank product
 same_calculated_in history gauged tank product =
     ap₂ (λ recorded sampled. option_and_then (λ reading.
-    option_map (λ sample. calculated_quantities history.site.rounds tank.spec tank.table product.vcf reading sample) sampled) recorded)
+    option_map (λ sample. calculated_quantities history.site.rounding tank.spec tank.table product.vcf reading sample) sampled) recorded)
     (same_reading history gauged.reading) (same_sample history gauged.sample)
 
 -- the calculation on what is named for a tank

@@ -11,7 +11,7 @@ ghost use Rattle.farm_history.specs.Conservation.{Moves};
 ghost use Rattle.farm_history.specs.Desk.{looked_up, reply_at};
 ghost use Rattle.farm_history.specs.History.{IsMoment, IsWellFormed, empty_history, last_moment, last_place, tank_after, with_entry};
 ghost use Rattle.farm_history.specs.Postings.{postings_at};
-ghost use Rattle.farm_history.specs.Rules.{same_key};
+ghost use Rattle.farm_history.specs.Rules.{has_same_key};
 ghost use Rattle.farm_history.specs.Stocks.{book_of, total_of};
 ghost use Rattle.farm_history.specs.Verdicts.{IsLegal, IsNext, IsVerdict, verdict};
 ghost use Rattle.farm_history.specs.declared.limits.TheConstants.{GREATEST_LIMIT, STOPS_BEYOND_LIMIT};
@@ -96,7 +96,7 @@ impl<const LIMIT: usize> Book<LIMIT> {
         ensures ticket { IsTrue (issues_ticket entry.cmd) → IsTicketReply self.new.history (last_place self.new.history) result }
         ensures gain { IsTrue (is_settle entry.cmd) → IsGainReply self.new.history (last_place self.new.history) result }
         ensures placed { IsFalse (issues_ticket entry.cmd) → IsFalse (is_settle entry.cmd) → result ≡ Reply.Placed (last_place self.new.history) }
-        ensures once { All (λ other. IsFalse (same_key entry other)) self.old.history.entries }
+        ensures once { All (λ other. IsFalse (has_same_key entry other)) self.old.history.entries }
         ensures books { (tank : ℕ) → book_of self.new.history tank ≡ option_map (λ book. plus book (amount_of (at_tank tank (postings_at self.new.history (last_place self.new.history))))) (book_of self.old.history tank) }
         ensures total { Moves (postings_at self.new.history (last_place self.new.history)) (total_of self.old.history) (total_of self.new.history) }
         ensures spare { self.new.spare + 1 ≡ self.old.spare }

@@ -4,12 +4,12 @@ ghost use Rattle.std.specs.Prelude.{◌≡◌, ◌+◌, ◌≤◌, ℕ, if◌the
 ghost use Rattle.std.specs.List.{list_any};
 ghost use Rattle.farm_base.specs.Steps.{or_else};
 ghost use Rattle.farm_entries.specs.Pasts.{IsReadable, history_of};
-ghost use Rattle.farm_history.specs.Commands.{IsWellFormedCommand, same_command, tanks_given};
+ghost use Rattle.farm_history.specs.Commands.{IsWellFormedCommand, is_same_command, tanks_given};
 ghost use Rattle.farm_history.specs.Fields.{first_bad_field};
 ghost use Rattle.farm_history.specs.Gauging.{gauging_after};
 ghost use Rattle.farm_history.specs.History.{tank_after};
 ghost use Rattle.farm_history.specs.Places.{first_place};
-ghost use Rattle.farm_history.specs.Rules.{broken_by_command, is_full, is_missing, is_repeat, refused_gauging, same_key, unknown_tank};
+ghost use Rattle.farm_history.specs.Rules.{broken_by_command, is_full, is_missing, is_repeat, refused_gauging, has_same_key, unknown_tank};
 ghost use Rattle.farm_history.specs.Verdicts.{verdict};
 ghost use Rattle.farm_history.specs.declared.limits.TheConstants.{GREATEST_LIMIT, STOPS_BEYOND_LIMIT};
 
@@ -56,7 +56,7 @@ fn places_of(entries: &[Entry], entry: &Entry) -> Places
     requires few { length entries.now ≤ GREATEST_LIMIT + STOPS_BEYOND_LIMIT }
     ensures repeat { result.repeat ≡ first_place (is_repeat entry.now) entries.now }
     ensures within { IfSome result.repeat (λ place. (1 ≤ place) × (place ≤ length entries.now)) }
-    ensures used { result.repeat ≡ None → result.used ≡ first_place (same_key entry.now) entries.now }
+    ensures used { result.repeat ≡ None → result.used ≡ first_place (has_same_key entry.now) entries.now }
 {
     let mut used = None;
     for (index, other) in entries.iter().enumerate() {
@@ -67,7 +67,7 @@ fn places_of(entries: &[Entry], entry: &Entry) -> Places
                 used,
             };
         }
-        used = first_use(used, place, same_key(entry, other));
+        used = first_use(used, place, has_same_key(entry, other));
     }
     Places { repeat: None, used }
 }
@@ -87,20 +87,20 @@ fn first_use(used: Option<u32>, place: u32, here: bool) -> Option<u32>
 fn is_repeat(entry: &Entry, other: &Entry) -> bool
     ensures repeat { result ≡ is_repeat entry.now other.now }
 {
-    same_key(entry, other) && same_command(&other.cmd, &entry.cmd)
+    has_same_key(entry, other) && is_same_command(&other.cmd, &entry.cmd)
 }
 
 // Whether two commands are the same in each field.
-#[tactic(auto, unfolding(farm_history::specs::Commands::same_command))]
-fn same_command(command: &Command, other: &Command) -> bool
-    ensures same { result ≡ same_command command.now other.now }
+#[tactic(auto, unfolding(farm_history::specs::Commands::is_same_command))]
+fn is_same_command(command: &Command, other: &Command) -> bool
+    ensures same { result ≡ is_same_command command.now other.now }
 {
     command == other
 }
 
 // Whether another entry has the account and the key of an entry.
-fn same_key(entry: &Entry, other: &Entry) -> bool
-    ensures key { result ≡ same_key entry.now other.now }
+fn has_same_key(entry: &Entry, other: &Entry) -> bool
+    ensures key { result ≡ has_same_key entry.now other.now }
 {
     other.account == entry.account && other.key == entry.key
 }
@@ -179,5 +179,5 @@ fn refused_gauging(past: &Past<'_>, command: &Command) -> Option<Rule>
     ensures refused { result ≡ option_and_then refused_gauging (gauging_after (history_of past.now.site.now past.now.entries.now) command.now) }
 {
     let tank = past.site.tank(tank_of(command)?)?;
-    farm_entries::refused_gauging(&past.site.rounds, tank, command)
+    farm_entries::refused_gauging(&past.site.rounding, tank, command)
 }

@@ -4,7 +4,6 @@
 //! each under "Custody calculation". Each figure is computed from the rounded figures before it.
 #![tactic(auto)]
 
-mod in_range;
 mod reading;
 mod steps;
 mod volumes;

@@ -7,7 +7,6 @@ ghost use Rattle.farm_chain.specs.Volumes.{AreInRange};
 ghost use Rattle.farm_chain.specs.Reading.{IsFloatingRoof, calculated_quantities, carried, correction_factor, floating_mass, free_water, total_observed, volume_at};
 
 use crate::figures;
-use crate::in_range::kilograms;
 use farm_fixed::{ChainRule, Fac5, Kg, Litres, Mm, Quantities, Reading, Sample};
 use farm_rounding::{FACTOR_TIES, RoundTable, TABLE_VOLUME};
 use farm_vcf::Vcf;
@@ -21,18 +20,18 @@ pub fn quantities(
     tank: &TankSpec,
     table: &CapTable,
     vcf: &Vcf,
-    rounds: &RoundTable,
+    rounding: &RoundTable,
     reading: &Reading,
     sample: &Sample,
 ) -> Result<Quantities, ChainRule>
     requires coefficient { IsWithin (pos 0) MOST_COEFFICIENT tank.now.shell.coefficient }
     requires roof { IfSome tank.now.roof IsFloatingRoof }
     ensures range { IfOk result AreInRange }
-    ensures quantities { result ≡ calculated_quantities rounds.now tank.now table.now vcf.now reading.now sample.now }
+    ensures quantities { result ≡ calculated_quantities rounding.now tank.now table.now vcf.now reading.now sample.now }
 {
-    let tov = total_observed(table, rounds, reading)?;
-    let fw = free_water(table, rounds, reading)?;
-    let factor = correction_factor(vcf, rounds, reading, sample)?;
+    let tov = total_observed(table, rounding, reading)?;
+    let fw = free_water(table, rounding, reading)?;
+    let factor = correction_factor(vcf, rounding, reading, sample)?;
     let floating = floating_mass(tank, reading.level)?;
     figures(
         tov,
@@ -43,7 +42,7 @@ pub fn quantities(
         floating,
         sample,
         factor,
-        rounds,
+        rounding,
     )
 }
 
@@ -118,7 +117,7 @@ fn floating_mass(tank: &TankSpec, level: Mm) -> Result<Kg, ChainRule>
     ensures range { IfOk result (IsWithin (pos 0) MOST_ROOF_MASS) }
 {
     match &tank.roof {
-        None => Ok(kilograms(0)),
+        None => Ok(Kg::in_range(0)),
         Some(roof) => carried(roof, level),
     }
 }
@@ -130,7 +129,7 @@ fn carried(roof: &Roof, level: Mm) -> Result<Kg, ChainRule>
     ensures range { IfOk result (IsWithin (pos 0) MOST_ROOF_MASS) }
 {
     if level.get() < roof.low.get() {
-        return Ok(kilograms(0));
+        return Ok(Kg::in_range(0));
     }
     if level.get() > roof.high.get() {
         return Ok(roof.mass);

@@ -6,7 +6,6 @@ ghost use Rattle.farm_fixed.specs.Range.{IsWithin};
 ghost use Rattle.farm_fixed.specs.declared.limits.TheConstants.{MOST_COEFFICIENT, MOST_LITRES, MOST_ROOF_MASS};
 ghost use Rattle.farm_chain.specs.Steps.{gross_observed, gross_standard, mass_of, net_standard, roof_adjustment, shell_correction, shell_difference, shell_growth};
 
-use crate::in_range::{factor, kilograms, litres};
 use farm_fixed::{Centi, Dens, Fac5, Kg, Litres, Permil5, Shell};
 use farm_rounding::{
     GROSS_OBSERVED, GROSS_STANDARD, MASS, NET_STANDARD, ROOF_ADJUSTMENT, RoundTable,
@@ -83,7 +82,7 @@ pub fn shell_correction(rounding: &RoundTable, shell: &Shell, liquid: Centi, amb
     ensures { result ≡ shell_correction rounding.now shell.now liquid ambient }
 {
     let growth = shell_growth(shell, liquid, ambient);
-    factor(rounding.round(
+    Fac5::in_range(rounding.round(
         SHELL_CORRECTION,
         hundred_thousand_squares(growth),
         64_000_000_000_000_000_000,
@@ -99,11 +98,11 @@ pub fn roof_adjustment(rounding: &RoundTable, floating: Kg, density: Dens, vcf: 
     ensures never_adds { result ≤ℤ pos 0 }
 {
     if floating.get() == 0 {
-        return litres(0);
+        return Litres::in_range(0);
     }
     let mass = product::<10_000_000, 1_000_000_000>(floating.get(), 1_000_000_000);
     let observed = product::<12_000, 150_000>(density.get(), vcf.get());
-    litres(negated(rounding.round(ROOF_ADJUSTMENT, mass, observed)))
+    Litres::in_range(negated(rounding.round(ROOF_ADJUSTMENT, mass, observed)))
 }
 
 /// GOV, the gross observed volume: the volume above the water at the shell's temperature, and the roof's adjustment.
@@ -125,7 +124,7 @@ pub fn gross_observed(
     let above_water = difference(tov.get(), fw.get());
     let observed = product::<1_000_000_000, 150_000>(above_water, ctsh.get());
     let roof = product::<10_000_000_000_000_100, 100_000>(fra.get(), 100_000);
-    litres(rounding.round(GROSS_OBSERVED, sum(observed, roof), 100_000))
+    Litres::in_range(rounding.round(GROSS_OBSERVED, sum(observed, roof), 100_000))
 }
 
 /// GSV, the gross standard volume.
@@ -136,7 +135,7 @@ pub fn gross_standard(rounding: &RoundTable, gov: Litres, vcf: Fac5) -> Litres
     ensures range { IsWithin (pos 0) (pos 2250000250) result }
 {
     let observed = product::<1_500_000_100, 150_000>(gov.get(), vcf.get());
-    litres(rounding.round(GROSS_STANDARD, observed, 100_000))
+    Litres::in_range(rounding.round(GROSS_STANDARD, observed, 100_000))
 }
 
 /// NSV, the net standard volume: the gross one less sediment and water.
@@ -148,7 +147,7 @@ pub fn net_standard(rounding: &RoundTable, gsv: Litres, sw: Permil5) -> Litres
 {
     let clean = difference(100_000, sw.get());
     let net = product::<2_250_000_250, 100_000>(gsv.get(), clean);
-    litres(rounding.round(NET_STANDARD, net, 100_000))
+    Litres::in_range(rounding.round(NET_STANDARD, net, 100_000))
 }
 
 /// SWV, the volume of sediment and water.
@@ -157,7 +156,7 @@ pub fn sediment_and_water(gsv: Litres, nsv: Litres) -> Litres
     requires nsv { IsWithin (pos 0) (pos 2250000350) nsv }
     ensures { result ≡ gsv -ℤ nsv }
 {
-    litres(difference(gsv.get(), nsv.get()) as i128)
+    Litres::in_range(i128::from(difference(gsv.get(), nsv.get())))
 }
 
 /// The mass of a net standard volume in vacuum.
@@ -168,5 +167,5 @@ pub fn mass_of(rounding: &RoundTable, nsv: Litres, density: Dens) -> Kg
     ensures range { IsWithin (pos 0) (pos 2700000520) result }
 {
     let tenths = product::<2_250_000_350, 12_000>(nsv.get(), density.get());
-    kilograms(rounding.round(MASS, tenths, 10_000))
+    Kg::in_range(rounding.round(MASS, tenths, 10_000))
 }

@@ -28,17 +28,17 @@ pub fn figures(
     floating: Kg,
     sample: &Sample,
     vcf: Fac5,
-    rounds: &RoundTable,
+    rounding: &RoundTable,
 ) -> Result<Quantities, ChainRule>
     requires tov { IsWithin (pos 0) MOST_LITRES tov }
     requires fw { IsWithin (pos 0) MOST_LITRES fw }
     requires coefficient { IsWithin (pos 0) MOST_COEFFICIENT shell.now.coefficient }
     requires floating { IsWithin (pos 0) MOST_ROOF_MASS floating }
-    ensures figures { result ≡ calculated_figures rounds.now tov fw shell.now liquid ambient floating sample.now vcf }
+    ensures figures { result ≡ calculated_figures rounding.now tov fw shell.now liquid ambient floating sample.now vcf }
     ensures range { IfOk result AreInRange }
 {
-    let fra = roof_adjustment(rounds, floating, sample.density, vcf);
-    adjusted_figures(tov, fw, shell, liquid, ambient, fra, sample, vcf, rounds)
+    let fra = roof_adjustment(rounding, floating, sample.density, vcf);
+    adjusted_figures(tov, fw, shell, liquid, ambient, fra, sample, vcf, rounding)
 }
 
 // The ten figures under the adjustment for a roof. This is the one body of them, whatever the roof's share is computed from.

@@ -9,7 +9,7 @@ use Rattle.csv.specs.declared.parser.State.{State}
 use Rattle.csv.specs.declared.reader.Reader.{Reader}
 use Rattle.csv.proofs.ReadFacts.{rows-end, rows-more}
 use Rattle.farm_csv.specs.Reader.{IsReading, bytes_left, fault_of, have_length, is_even_left, left_from, left_of}
-use Rattle.farm_csv.specs.Records.{equal_lengths}
+use Rattle.farm_csv.specs.Records.{have_equal_lengths}
 use Rattle.farm_csv.specs.Rows.{IsFaultOfLengths}
 use Rattle.farm_csv.proofs.NextRecords.{first_of, none_of}
 
@@ -28,7 +28,7 @@ taken_from s t before after y z p f unread more calm e is state rest =
 
 -- a record of the length that is due changes nothing of whether all are of one length
 even_on : (old new : Option ℕ) (f : List (List ℕ)) (more : List (List (List ℕ))) → IfSome old (λ e. new ≡ Some e) → new ≡ Some (length f) → have_length old (f ∷ more) ≡ have_length new more
-unfolding equal_lengths
+unfolding have_equal_lengths
 even_on None new f more kept is = rw is refl
 even_on (Some size) new f more kept is =
     let same : length f ≡ size = cc in
@@ -57,7 +57,7 @@ taken old new f reading flexible first read =
 
 -- no records are of one length
 even_none : (due : Option ℕ) → have_length due [] ≡ true
-unfolding equal_lengths
+unfolding have_equal_lengths
 even_none None = refl
 even_none (Some size) = refl
 

@@ -8,7 +8,7 @@ use Rattle.csv.specs.declared.error.ErrorKind.TheVariants as kind
 use Rattle.csv.specs.declared.parser.State.{State}
 use Rattle.csv.specs.declared.reader.Reader.{Reader}
 use Rattle.csv.specs.declared.reader.Trim.TheVariants as trim
-use Rattle.farm_csv.specs.Records.{all_of_length, equal_lengths}
+use Rattle.farm_csv.specs.Records.{have_this_length, have_equal_lengths}
 use Rattle.farm_csv.specs.declared.fault.CsvFault.{CsvFault}
 use Rattle.farm_csv.specs.declared.fault.CsvFault.TheVariants.{Uneven, NoMemory}
 
@@ -27,8 +27,8 @@ left_of reader = left_from (reader_state reader) (bytes_left reader)
 
 -- records have the length that is due, that of the first where none is
 abbrev pub have_length : Option ℕ → List (List (List ℕ)) → Bool
-have_length None records = equal_lengths records
-have_length (Some size) records = all_of_length size records
+have_length None records = have_equal_lengths records
+have_length (Some size) records = have_this_length size records
 
 -- the records that a reader has left have the length of those before
 abbrev pub is_even_left : Reader (Bor (List ℕ)) → Bool

@@ -7,11 +7,11 @@ abbrev pub records_of : List ℕ → List (List (List ℕ))
 records_of text = records default_config (strip_bom text)
 
 -- each record has this many fields
-abbrev pub all_of_length : ℕ → List (List (List ℕ)) → Bool
-all_of_length size [] = true
-all_of_length size (fields ∷ records) = length fields == size && all_of_length size records
+abbrev pub have_this_length : ℕ → List (List (List ℕ)) → Bool
+have_this_length size [] = true
+have_this_length size (fields ∷ records) = length fields == size && have_this_length size records
 
 -- each record has as many fields as the first
-unfoldable pub equal_lengths : List (List (List ℕ)) → Bool
-equal_lengths [] = true
-equal_lengths (fields ∷ records) = all_of_length (length fields) records
+unfoldable pub have_equal_lengths : List (List (List ℕ)) → Bool
+have_equal_lengths [] = true
+have_equal_lengths (fields ∷ records) = have_this_length (length fields) records

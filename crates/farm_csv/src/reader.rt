@@ -4,7 +4,7 @@ ghost use Rattle.std.specs.Prelude.{◌≡◌, ◌∷◌, [], true, false, IfErr
 ghost use Rattle.csv.specs.Reading.{error_kind};
 ghost use Rattle.csv.specs.Records.{fields_of};
 ghost use Rattle.farm_csv.specs.Reader.{IsReading, fault_of, is_even_left, left_of};
-ghost use Rattle.farm_csv.specs.Records.{equal_lengths, records_of};
+ghost use Rattle.farm_csv.specs.Records.{have_equal_lengths, records_of};
 ghost use Rattle.farm_csv.specs.Rows.{IsFaultOfLengths};
 
 use crate::CsvFault;
@@ -15,7 +15,7 @@ use std::alloc::Global;
 pub fn reader_of(alloc: Global, text: &[u8]) -> Reader<&[u8]>
     ensures reading { IsReading result }
     ensures left { left_of result ≡ records_of text.now }
-    ensures even { is_even_left result ≡ equal_lengths (records_of text.now) }
+    ensures even { is_even_left result ≡ have_equal_lengths (records_of text.now) }
 {
     ReaderBuilder::new()
         .has_headers(false)

@@ -3,7 +3,7 @@
 ghost use Rattle.std.specs.Prelude.{◌≡◌, ◌<◌, ◌^◌, ℕ, Err, List, length, MatchResult, Option};
 ghost use Rattle.csv.specs.Records.{fields_of};
 ghost use Rattle.farm_csv.specs.Reader.{IsReading, is_even_left, left_of};
-ghost use Rattle.farm_csv.specs.Records.{equal_lengths, records_of};
+ghost use Rattle.farm_csv.specs.Records.{have_equal_lengths, records_of};
 ghost use Rattle.farm_csv.specs.Rows.{AreRows, IsFaultOfRows, IsFirstNoRow, below_header};
 ghost use Rattle.farm_csv.specs.declared.fault.CsvFault.TheVariants.{NoRow};
 
@@ -29,8 +29,8 @@ pub trait RowOf {
 /// `Uneven` where a record has another number of fields than the header, wherever it stands; else `NoRow` at the first record
 /// that is no row.
 pub fn rows_below_header<R: RowOf>(alloc: Global, text: &[u8]) -> Result<Vec<R::Row>, CsvFault>
-    ensures rows { MatchResult result (λ rows. AreRows R.read (equal_lengths (records_of text.now)) (below_header (records_of text.now)) rows.items)
-        (IsFaultOfRows R.read (equal_lengths (records_of text.now)) (below_header (records_of text.now))) }
+    ensures rows { MatchResult result (λ rows. AreRows R.read (have_equal_lengths (records_of text.now)) (below_header (records_of text.now)) rows.items)
+        (IsFaultOfRows R.read (have_equal_lengths (records_of text.now)) (below_header (records_of text.now))) }
     ensures first { (n : ℕ) → result ≡ Err (NoRow n) → IsFirstNoRow R.read (below_header (records_of text.now)) n }
 {
     let mut reader = reader_of(alloc, text);

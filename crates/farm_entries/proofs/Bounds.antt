@@ -1,13 +1,16 @@
 -- How great sums and opposites of amounts are.
-use Rattle.std.proofs.Common.{ℕ, ◌+◌, ◌≤◌, arith}
+use Rattle.std.proofs.Common.{ℕ, suc, ◌+◌, ◌*◌, ◌^◌, ◌≤◌, ℤ, All, List, [], ◌∷◌, length, arith}
 use Rattle.std.proofs.lemmas.Int.{ints}
+use Rattle.std.specs.Int.RustNames.{unsigned_abs}
 use Rattle.farm_fixed.specs.declared.records.Amount.{Amount}
 use Rattle.farm_stock.specs.Books.{plus}
+use Rattle.farm_stock.specs.Sums.{AddUpTo, magnitudes}
+use Rattle.farm_stock.specs.declared.book.Book.{Book}
 use Rattle.farm_stock.proofs.Amounts.{magnitude_of_sum}
 use Rattle.farm_history.specs.Conservation.{IsBoundedBook, most_held}
 use Rattle.farm_history.specs.Postings.{less, opposite}
 use Rattle.farm_history.proofs.PostingSums.{nothing}
-use Rattle.farm_entries.specs.Bounds.{IsAtMost}
+use Rattle.farm_entries.specs.Bounds.{HoldAtMost, IsAtMost, most_posted}
 
 -- an amount is within a greater bound too
 pub at_most_more : (most greater : ℕ) (amount : Amount) → most ≤ greater → IsAtMost most amount → IsAtMost greater amount
@@ -39,3 +42,19 @@ held_at_most entries book bounded = record { litres = bounded.litres; kg = bound
 -- and what holds at most that is within its bound
 pub bounded_at : (entries : ℕ) (book : Amount) → IsAtMost (most_held entries) book → IsBoundedBook entries book
 bounded_at entries book small = record { litres = small.litres; kg = small.kg }
+
+-- the magnitudes of books that each hold at most this much add up to at most as many times that
+magnitudes_within : (unit : Amount → ℤ) (books : List Book) → All (λ book. unsigned_abs (unit book.amount) ≤ most_posted) books →
+    magnitudes unit books ≤ most_posted * length books
+magnitudes_within unit [] each = omega arith
+magnitudes_within unit (book ∷ books) each =
+    let first : unsigned_abs (unit book.amount) ≤ most_posted = each 0 book (omega arith) in
+    let rest = magnitudes_within unit books (λ index default below. each (suc index) default (omega arith)) in
+    omega (arith, first, rest)
+
+-- of as many books as a site may have tanks, the sums fit
+pub sums_fit : (books : List Book) → length books ≤ 64 → HoldAtMost most_posted books → AddUpTo (10 ^ 18) books
+sums_fit books few held =
+    let litres = magnitudes_within (λ amount. amount.litres) books (λ index default below. (held index default below).litres) in
+    let kg = magnitudes_within (λ amount. amount.kg) books (λ index default below. (held index default below).kg) in
+    record { litres = omega (arith, litres, few); kg = omega (arith, kg, few) }

@@ -4,6 +4,7 @@ use Rattle.std.specs.Prelude.{if◌then◌else◌, ◌==◌}
 use Rattle.std.specs.List.{list_all}
 use Rattle.std.proofs.lemmas.Bool.Decides.{nat_tests}
 use Rattle.farm_fixed.specs.Range.{is_within}
+use Rattle.farm_fixed.specs.declared.limits.TheConstants.{LEAST_DENSITY, LEAST_TEMPERATURE, MOST_DENSITY, MOST_HEIGHT, MOST_SHARE, MOST_TEMPERATURE}
 use Rattle.farm_history.specs.declared.few.Few.{Few}
 use Rattle.farm_history.specs.declared.command.Command.TheVariants.{Gauge, Dip, Sample}
 use Rattle.farm_history.specs.Commands.{numbers_of}
@@ -48,18 +49,18 @@ number_within least most number within = of_one (is_within least most number) (n
 
 -- the numbers of an automatic gauge are in their ranges
 pub record GaugeWithin (level water temperature ambient : ℤ) : Type 0 where
-  pub level_within : IsTrue (is_within (pos 0) (pos 50000) level)
-  pub water_within : IsTrue (is_within (pos 0) (pos 50000) water)
-  pub temperature_within : IsTrue (is_within (negsuc 9999) (pos 30000) temperature)
-  pub ambient_within : IsTrue (is_within (negsuc 9999) (pos 30000) ambient)
+  pub level_within : IsTrue (is_within (pos 0) MOST_HEIGHT level)
+  pub water_within : IsTrue (is_within (pos 0) MOST_HEIGHT water)
+  pub temperature_within : IsTrue (is_within LEAST_TEMPERATURE MOST_TEMPERATURE temperature)
+  pub ambient_within : IsTrue (is_within LEAST_TEMPERATURE MOST_TEMPERATURE ambient)
 
 -- the numbers of a dip are in their ranges, and it has a temperature
 pub record DipWithin (tapes water temps : List ℤ) (ambient : ℤ) : Type 0 where
-  pub tapes_within : IsTrue (list_all (λ number. is_within (pos 0) (pos 50000) number) tapes)
-  pub water_within : IsTrue (list_all (λ number. is_within (pos 0) (pos 50000) number) water)
-  pub temperatures_within : IsTrue (list_all (λ number. is_within (negsuc 9999) (pos 30000) number) temps)
+  pub tapes_within : IsTrue (list_all (λ number. is_within (pos 0) MOST_HEIGHT number) tapes)
+  pub water_within : IsTrue (list_all (λ number. is_within (pos 0) MOST_HEIGHT number) water)
+  pub temperatures_within : IsTrue (list_all (λ number. is_within LEAST_TEMPERATURE MOST_TEMPERATURE number) temps)
   pub some : 1 ≤ length temps
-  pub ambient_within : IsTrue (is_within (negsuc 9999) (pos 30000) ambient)
+  pub ambient_within : IsTrue (is_within LEAST_TEMPERATURE MOST_TEMPERATURE ambient)
 
 -- an automatic gauge of which no field is out of range
 pub gauge_within : (tank : ℕ) (level water temperature ambient : ℤ) → first_bad_field (Gauge tank level water temperature ambient) ≡ None →
@@ -68,10 +69,10 @@ unfolding first_bad_field
 gauge_within tank level water temperature ambient none =
     let each = none_found is_out_of_range 1 (fields_of (Gauge tank level water temperature ambient)) none in
     record {
-      level_within = number_within (pos 0) (pos 50000) level each.0;
-      water_within = number_within (pos 0) (pos 50000) water each.1.0;
-      temperature_within = number_within (negsuc 9999) (pos 30000) temperature each.1.1.0;
-      ambient_within = number_within (negsuc 9999) (pos 30000) ambient each.1.1.1.0;
+      level_within = number_within (pos 0) MOST_HEIGHT level each.0;
+      water_within = number_within (pos 0) MOST_HEIGHT water each.1.0;
+      temperature_within = number_within LEAST_TEMPERATURE MOST_TEMPERATURE temperature each.1.1.0;
+      ambient_within = number_within LEAST_TEMPERATURE MOST_TEMPERATURE ambient each.1.1.1.0;
     }
 
 -- a dip of which no field is out of range
@@ -85,13 +86,13 @@ dip_within tank outage tapes water temps ambient none =
       water_within = numbers_within (heights false (numbers_of water)) each.1.0;
       temperatures_within = numbers_within (temperatures (numbers_of temps)) each.1.1.0;
       some = not_empty (length (numbers_of temps)) (neither _ _ each.1.1.0).1;
-      ambient_within = number_within (negsuc 9999) (pos 30000) ambient each.1.1.1.0;
+      ambient_within = number_within LEAST_TEMPERATURE MOST_TEMPERATURE ambient each.1.1.1.0;
     }
 
 -- the numbers of a sample are in their ranges
 pub record SampleWithin (number sw : ℤ) : Type 0 where
-  pub density_within : IsTrue (is_within (pos 4000) (pos 12000) number)
-  pub sw_within : IsTrue (is_within (pos 0) (pos 100000) sw)
+  pub density_within : IsTrue (is_within LEAST_DENSITY MOST_DENSITY number)
+  pub sw_within : IsTrue (is_within (pos 0) MOST_SHARE sw)
 
 -- a sample of which no field is out of range
 pub sample_within : (tank : ℕ) (number sw : ℤ) → first_bad_field (Sample tank number sw) ≡ None → SampleWithin number sw
@@ -99,6 +100,6 @@ unfolding first_bad_field
 sample_within tank number sw none =
     let each = none_found is_out_of_range 1 (fields_of (Sample tank number sw)) none in
     record {
-      density_within = number_within (pos 4000) (pos 12000) number each.0;
-      sw_within = number_within (pos 0) (pos 100000) sw each.1.0;
+      density_within = number_within LEAST_DENSITY MOST_DENSITY number each.0;
+      sw_within = number_within (pos 0) MOST_SHARE sw each.1.0;
     }

@@ -35,7 +35,7 @@ impl Past<'_> {
         let entry = self.entry_at(place)?;
         let number = tank_of(&entry.cmd)?;
         let tank = self.site.tank(number)?;
-        match gauged(&self.site.rounds, tank.spec.height, &entry.cmd)? {
+        match gauged(&self.site.rounding, tank.spec.height, &entry.cmd)? {
             Ok(reading) => Some(reading),
             Err(_) => None,
         }
@@ -70,7 +70,7 @@ impl Past<'_> {
             &tank.spec,
             &tank.table,
             &product.vcf,
-            &self.site.rounds,
+            &self.site.rounding,
             &reading,
             &sample,
         ))

@@ -3,12 +3,12 @@
 ghost use Rattle.std.specs.Prelude.{◌≡◌, IsTrue, None, option_and_then, take, pos, negsuc};
 ghost use Rattle.std.specs.List.{list_all};
 ghost use Rattle.farm_fixed.specs.Range.{is_within};
-ghost use Rattle.farm_fixed.specs.declared.limits.TheConstants.{MOST_HEIGHT};
+ghost use Rattle.farm_fixed.specs.declared.limits.TheConstants.{LEAST_DENSITY, LEAST_TEMPERATURE, MOST_DENSITY, MOST_HEIGHT, MOST_SHARE, MOST_TEMPERATURE};
 ghost use Rattle.farm_readings.specs.Readings.{AreTemperatures, tape_reading};
 ghost use Rattle.farm_history.specs.Commands.{IsShortList, IsWellFormedCommand, numbers_of};
 ghost use Rattle.farm_history.specs.Fields.{first_bad_field};
 ghost use Rattle.farm_history.specs.Gauging.{dip_level, dip_reading, dip_water, gauge_reading, gauged, gauging_in, tapes_numbered};
-ghost use Rattle.farm_history.specs.Rules.{refused_gauging, refused_reading, top_of};
+ghost use Rattle.farm_history.specs.Rules.{refused_gauging, refused_reading};
 
 use farm_fixed::{Centi, Dens, Mm, Permil5, Reading, Sample};
 use farm_history::{
@@ -21,22 +21,22 @@ use strap_table::CapTable;
 
 /// Why a gauging in a tank is refused. A command that is no gauging isn't.
 #[tactic(auto, unfolding(farm_history::specs::Rules::refused_gauging))]
-pub fn refused_gauging(rounds: &RoundTable, tank: &Tank, command: &Command) -> Option<Rule>
+pub fn refused_gauging(rounding: &RoundTable, tank: &Tank, command: &Command) -> Option<Rule>
     requires well_formed { IsWellFormedCommand command.now }
     requires in_range { first_bad_field command.now ≡ None }
-    ensures refused_gauging { result ≡ option_and_then refused_gauging (gauging_in rounds.now command.now tank.now) }
+    ensures refused_gauging { result ≡ option_and_then refused_gauging (gauging_in rounding.now command.now tank.now) }
 {
-    match gauged(rounds, tank.spec.height, command)? {
+    match gauged(rounding, tank.spec.height, command)? {
         Ok(reading) => refused_reading(&tank.table, reading),
         Err(fault) => Some(Rule::Tape(fault)),
     }
 }
 
 /// What a gauging in a tank of this reference height gives.
-pub fn gauged(rounds: &RoundTable, height: Mm, command: &Command) -> Option<Result<Reading, u8>>
+pub fn gauged(rounding: &RoundTable, height: Mm, command: &Command) -> Option<Result<Reading, u8>>
     requires well_formed { IsWellFormedCommand command.now }
     requires in_range { first_bad_field command.now ≡ None }
-    ensures gauged { result ≡ gauged rounds.now height command.now }
+    ensures gauged { result ≡ gauged rounding.now height command.now }
 {
     match command {
         Command::Gauge {
@@ -46,7 +46,7 @@ pub fn gauged(rounds: &RoundTable, height: Mm, command: &Command) -> Option<Resu
             ambient,
             ..
         } => Some(Ok(gauge_reading(
-            rounds,
+            rounding,
             height_of(*level),
             height_of(*water),
             temperature_of(*temperature),
@@ -60,7 +60,7 @@ pub fn gauged(rounds: &RoundTable, height: Mm, command: &Command) -> Option<Resu
             ambient,
             ..
         } => Some(dip_reading(
-            rounds,
+            rounding,
             height,
             *outage,
             &heights_of(tapes)[..usize::from(tapes.count)],
@@ -75,18 +75,18 @@ pub fn gauged(rounds: &RoundTable, height: Mm, command: &Command) -> Option<Resu
 // The reading of an automatic gauge.
 #[tactic(auto, unfolding(farm_history::specs::Gauging::gauge_reading))]
 fn gauge_reading(
-    rounds: &RoundTable,
+    rounding: &RoundTable,
     level: Mm,
     water: Mm,
     temperature: Centi,
     ambient: Centi,
 ) -> Reading
-    ensures gauge_reading { result ≡ gauge_reading rounds.now level water temperature ambient }
+    ensures gauge_reading { result ≡ gauge_reading rounding.now level water temperature ambient }
 {
     Reading {
         level,
         water,
-        liquid: mean_temp(&[temperature], rounds),
+        liquid: mean_temp(&[temperature], rounding),
         ambient,
     }
 }
@@ -94,7 +94,7 @@ fn gauge_reading(
 // The reading of a dip, or the number of the first thing that is wrong with its tapes.
 #[tactic(auto, unfolding(farm_history::specs::Gauging::dip_reading))]
 fn dip_reading(
-    rounds: &RoundTable,
+    rounding: &RoundTable,
     height: Mm,
     outage: bool,
     tapes: &[Mm],
@@ -103,27 +103,27 @@ fn dip_reading(
     ambient: Centi,
 ) -> Result<Reading, u8>
     requires temperatures { AreTemperatures temperatures.now }
-    ensures dip_reading { result ≡ dip_reading rounds.now height outage tapes.now water.now temperatures.now ambient }
+    ensures dip_reading { result ≡ dip_reading rounding.now height outage tapes.now water.now temperatures.now ambient }
 {
-    let tape = tape_numbered::<TAPE_COUNT, TAPE_SPREAD>(rounds, tapes)?;
+    let tape = tape_numbered::<TAPE_COUNT, TAPE_SPREAD>(rounding, tapes)?;
     let level = dip_level(height, outage, tape)?;
-    let water = dip_water(rounds, water)?;
+    let water = dip_water(rounding, water)?;
     Ok(Reading {
         level,
         water,
-        liquid: mean_temp(temperatures, rounds),
+        liquid: mean_temp(temperatures, rounding),
         ambient,
     })
 }
 
 // The reading of tapes, or the number of what is wrong with them.
 fn tape_numbered<const COUNT: u8, const SPREAD: u8>(
-    rounds: &RoundTable,
+    rounding: &RoundTable,
     tapes: &[Mm],
 ) -> Result<Mm, u8>
-    ensures tape { result ≡ tapes_numbered COUNT SPREAD (tape_reading rounds.now tapes.now) }
+    ensures tape { result ≡ tapes_numbered COUNT SPREAD (tape_reading rounding.now tapes.now) }
 {
-    match tape(tapes, rounds) {
+    match tape(tapes, rounding) {
         Ok(reading) => Ok(reading),
         Err(TapeFault::Count) => Err(COUNT),
         Err(TapeFault::Spread) => Err(SPREAD),
@@ -144,35 +144,27 @@ fn dip_level(height: Mm, outage: bool, tape: Mm) -> Result<Mm, u8>
 }
 
 // The free water of a dip.
-fn dip_water(rounds: &RoundTable, tapes: &[Mm]) -> Result<Mm, u8>
-    ensures dip_water { result ≡ dip_water rounds.now tapes.now }
+fn dip_water(rounding: &RoundTable, tapes: &[Mm]) -> Result<Mm, u8>
+    ensures dip_water { result ≡ dip_water rounding.now tapes.now }
 {
     if tapes.is_empty() {
         return Ok(height_of(0));
     }
-    tape_numbered::<WATER_TAPE_COUNT, WATER_TAPE_SPREAD>(rounds, tapes)
+    tape_numbered::<WATER_TAPE_COUNT, WATER_TAPE_SPREAD>(rounding, tapes)
 }
 
 // Why a reading is refused: it is above the table, or its water above its level.
 fn refused_reading(table: &CapTable, reading: Reading) -> Option<Rule>
     ensures refused_reading { result ≡ refused_reading table.now reading }
 {
-    if top_of(table) < reading.level.get() {
+    let top = table.top() as i64;
+    if top < reading.level.get() {
         return Some(Rule::AboveTable);
     }
     if reading.level.get() < reading.water.get() {
         return Some(Rule::WaterAboveLevel);
     }
     None
-}
-
-// The height of the last row of a table, in mm.
-fn top_of(table: &CapTable) -> i64
-    ensures top { result ≡ top_of table.now }
-{
-    let rows = table.rows().len();
-    let top = 10 * (rows - 1);
-    top as i64
 }
 
 // The heights of a list of a command, and zeros after them.
@@ -191,7 +183,7 @@ fn heights_of(few: &Few) -> [Mm; 8]
 // The temperatures of a list of a command, and zeros after them.
 fn temperatures_of(few: &Few) -> [Centi; 8]
     requires short { IsShortList few.now }
-    requires in_range { IsTrue (list_all (λ number. is_within (negsuc 9999) (pos 30000) number) (numbers_of few.now)) }
+    requires in_range { IsTrue (list_all (λ number. is_within LEAST_TEMPERATURE MOST_TEMPERATURE number) (numbers_of few.now)) }
     ensures temperatures { take few.now.count result ≡ numbers_of few.now }
 {
     let mut temperatures = [temperature_of(0); 8];
@@ -206,26 +198,26 @@ fn height_of(number: i64) -> Mm
     requires { IsTrue (is_within (pos 0) MOST_HEIGHT number) }
     ensures height { result ≡ number }
 {
-    Mm::new(number).unwrap()
+    Mm::in_range(i128::from(number))
 }
 
 // A temperature that is known to be in range.
 fn temperature_of(number: i64) -> Centi
-    requires { IsTrue (is_within (negsuc 9999) (pos 30000) number) }
+    requires { IsTrue (is_within LEAST_TEMPERATURE MOST_TEMPERATURE number) }
     ensures temperature { result ≡ number }
 {
-    Centi::new(number).unwrap()
+    Centi::in_range(i128::from(number))
 }
 
 /// The sample of numbers that are known to be in range.
 pub fn sample_fields(density: i64, sw: i64) -> Sample
-    requires density { IsTrue (is_within (pos 4000) (pos 12000) density) }
-    requires sw { IsTrue (is_within (pos 0) (pos 100000) sw) }
+    requires density { IsTrue (is_within LEAST_DENSITY MOST_DENSITY density) }
+    requires sw { IsTrue (is_within (pos 0) MOST_SHARE sw) }
     ensures density { result.density ≡ density }
     ensures sw { result.sw ≡ sw }
 {
     Sample {
-        density: Dens::new(density).unwrap(),
-        sw: Permil5::new(sw).unwrap(),
+        density: Dens::in_range(i128::from(density)),
+        sw: Permil5::in_range(i128::from(sw)),
     }
 }

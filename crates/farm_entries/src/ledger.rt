@@ -9,7 +9,7 @@ ghost use Rattle.site_items.specs.declared.tanks.TheConstants.{MOST_TANKS};
 use crate::postings::Posted;
 use farm_fixed::Amount;
 use farm_site::Tank;
-use farm_stock::{Book, Posting, plus};
+use farm_stock::{Book, Posting, book_of, plus, total_of};
 use site_items::MOST_TANKS;
 use std::marker::Model;
 
@@ -112,29 +112,4 @@ fn post_one(books: &mut [Book], posting: &Posting)
             book.amount = plus(book.amount, posting.amount);
         }
     }
-}
-
-// What a tank holds by its book among these.
-fn book_of(books: &[Book], tank: u16) -> Option<Amount>
-    ensures book { result ≡ book_of tank books.now }
-{
-    for book in books {
-        if book.tank == tank {
-            return Some(book.amount);
-        }
-    }
-    None
-}
-
-// The sum of these books.
-fn total_of(books: &[Book]) -> Amount
-    requires few { length books.now ≤ MOST_TANKS }
-    requires books { HoldAtMost most_posted books.now }
-    ensures total { result ≡ total_of books.now }
-{
-    let mut total = Amount { litres: 0, kg: 0 };
-    for book in books {
-        total = plus(total, book.amount);
-    }
-    total
 }

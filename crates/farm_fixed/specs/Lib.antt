@@ -5,3 +5,4 @@ pub mod Parsing
 pub mod Numerals
 pub mod Printing
 pub mod Whole
+pub mod Shells

@@ -10,14 +10,20 @@ mod parsing;
 mod printing;
 mod quantity;
 mod records;
+mod shells;
 mod units;
 mod whole;
 
 pub use farm_base::NoMemory;
 pub use fault::{OutOfRange, ReadFault};
-pub use limits::{MOST_COEFFICIENT, MOST_HEIGHT, MOST_LITRES, MOST_ROOF_MASS};
+pub use limits::{
+    LEAST_DENSITY, LEAST_FACTOR, LEAST_TEMPERATURE, LEAST_UNITS, MOST_COEFFICIENT, MOST_DENSITY,
+    MOST_FACTOR, MOST_HEIGHT, MOST_LITRES, MOST_NET, MOST_ROOF_MASS, MOST_SHARE, MOST_TEMPERATURE,
+    MOST_TENTHS, MOST_UNITS,
+};
 pub use quantity::{Quantity, Unit};
 pub use records::{Amount, ChainRule, Quantities, Reading, Sample, Shell};
+pub use shells::insulated_of;
 pub use units::{
     Centi, Deci, Dens, Fac5, HundredThousandth, HundredthDegree, Kg, Kilogram, Litre, Litres,
     Millimetre, Mm, Permil5, TenthKilogramPerCubicMetre, TenthMillimetre, ThousandthPercent,

@@ -66,9 +66,20 @@ impl<U: Unit> Quantity<U> {
         })
     }
 
+    /// This many units, which are known to be in the range.
+    pub fn in_range(units: i128) -> Self
+        requires { IsWithin U.LEAST U.MOST units }
+        ensures units { result ≡ units }
+    {
+        Quantity {
+            value: units as i64,
+            unit: PhantomData,
+        }
+    }
+
     /// The number of units.
     pub fn get(self) -> i64
-        ensures value { result ≡ self }
+        ensures units { result ≡ self }
         ensures range { IsWithin U.LEAST U.MOST result }
     {
         self.value
@@ -78,7 +89,7 @@ impl<U: Unit> Quantity<U> {
     ///
     /// The faults are tested in the order of `ReadFault`.
     pub fn read(text: &[u8]) -> Result<Self, ReadFault>
-        ensures value { result ≡ quantity_of U.PLACES U.LEAST U.MOST text.now }
+        ensures quantity { result ≡ quantity_of U.PLACES U.LEAST U.MOST text.now }
         ensures meaning { IsReadAs U.PLACES U.LEAST U.MOST text.now result }
     {
         if text.is_empty() {

@@ -1,9 +1,13 @@
 //! The units: the range and the decimals of each, and the quantities in them.
 
-ghost use Rattle.std.specs.Prelude.{pos, negsuc};
+ghost use Rattle.std.specs.Prelude.{pos};
 ghost use Rattle.std.proofs.Common.{lit≤};
+ghost use Rattle.farm_fixed.specs.declared.limits.TheConstants.{LEAST_DENSITY, LEAST_FACTOR, LEAST_TEMPERATURE, LEAST_UNITS, MOST_DENSITY, MOST_FACTOR, MOST_HEIGHT, MOST_SHARE, MOST_TEMPERATURE, MOST_TENTHS, MOST_UNITS};
 
-use crate::{Quantity, Unit};
+use crate::{
+    LEAST_DENSITY, LEAST_FACTOR, LEAST_TEMPERATURE, LEAST_UNITS, MOST_DENSITY, MOST_FACTOR,
+    MOST_HEIGHT, MOST_SHARE, MOST_TEMPERATURE, MOST_TENTHS, MOST_UNITS, Quantity, Unit,
+};
 
 /// The unit of `Mm`: one millimetre.
 #[derive(Clone, Copy, Debug, PartialEq, Eq)]
@@ -15,7 +19,7 @@ pub type Mm = Quantity<Millimetre>;
 impl Unit for Millimetre {
     ghost LEAST = { pos 0 };
 
-    ghost MOST = { pos 50000 };
+    ghost MOST = { MOST_HEIGHT };
 
     ghost PLACES = { 0 };
 
@@ -23,7 +27,7 @@ impl Unit for Millimetre {
 
     const LEAST: i64 = 0;
 
-    const MOST: i64 = 50_000;
+    const MOST: i64 = MOST_HEIGHT;
 
     const PLACES: u8 = 0;
 }
@@ -38,7 +42,7 @@ pub type Deci = Quantity<TenthMillimetre>;
 impl Unit for TenthMillimetre {
     ghost LEAST = { pos 0 };
 
-    ghost MOST = { pos 5000000 };
+    ghost MOST = { MOST_TENTHS };
 
     ghost PLACES = { 1 };
 
@@ -46,7 +50,7 @@ impl Unit for TenthMillimetre {
 
     const LEAST: i64 = 0;
 
-    const MOST: i64 = 5_000_000;
+    const MOST: i64 = MOST_TENTHS;
 
     const PLACES: u8 = 1;
 }
@@ -59,15 +63,15 @@ pub struct HundredthDegree;
 pub type Centi = Quantity<HundredthDegree>;
 
 impl Unit for HundredthDegree {
-    ghost LEAST = { negsuc 9999 };
+    ghost LEAST = { LEAST_TEMPERATURE };
 
-    ghost MOST = { pos 30000 };
+    ghost MOST = { MOST_TEMPERATURE };
 
     ghost PLACES = { 2 };
 
-    const LEAST: i64 = -10_000;
+    const LEAST: i64 = LEAST_TEMPERATURE;
 
-    const MOST: i64 = 30_000;
+    const MOST: i64 = MOST_TEMPERATURE;
 
     const PLACES: u8 = 2;
 
@@ -82,15 +86,15 @@ pub struct TenthKilogramPerCubicMetre;
 pub type Dens = Quantity<TenthKilogramPerCubicMetre>;
 
 impl Unit for TenthKilogramPerCubicMetre {
-    ghost LEAST = { pos 4000 };
+    ghost LEAST = { LEAST_DENSITY };
 
-    ghost MOST = { pos 12000 };
+    ghost MOST = { MOST_DENSITY };
 
     ghost PLACES = { 1 };
 
-    const LEAST: i64 = 4_000;
+    const LEAST: i64 = LEAST_DENSITY;
 
-    const MOST: i64 = 12_000;
+    const MOST: i64 = MOST_DENSITY;
 
     const PLACES: u8 = 1;
 
@@ -105,15 +109,15 @@ pub struct HundredThousandth;
 pub type Fac5 = Quantity<HundredThousandth>;
 
 impl Unit for HundredThousandth {
-    ghost LEAST = { pos 50000 };
+    ghost LEAST = { LEAST_FACTOR };
 
-    ghost MOST = { pos 150000 };
+    ghost MOST = { MOST_FACTOR };
 
     ghost PLACES = { 5 };
 
-    const LEAST: i64 = 50_000;
+    const LEAST: i64 = LEAST_FACTOR;
 
-    const MOST: i64 = 150_000;
+    const MOST: i64 = MOST_FACTOR;
 
     const PLACES: u8 = 5;
 
@@ -130,13 +134,13 @@ pub type Permil5 = Quantity<ThousandthPercent>;
 impl Unit for ThousandthPercent {
     ghost LEAST = { pos 0 };
 
-    ghost MOST = { pos 100000 };
+    ghost MOST = { MOST_SHARE };
 
     ghost PLACES = { 3 };
 
     const LEAST: i64 = 0;
 
-    const MOST: i64 = 100_000;
+    const MOST: i64 = MOST_SHARE;
 
     const PLACES: u8 = 3;
 
@@ -151,15 +155,15 @@ pub struct Litre;
 pub type Litres = Quantity<Litre>;
 
 impl Unit for Litre {
-    ghost LEAST = { negsuc 99999999999999999 };
+    ghost LEAST = { LEAST_UNITS };
 
-    ghost MOST = { pos 100000000000000000 };
+    ghost MOST = { MOST_UNITS };
 
     ghost PLACES = { 0 };
 
-    const LEAST: i64 = -100_000_000_000_000_000;
+    const LEAST: i64 = LEAST_UNITS;
 
-    const MOST: i64 = 100_000_000_000_000_000;
+    const MOST: i64 = MOST_UNITS;
 
     const PLACES: u8 = 0;
 
@@ -174,15 +178,15 @@ pub struct Kilogram;
 pub type Kg = Quantity<Kilogram>;
 
 impl Unit for Kilogram {
-    ghost LEAST = { negsuc 99999999999999999 };
+    ghost LEAST = { LEAST_UNITS };
 
-    ghost MOST = { pos 100000000000000000 };
+    ghost MOST = { MOST_UNITS };
 
     ghost PLACES = { 0 };
 
-    const LEAST: i64 = -100_000_000_000_000_000;
+    const LEAST: i64 = LEAST_UNITS;
 
-    const MOST: i64 = 100_000_000_000_000_000;
+    const MOST: i64 = MOST_UNITS;
 
     const PLACES: u8 = 0;
 

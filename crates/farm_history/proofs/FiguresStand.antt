@@ -145,18 +145,18 @@ computed limit history pair computable legal sound =
     let tank = recorded.of_site in
     let known = tank_found (IsComputable history.site) history.site.tanks pair.tank recorded.of_site computable recorded.tank_is in
     let product = product_found history.site.products tank.product known.product in
-    let result = calculated_quantities history.site.rounds tank.spec tank.table product.0.vcf recorded.reading sampled.0 in
+    let result = calculated_quantities history.site.rounding tank.spec tank.table product.0.vcf recorded.reading sampled.0 in
     let of_tank : Tank → Option (Result Quantities ChainRule) =
     λ t. option_and_then (calculated_in history pair.gauged t) (product_numbered t.product history.site.products) in
     let of_both : Option Reading → Option Sample → Option (Result Quantities ChainRule) = λ readings samples.
     option_and_then (λ reading.
-    option_map (λ sample. calculated_quantities history.site.rounds tank.spec tank.table product.0.vcf reading sample) samples)
+    option_map (λ sample. calculated_quantities history.site.rounding tank.spec tank.table product.0.vcf reading sample) samples)
     readings in
     let there : calculated_at history pair ≡ Some result =
     ap (option_and_then of_tank) recorded.tank_is ∙ ap (option_and_then (calculated_in history pair.gauged tank)) product.1
     ∙ ap₂ of_both recorded.recorded sampled.1 in
     figures_of_tests history pair result there
-    (ordinary_quantities history.site.rounds tank product.0 recorded.reading sampled.0 known.table recorded.covers) sound
+    (ordinary_quantities history.site.rounding tank product.0 recorded.reading sampled.0 known.table recorded.covers) sound
 
 -- an entry's place is within the history
 pub within_of : (history : History) (place : ℕ) (entry : Entry) → entry_at history place ≡ Some entry → place ≤ last_place history
@@ -191,7 +191,7 @@ calculated_stays history more pair reading sample =
     option_and_then (λ (tank : Tank).
     option_and_then (λ (product : Product).
     option_and_then (λ reading.
-    option_map (λ sample. calculated_quantities history.site.rounds tank.spec tank.table product.vcf reading sample) samples)
+    option_map (λ sample. calculated_quantities history.site.rounding tank.spec tank.table product.vcf reading sample) samples)
     readings)
     (product_numbered tank.product history.site.products))
     (tank_numbered pair.tank history.site.tanks) in

@@ -1,15 +1,16 @@
 -- The rules of gaugings: the definition answers exactly where the entry breaks one of them in its own words.
-use Rattle.std.proofs.Common.{◌≡◌, ℕ, ◌<◌, ◌≤◌, Bool, true, false, if◌then◌else◌, Option, Some, None, option_and_then, Result, Ok, Err, ℤ, ◌<ℤ◌, int_lt, refl, ap, subst, arith}
+use Rattle.std.proofs.Common.{◌≡◌, ℕ, ◌<◌, ◌≤◌, Bool, true, false, if◌then◌else◌, Option, Some, None, option_and_then, Result, Ok, Err, ℤ, pos, ◌<ℤ◌, int_lt, refl, ap, subst, arith}
 use Rattle.std.proofs.lemmas.Int.{ints}
 use Rattle.farm_base.proofs.BoolTests.{int_lt-true}
 use Rattle.farm_fixed.specs.declared.records.Reading.{Reading}
+use Rattle.strap_table.specs.Capacity.{top_of}
 use Rattle.farm_history.specs.declared.entry.Entry.{Entry}
 use Rattle.farm_history.specs.declared.rule.Rule.{Rule}
 use Rattle.farm_history.specs.declared.rule.Rule.TheVariants.{Tape, AboveTable, WaterAboveLevel}
 use Rattle.farm_history.specs.Gauging.{Gauging, gauging_after}
 use Rattle.farm_history.specs.History.{History}
 use Rattle.farm_history.specs.RuleTable.{rule_number}
-use Rattle.farm_history.specs.Rules.{refused_gauging, refused_in, refused_reading, top_of}
+use Rattle.farm_history.specs.Rules.{refused_gauging, refused_in, refused_reading}
 use Rattle.farm_history.specs.Breaking.{Breaks, HasFaultyTapes, HasReading}
 use Rattle.farm_history.proofs.Says.{Says}
 
@@ -58,7 +59,7 @@ there_of history entry gauging reading holds read other =
 
 -- the level is above the table's last row
 abbrev is_above : Gauging → Reading → Type 0
-is_above gauging reading = top_of gauging.tank.table <ℤ reading.level
+is_above gauging reading = pos (top_of gauging.tank.table) <ℤ reading.level
 
 -- the water is above the level
 abbrev is_water_above : Gauging → Reading → Type 0
@@ -97,9 +98,9 @@ before_table limit history entry gauging reading rule read above within broken =
 reading_says : (limit : ℕ) (history : History) (entry : Entry) (gauging : Gauging) (reading : Reading) → IsRead history entry gauging reading →
     Says (Breaks limit history entry) 5 8 (refused_reading gauging.tank.table reading)
 reading_says limit history entry gauging reading read =
-    by (int_lt (top_of gauging.tank.table) reading.level) (int_lt reading.level reading.water) refl refl
+    by (int_lt (pos (top_of gauging.tank.table)) reading.level) (int_lt reading.level reading.water) refl refl
   where
-    by : (high wet : Bool) → int_lt (top_of gauging.tank.table) reading.level ≡ high → int_lt reading.level reading.water ≡ wet →
+    by : (high wet : Bool) → int_lt (pos (top_of gauging.tank.table)) reading.level ≡ high → int_lt reading.level reading.water ≡ wet →
         Says (Breaks limit history entry) 5 8 (if high then Some AboveTable else (if wet then Some WaterAboveLevel else None))
     by true wet high_is wet_is = record {
       broken = record {
@@ -107,7 +108,7 @@ reading_says limit history entry gauging reading read =
         of_command = read.of_command;
         reading = reading;
         given = read.given;
-        there = int_lt-true (top_of gauging.tank.table) reading.level high_is;
+        there = int_lt-true (pos (top_of gauging.tank.table)) reading.level high_is;
       };
       above = omega arith;
       within = omega arith;
@@ -124,11 +125,11 @@ reading_says limit history entry gauging reading read =
       above = omega arith;
       within = omega arith;
       before = λ earlier above within.
-          before_water limit history entry gauging reading earlier read (not_less (top_of gauging.tank.table) reading.level high_is) above within;
+          before_water limit history entry gauging reading earlier read (not_less (pos (top_of gauging.tank.table)) reading.level high_is) above within;
     }
     by false false high_is wet_is = record {
       kept = λ rule above within.
-          reading_kept limit history entry gauging reading rule read (not_less (top_of gauging.tank.table) reading.level high_is)
+          reading_kept limit history entry gauging reading rule read (not_less (pos (top_of gauging.tank.table)) reading.level high_is)
           (not_less reading.level reading.water wet_is) above within;
     }
 

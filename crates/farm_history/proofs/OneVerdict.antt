@@ -20,7 +20,7 @@ use Rattle.farm_history.specs.MovementRules.{settled_later, stale_for}
 use Rattle.farm_history.specs.Movements.{IsHeldBy, holding_movement, last_settlement}
 use Rattle.farm_history.specs.Places.{IsFirstPlace}
 use Rattle.farm_history.specs.RuleTable.{rule_number, rule_value}
-use Rattle.farm_history.specs.Rules.{is_repeat, same_key}
+use Rattle.farm_history.specs.Rules.{is_repeat, has_same_key}
 use Rattle.farm_history.specs.Tickets.{tanks_of_ticket}
 use Rattle.farm_history.specs.Verdicts.{IsFirstBroken, IsVerdict}
 use Rattle.farm_history.proofs.Given.{one_such}
@@ -109,7 +109,7 @@ one_rule : (limit : ℕ) (history : History) (entry : Entry) (first second : Rul
 one_rule limit history entry (KeyReused place) second here there same =
     let is : KeyReused (rule_value second) ≡ second = numbered_so 1 second (sym same) (omega arith) in
     let again = subst (Breaks limit history entry) (sym is) there in
-    ap {B = Rule} KeyReused (one_place (same_key entry) history.entries place (rule_value second) here again) ∙ is
+    ap {B = Rule} KeyReused (one_place (has_same_key entry) history.entries place (rule_value second) here again) ∙ is
 one_rule limit history entry (OutOfRange field) second here there same =
     let is : OutOfRange (rule_value second) ≡ second = numbered_so 5 second (sym same) (omega arith) in
     let again = subst (Breaks limit history entry) (sym is) there in

@@ -8,6 +8,7 @@ use Rattle.std.proofs.lemmas.List.Elements.{All-head, All-tail}
 use Rattle.farm_base.specs.Steps.{◌>>=◌}
 use Rattle.farm_fixed.specs.Range.{is_within}
 use Rattle.farm_fixed.specs.declared.records.Reading.{Reading}
+use Rattle.farm_fixed.specs.declared.limits.TheConstants.{MOST_HEIGHT}
 use Rattle.farm_readings.specs.Readings.{are_close, mean_temperature, tape_reading}
 use Rattle.farm_readings.specs.declared.tapes.TapeFault.{TapeFault}
 use Rattle.farm_readings.specs.declared.tapes.TapeFault.TheVariants.{Count, Spread}
@@ -16,6 +17,7 @@ use Rattle.farm_rounding.specs.Table.{Row, rounded, row_at}
 use Rattle.farm_rounding.specs.declared.mode.Mode.{Mode}
 use Rattle.farm_rounding.specs.declared.table.TheConstants.{TAPE_MEAN}
 use Rattle.site_items.specs.declared.records.Tank.{Tank}
+use Rattle.strap_table.specs.Capacity.{top_of}
 use Rattle.farm_history.specs.declared.command.Command.{Command}
 use Rattle.farm_history.specs.declared.command.Command.TheVariants.{Gauge, Dip}
 use Rattle.farm_history.specs.declared.few.Few.{Few}
@@ -26,7 +28,7 @@ use Rattle.farm_history.specs.Fields.{Field, fields_of, first_bad_field, heights
 use Rattle.farm_history.specs.Gauging.{dip_level, dip_reading, dip_water, gauge_reading, gauging_after, gauging_in, tapes_numbered}
 use Rattle.farm_history.specs.History.{History, tank_after}
 use Rattle.farm_history.specs.Places.{first_place}
-use Rattle.farm_history.specs.Rules.{is_missing, out_of_range, refused_gauging, refused_reading, top_of, unknown_tank}
+use Rattle.farm_history.specs.Rules.{is_missing, out_of_range, refused_gauging, refused_reading, unknown_tank}
 use Rattle.farm_history.proofs.Accepted.{IsKept, test_fails}
 use Rattle.farm_history.proofs.Places.{none_before}
 
@@ -38,10 +40,10 @@ nearest_low mode (negsuc n) d step low = absurd (omega (arith, ints, low))
 
 -- each number of a list is from 0 to 50,000
 abbrev are_heights : List ℤ → Bool
-are_heights numbers = list_all (λ number. is_within (pos 0) (pos 50000) number) numbers
+are_heights numbers = list_all (λ number. is_within (pos 0) MOST_HEIGHT number) numbers
 
 -- a height isn't below zero
-height_low : (n : ℤ) → is_within (pos 0) (pos 50000) n ≡ true → pos 0 ≤ℤ n
+height_low : (n : ℤ) → is_within (pos 0) MOST_HEIGHT n ≡ true → pos 0 ≤ℤ n
 height_low n e =
     let parts = and_parts (not (int_lt n (pos 0))) (not (int_lt (pos 50000) n)) e in
     let low = not-true (int_lt n (pos 0)) parts.0 in
@@ -67,12 +69,12 @@ mean_low rounding first second third a b c =
 tapes_low : (rounding : List Row) (tapes : List ℤ) (reading : ℤ) → are_heights tapes ≡ true → tape_reading rounding tapes ≡ Ok reading →
     pos 0 ≤ℤ reading
 tapes_low rounding (first ∷ second ∷ []) reading heights e =
-    let parts = and_parts (is_within (pos 0) (pos 50000) first) (are_heights (second ∷ [])) heights in
+    let parts = and_parts (is_within (pos 0) MOST_HEIGHT first) (are_heights (second ∷ [])) heights in
     taped_low (int_eq first second) first reading (height_low first parts.0) e
 tapes_low rounding (first ∷ second ∷ third ∷ []) reading heights e =
-    let parts = and_parts (is_within (pos 0) (pos 50000) first) (are_heights (second ∷ third ∷ [])) heights in
-    let others = and_parts (is_within (pos 0) (pos 50000) second) (are_heights (third ∷ [])) parts.1 in
-    let last = and_parts (is_within (pos 0) (pos 50000) third) (are_heights []) others.1 in
+    let parts = and_parts (is_within (pos 0) MOST_HEIGHT first) (are_heights (second ∷ third ∷ [])) heights in
+    let others = and_parts (is_within (pos 0) MOST_HEIGHT second) (are_heights (third ∷ [])) parts.1 in
+    let last = and_parts (is_within (pos 0) MOST_HEIGHT third) (are_heights []) others.1 in
     taped_low (are_close first second third) (rounded rounding TAPE_MEAN (first +ℤ second +ℤ third) 3) reading
     (mean_low rounding first second third (height_low first parts.0) (height_low second others.0) (height_low third last.0)) e
 tapes_low rounding [] reading heights e = cc
@@ -147,13 +149,13 @@ field_heights needed numbers e =
 pub record Covers (tank : Tank) (reading : Reading) : Type 0 where
   pub low : pos 0 ≤ℤ reading.water
   pub order : reading.water ≤ℤ reading.level
-  pub top : reading.level ≤ℤ top_of tank.table
+  pub top : reading.level ≤ℤ pos (top_of tank.table)
 
 -- a reading that isn't refused is covered
 covered : (tank : Tank) (reading : Reading) → refused_reading tank.table reading ≡ None → pos 0 ≤ℤ reading.water → Covers tank reading
-covered tank reading e low = by (int_lt (top_of tank.table) reading.level) (int_lt reading.level reading.water) refl refl e
+covered tank reading e low = by (int_lt (pos (top_of tank.table)) reading.level) (int_lt reading.level reading.water) refl refl e
   where
-    by : (a b : Bool) → int_lt (top_of tank.table) reading.level ≡ a → int_lt reading.level reading.water ≡ b →
+    by : (a b : Bool) → int_lt (pos (top_of tank.table)) reading.level ≡ a → int_lt reading.level reading.water ≡ b →
         (if a then Some AboveTable else (if b then Some WaterAboveLevel else None)) ≡ None → Covers tank reading
     by true b h k e = cc
     by false true h k e = cc
@@ -206,12 +208,12 @@ unfolding gauging_after gauge_reading
 gauge_covered history number level water temperature ambient kept =
     let command = Gauge number level water temperature ambient in
     let tank = found_tank history command number refl kept.tank in
-    let reading = gauge_reading history.site.rounds level water temperature ambient in
+    let reading = gauge_reading history.site.rounding level water temperature ambient in
     let fine = second_in_range command (heights true (level ∷ [])) (heights true (water ∷ []))
     (temperatures (temperature ∷ []) ∷ temperatures (ambient ∷ []) ∷ []) kept.range refl in
-    let within = and_parts (is_within (pos 0) (pos 50000) water) true (field_heights true (water ∷ []) fine) in
+    let within = and_parts (is_within (pos 0) MOST_HEIGHT water) true (field_heights true (water ∷ []) fine) in
     gauging_covered history number tank.0 (Ok reading) command tank.1
-    (ap (option_and_then (gauging_in history.site.rounds command)) tank.1) kept.gauging
+    (ap (option_and_then (gauging_in history.site.rounding command)) tank.1) kept.gauging
     (λ other same. let one : reading ≡ other = cc in subst (λ (r : Reading). pos 0 ≤ℤ r.water) one (height_low water within.0))
 
 -- a dip that breaks no rule is covered
@@ -220,18 +222,18 @@ dip_covered : (history : History) (number : ℕ) (outage : Bool) (tapes water te
 unfolding gauging_after
 dip_covered history number outage tapes water temps ambient kept =
     let command = Dip number outage tapes water temps ambient in
-    let rounds = history.site.rounds in
+    let rounding = history.site.rounding in
     let tank = found_tank history command number refl kept.tank in
     let fine = second_in_range command (heights false (numbers_of tapes)) (heights false (numbers_of water))
     (temperatures (numbers_of temps) ∷ temperatures (ambient ∷ []) ∷ []) kept.range refl in
     let within = field_heights false (numbers_of water) fine in
     let height = tank.0.spec.height in
     gauging_covered history number tank.0
-    (dip_reading rounds height outage (numbers_of tapes) (numbers_of water) (numbers_of temps) ambient) command tank.1
-    (ap (option_and_then (gauging_in rounds command)) tank.1) kept.gauging
+    (dip_reading rounding height outage (numbers_of tapes) (numbers_of water) (numbers_of temps) ambient) command tank.1
+    (ap (option_and_then (gauging_in rounding command)) tank.1) kept.gauging
     (λ reading e.
-    water_low rounds (numbers_of water) reading.water within
-    (dip_has_water rounds height outage (numbers_of tapes) (numbers_of water) (numbers_of temps) ambient reading e))
+    water_low rounding (numbers_of water) reading.water within
+    (dip_has_water rounding height outage (numbers_of tapes) (numbers_of water) (numbers_of temps) ambient reading e))
 
 -- a gauging of a tank that breaks no rule is covered
 pub covered_gauging : (history : History) (tank : ℕ) (command : Command) → is_gauging_of tank command ≡ true → IsKept history command →

@@ -11,11 +11,11 @@ use Rattle.farm_history.specs.declared.reply.Reply.{Reply}
 use Rattle.farm_history.specs.declared.rule.Rule.{Rule}
 use Rattle.farm_history.specs.declared.rule.Rule.TheVariants.{KeyReused}
 use Rattle.farm_history.specs.declared.verdict.Verdict.TheVariants.{Repeat, Accept}
-use Rattle.farm_history.specs.Commands.{same_command}
+use Rattle.farm_history.specs.Commands.{is_same_command}
 use Rattle.farm_history.specs.Desk.{Answered, answered_on, desk_answer, reply_at, reply_of, stamped}
 use Rattle.farm_history.specs.History.{History, followed_by, last_place, with_entry}
 use Rattle.farm_history.specs.Places.{first_place}
-use Rattle.farm_history.specs.Rules.{broken_by_command, broken_rule, history_full, is_repeat, key_reused, same_key}
+use Rattle.farm_history.specs.Rules.{broken_by_command, broken_rule, history_full, is_repeat, key_reused, has_same_key}
 use Rattle.farm_history.specs.Verdicts.{IsLegal, refused_or_accepted, repeated_or, verdict}
 use Rattle.farm_history.proofs.Places.{none_before, place_after}
 use Rattle.farm_history.proofs.Accepted.{unbroken}
@@ -41,21 +41,21 @@ no_key (Some place) none = cc
 
 -- where no rule is broken, the key is new
 key_new : (limit : ℕ) (history : History) (entry : Entry) → broken_rule limit history entry ≡ None →
-    first_place (same_key entry) history.entries ≡ None
+    first_place (has_same_key entry) history.entries ≡ None
 unfolding broken_rule key_reused
 key_new limit history entry none =
-    let key = first_place (same_key entry) history.entries in
+    let key = first_place (has_same_key entry) history.entries in
     let rest = or_else (history_full limit history entry.cmd) (broken_by_command history entry.cmd) in
     no_key key (or_else-none (option_map KeyReused key) rest none).0
 
 -- no entry has the account and the key of an accepted one
 pub new_key : (limit : ℕ) (history : History) (entry : Entry) → verdict limit history entry ≡ Accept →
-    All (λ other. IsFalse (same_key entry other)) history.entries
+    All (λ other. IsFalse (has_same_key entry other)) history.entries
 new_key limit history entry accepted =
-    none_before (same_key entry) history.entries (key_new limit history entry (unbroken limit history entry accepted))
+    none_before (has_same_key entry) history.entries (key_new limit history entry (unbroken limit history entry accepted))
 
 -- an account and a key are the same from both sides
-keys_turn : (first second : Entry) → IsTrue (same_key first second) → IsTrue (same_key second first)
+keys_turn : (first second : Entry) → IsTrue (has_same_key first second) → IsTrue (has_same_key second first)
 keys_turn first second same =
     let parts = and_parts (second.account == first.account) (second.key == first.key) same in
     and_from (first.account == second.account) (first.key == second.key)
@@ -68,28 +68,28 @@ first_contained item items = (0, omega arith, refl)
 
 -- no entry before an accepted one has its account and key
 none_same : (limit : ℕ) (history : History) (entry other : Entry) (front back : List Entry) → verdict limit history entry ≡ Accept →
-    history.entries ≡ front ++ other ∷ back → IsFalse (same_key entry other)
+    history.entries ≡ front ++ other ∷ back → IsFalse (has_same_key entry other)
 none_same limit history entry other front back accepted split =
     let apart = new_key limit history entry accepted in
     let contained = Contains-append_right front (other ∷ back) other (first_contained other back) in
-    All-contains (λ item. IsFalse (same_key entry item)) history.entries other apart
+    All-contains (λ item. IsFalse (has_same_key entry item)) history.entries other apart
     (subst (λ items. Contains items other) (sym split) contained)
 
 -- under one account and key a legal history has one entry at most
 pub keys_act_once : (limit : ℕ) (history : History) (front middle back : List Entry) (first second : Entry) →
-    IsLegal limit history → history.entries ≡ front ++ first ∷ (middle ++ second ∷ back) → ¬ (IsTrue (same_key first second))
+    IsLegal limit history → history.entries ≡ front ++ first ∷ (middle ++ second ∷ back) → ¬ (IsTrue (has_same_key first second))
 keys_act_once limit history front middle back first second legal split same =
     let joined : history.entries ≡ (front ++ first ∷ middle) ++ second ∷ back =
     split ∙ sym (append_assoc front (first ∷ middle) (second ∷ back)) in
     let next = legal (front ++ first ∷ middle) back second joined in
     let before : History = record { site = history.site; entries = front ++ first ∷ middle } in
-    both_ways (same_key second first) (none_same limit before second first front middle next.accepted refl) (keys_turn first second same)
+    both_ways (has_same_key second first) (none_same limit before second first front middle next.accepted refl) (keys_turn first second same)
 
 -- a request is a repeat of the entry that it was accepted as
 repeats_itself : (history later : History) (caller again account key : ℕ) (now then : ℤ) (command : Command) →
     IsTrue (is_repeat (stamped later again then account key command) (stamped history caller now account key command))
 repeats_itself history later caller again account key now then command =
-    and_from (account == account && key == key) (same_command command command)
+    and_from (account == account && key == key) (is_same_command command command)
     (and_from (account == account) (key == key) (eq-eqb account account refl) (eq-eqb key key refl))
     ((commands_decided command command).1 refl)
 

@@ -14,7 +14,7 @@ use Rattle.farm_history.specs.Fields.{fields_of, first_bad_field, is_out_of_rang
 use Rattle.farm_history.specs.History.{History, last_place, tank_after}
 use Rattle.farm_history.specs.Places.{first_place}
 use Rattle.farm_history.specs.RuleTable.{rule_number}
-use Rattle.farm_history.specs.Rules.{history_full, is_full, is_missing, key_reused, out_of_range, same_key, unknown_tank}
+use Rattle.farm_history.specs.Rules.{history_full, is_full, is_missing, key_reused, out_of_range, has_same_key, unknown_tank}
 use Rattle.farm_history.specs.Breaking.{Breaks, IsFull, NamesNoTank}
 use Rattle.farm_history.proofs.Given.{any_passed, passed}
 use Rattle.farm_history.proofs.OneRule.{test_says, value_says}
@@ -22,21 +22,21 @@ use Rattle.farm_history.proofs.Places.{found_place, place_of}
 use Rattle.farm_history.proofs.Says.{Says}
 
 -- rule 1 is kept where the key is new
-key_kept : (limit : ℕ) (history : History) (entry : Entry) (rule : Rule) → first_place (same_key entry) history.entries ≡ None →
+key_kept : (limit : ℕ) (history : History) (entry : Entry) (rule : Rule) → first_place (has_same_key entry) history.entries ≡ None →
     0 < rule_number rule → rule_number rule ≤ 1 → ¬ (Breaks limit history entry rule)
 key_kept limit history entry (KeyReused place) new above within broken =
-    let found = place_of (same_key entry) history.entries place broken in cc
+    let found = place_of (has_same_key entry) history.entries place broken in cc
 key_kept limit history entry rule new above within broken = absurd (omega arith)
 
 -- rule 1: the account and the key stand in the history, at this place first
 pub key_says : (limit : ℕ) (history : History) (entry : Entry) → Says (Breaks limit history entry) 0 1 (key_reused history entry)
 unfolding key_reused
-key_says limit history entry = by (first_place (same_key entry) history.entries) refl
+key_says limit history entry = by (first_place (has_same_key entry) history.entries) refl
   where
-    by : (o : Option ℕ) → first_place (same_key entry) history.entries ≡ o → Says (Breaks limit history entry) 0 1 (option_map KeyReused o)
+    by : (o : Option ℕ) → first_place (has_same_key entry) history.entries ≡ o → Says (Breaks limit history entry) 0 1 (option_map KeyReused o)
     by None e = record { kept = λ rule above within. key_kept limit history entry rule e above within }
     by (Some place) e = record {
-      broken = found_place (same_key entry) history.entries place e;
+      broken = found_place (has_same_key entry) history.entries place e;
       above = omega arith;
       within = omega arith;
       before = λ earlier above within. absurd (omega arith);

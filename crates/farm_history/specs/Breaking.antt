@@ -1,5 +1,5 @@
 -- What breaks each rule, in the words of the rule.
-use Rattle.std.specs.Prelude.{◌≡◌, ◌≢◌, ◌⊎◌, ℕ, ◌+◌, ◌<◌, ◌≤◌, All, Contains, IsFalse, IsTrue, map, Option, Some, None, Err, Ok, ◌<ℤ◌}
+use Rattle.std.specs.Prelude.{◌≡◌, ◌≢◌, ◌⊎◌, ℕ, ◌+◌, ◌<◌, ◌≤◌, All, Contains, IsFalse, IsTrue, map, Option, Some, None, Err, Ok, pos, ◌<ℤ◌}
 use Rattle.farm_fixed.specs.declared.records.ChainRule.{ChainRule}
 use Rattle.farm_fixed.specs.declared.records.ChainRule.TheVariants as refusals
 use Rattle.farm_fixed.specs.declared.records.Quantities.{Quantities}
@@ -10,6 +10,7 @@ use Rattle.farm_ticket.specs.declared.side.Way.{Way}
 use Rattle.farm_ticket.specs.declared.side.Way.TheVariants.{Inward, Outward}
 use Rattle.site_items.specs.Parties.{party_number}
 use Rattle.site_items.specs.declared.records.Tank.{Tank}
+use Rattle.strap_table.specs.Capacity.{top_of}
 use Rattle.farm_history.specs.declared.command.Command.{Command}
 use Rattle.farm_history.specs.declared.command.Command.TheVariants.{Opening, Closing, Reverse, Settle, Stop}
 use Rattle.farm_history.specs.declared.entry.Entry.{Entry}
@@ -29,7 +30,7 @@ use Rattle.farm_history.specs.History.{History, entry_at, last_place, tank_after
 use Rattle.farm_history.specs.MovementRules.{movement_named}
 use Rattle.farm_history.specs.Movements.{IsHeldBy, IsOpen, IsUsedLast, opened_at}
 use Rattle.farm_history.specs.Places.{IsFirstPlace, IsLastPlace}
-use Rattle.farm_history.specs.Rules.{same_key, top_of}
+use Rattle.farm_history.specs.Rules.{has_same_key}
 use Rattle.farm_history.specs.Tickets.{closing_ticket, tanks_of_ticket}
 
 -- the history doesn't take the command: it has its limit and the command is no Stop, or it has its limit and as many more as may be
@@ -202,13 +203,13 @@ pub record IsSettled (history : History) (place : ℕ) (ticket : ℕ) : Type 0 w
 
 -- an entry breaks a rule after a history that may have this many entries
 abbrev pub Breaks : ℕ → History → Entry → Rule → Type 0
-Breaks limit history entry (KeyReused place) = IsFirstPlace (same_key entry) history.entries place
+Breaks limit history entry (KeyReused place) = IsFirstPlace (has_same_key entry) history.entries place
 Breaks limit history entry HistoryFull = IsFull limit history entry
 Breaks limit history entry UnknownTank = NamesNoTank history entry
 Breaks limit history entry UnknownParty = NamesNoParty history entry.cmd
 Breaks limit history entry (OutOfRange field) = IsFirstBadField entry.cmd field
 Breaks limit history entry (Tape fault) = HasFaultyTapes history entry fault
-Breaks limit history entry AboveTable = HasReading history entry (λ gauging reading. top_of gauging.tank.table <ℤ reading.level)
+Breaks limit history entry AboveTable = HasReading history entry (λ gauging reading. pos (top_of gauging.tank.table) <ℤ reading.level)
 Breaks limit history entry WaterAboveLevel = HasReading history entry (λ gauging reading. reading.level <ℤ reading.water)
 Breaks limit history entry SameTank = OpensTransfer entry.cmd (λ from to. from ≡ to)
 Breaks limit history entry OtherProduct = OpensTransfer entry.cmd (HoldDifferent history)

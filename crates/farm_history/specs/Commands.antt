@@ -34,53 +34,53 @@ IsWellFormedCommand (Settle tank gauged) = Unit {0}
 IsWellFormedCommand Stop = Unit {0}
 
 -- two short lists are the same in their counts and in each of their eight numbers
-abbrev pub same_list : Few → Few → Bool
-same_list few other = few.count == other.count && pointwise int_eq few.values other.values
+abbrev pub is_same_list : Few → Few → Bool
+is_same_list few other = few.count == other.count && pointwise int_eq few.values other.values
 
 -- two dips are both of outages or both of innages
-abbrev pub same_kind : Bool → Bool → Bool
-same_kind outage other = if outage then other else not other
+abbrev pub is_same_kind : Bool → Bool → Bool
+is_same_kind outage other = if outage then other else not other
 
 -- two sides go the same way
-abbrev pub same_way : Way → Way → Bool
-same_way Inward Inward = true
-same_way Outward Outward = true
-same_way way other = false
+abbrev pub is_same_way : Way → Way → Bool
+is_same_way Inward Inward = true
+is_same_way Outward Outward = true
+is_same_way way other = false
 
 -- two tanks are gauged at the same places
-abbrev pub same_gauged : Gauged → Gauged → Bool
-same_gauged gauged other = gauged.reading == other.reading && gauged.sample == other.sample
+abbrev pub is_same_gauged : Gauged → Gauged → Bool
+is_same_gauged gauged other = gauged.reading == other.reading && gauged.sample == other.sample
 
 -- two second tanks are gauged at the same places, or neither command names a second tank
-abbrev pub same_second : Option Gauged → Option Gauged → Bool
-same_second None None = true
-same_second (Some gauged) (Some other) = same_gauged gauged other
-same_second second other = false
+abbrev pub is_same_second : Option Gauged → Option Gauged → Bool
+is_same_second None None = true
+is_same_second (Some gauged) (Some other) = is_same_gauged gauged other
+is_same_second second other = false
 
 -- two plans are the same in each field
-abbrev pub same_plan : Plan → Plan → Bool
-same_plan (Outside way tank party gauged) (Outside way2 tank2 party2 gauged2) =
-    same_way way way2 && tank == tank2 && party == party2 && same_gauged gauged gauged2
-same_plan (Transfer from to from_gauged to_gauged) (Transfer from2 to2 from_gauged2 to_gauged2) =
-    from == from2 && to == to2 && same_gauged from_gauged from_gauged2 && same_gauged to_gauged to_gauged2
-same_plan plan other = false
+abbrev pub is_same_plan : Plan → Plan → Bool
+is_same_plan (Outside way tank party gauged) (Outside way2 tank2 party2 gauged2) =
+    is_same_way way way2 && tank == tank2 && party == party2 && is_same_gauged gauged gauged2
+is_same_plan (Transfer from to from_gauged to_gauged) (Transfer from2 to2 from_gauged2 to_gauged2) =
+    from == from2 && to == to2 && is_same_gauged from_gauged from_gauged2 && is_same_gauged to_gauged to_gauged2
+is_same_plan plan other = false
 
 -- two commands are the same in each field
-unfoldable pub same_command : Command → Command → Bool
-same_command (Gauge tank level water temperature ambient) (Gauge tank2 level2 water2 temperature2 ambient2) =
+unfoldable pub is_same_command : Command → Command → Bool
+is_same_command (Gauge tank level water temperature ambient) (Gauge tank2 level2 water2 temperature2 ambient2) =
     tank == tank2 && int_eq level level2 && int_eq water water2 && int_eq temperature temperature2 && int_eq ambient ambient2
-same_command (Dip tank outage tapes water temperatures ambient) (Dip tank2 outage2 tapes2 water2 temperatures2 ambient2) =
-    tank == tank2 && same_kind outage outage2 && same_list tapes tapes2 && same_list water water2
-    && same_list temperatures temperatures2 && int_eq ambient ambient2
-same_command (Sample tank density sw) (Sample tank2 density2 sw2) = tank == tank2 && int_eq density density2 && int_eq sw sw2
-same_command (Opening plan) (Opening plan2) = same_plan plan plan2
-same_command (Closing movement first second) (Closing movement2 first2 second2) =
-    movement == movement2 && same_gauged first first2 && same_second second second2
-same_command (Cancel movement) (Cancel movement2) = movement == movement2
-same_command (Reverse ticket) (Reverse ticket2) = ticket == ticket2
-same_command (Settle tank gauged) (Settle tank2 gauged2) = tank == tank2 && same_gauged gauged gauged2
-same_command Stop Stop = true
-same_command command other = false
+is_same_command (Dip tank outage tapes water temperatures ambient) (Dip tank2 outage2 tapes2 water2 temperatures2 ambient2) =
+    tank == tank2 && is_same_kind outage outage2 && is_same_list tapes tapes2 && is_same_list water water2
+    && is_same_list temperatures temperatures2 && int_eq ambient ambient2
+is_same_command (Sample tank density sw) (Sample tank2 density2 sw2) = tank == tank2 && int_eq density density2 && int_eq sw sw2
+is_same_command (Opening plan) (Opening plan2) = is_same_plan plan plan2
+is_same_command (Closing movement first second) (Closing movement2 first2 second2) =
+    movement == movement2 && is_same_gauged first first2 && is_same_second second second2
+is_same_command (Cancel movement) (Cancel movement2) = movement == movement2
+is_same_command (Reverse ticket) (Reverse ticket2) = ticket == ticket2
+is_same_command (Settle tank gauged) (Settle tank2 gauged2) = tank == tank2 && is_same_gauged gauged gauged2
+is_same_command Stop Stop = true
+is_same_command command other = false
 
 -- a command is a Stop
 abbrev pub is_stop : Command → Bool

@@ -34,7 +34,7 @@ named tank gauged = record { tank = tank; gauged = gauged }
 abbrev pub calculated_in : History → Gauged → Tank → Product → Option (Result Quantities ChainRule)
 calculated_in history gauged tank product =
     option_and_then (λ reading.
-    option_map (λ sample. calculated_quantities history.site.rounds tank.spec tank.table product.vcf reading sample)
+    option_map (λ sample. calculated_quantities history.site.rounding tank.spec tank.table product.vcf reading sample)
     (recorded_sample history gauged.sample))
     (recorded_reading history gauged.reading)
 

@@ -98,7 +98,7 @@ gauging_in rounding command tank =
 -- the gauging that a command is after a history; none where it is no gauging or its tank isn't of the site
 unfoldable pub gauging_after : History → Command → Option Gauging
 gauging_after history command =
-    option_and_then (gauging_in history.site.rounds command) (option_and_then (tank_after history) (tank_of command))
+    option_and_then (gauging_in history.site.rounding command) (option_and_then (tank_after history) (tank_of command))
 
 -- the reading of a gauging
 abbrev pub reading_of : Gauging → Option Reading

@@ -17,14 +17,14 @@ use Rattle.farm_history.specs.declared.command.Command.{Command}
 use Rattle.farm_history.specs.declared.entry.Entry.{Entry}
 use Rattle.farm_history.specs.declared.verdict.Verdict.{Verdict}
 use Rattle.farm_history.specs.declared.verdict.Verdict.TheVariants.{Accept}
-use Rattle.farm_history.specs.Commands.{IsWellFormedCommand, issues_ticket, same_command}
+use Rattle.farm_history.specs.Commands.{IsWellFormedCommand, issues_ticket, is_same_command}
 use Rattle.farm_history.specs.Desk.{desk_answer, stamped}
 use Rattle.farm_history.specs.Fields.{Field, IsInRange, is_out_of_range}
 use Rattle.farm_history.specs.Gauging.{IsDipFault, dip_reading}
 use Rattle.farm_history.specs.History.{History, empty_history, entry_at, followed_by, last_place, with_entry}
 use Rattle.farm_history.specs.Issued.{IsTicketAt}
 use Rattle.farm_history.specs.Movements.{IsHeldBy, IsOpen, IsUsedLast, holding_movement, open_movement, used_reading}
-use Rattle.farm_history.specs.Rules.{same_key}
+use Rattle.farm_history.specs.Rules.{has_same_key}
 use Rattle.farm_history.specs.Sites.{AreComputable, AreRising}
 use Rattle.farm_history.specs.Tickets.{ticket_at}
 use Rattle.farm_history.specs.declared.plan.Plan.{Plan}
@@ -33,7 +33,7 @@ use Rattle.farm_history.specs.Verdicts.{IsLegal, IsVerdict, verdict}
 
 -- two commands are the same by the test exactly where they are one
 abbrev pub SameCommandsAreOne : Type 0
-SameCommandsAreOne = (command other : Command) → IsTrue (same_command command other) ↔ (command ≡ other)
+SameCommandsAreOne = (command other : Command) → IsTrue (is_same_command command other) ↔ (command ≡ other)
 
 -- a field isn't out of range by the test exactly where it is in its range in the words of the rule
 abbrev pub RangesMean : Type 0
@@ -140,7 +140,7 @@ DeskKeepsLegal =
 -- under one account and key a legal history has one entry at most
 abbrev pub KeysActOnce : Type 0
 KeysActOnce = (limit : ℕ) (history : History) (front middle back : List Entry) (first second : Entry) →
-    IsLegal limit history → history.entries ≡ front ++ first ∷ (middle ++ second ∷ back) → ¬ (IsTrue (same_key first second))
+    IsLegal limit history → history.entries ≡ front ++ first ∷ (middle ++ second ∷ back) → ¬ (IsTrue (has_same_key first second))
 
 -- A request that was accepted is answered again with its first reply, whoever sends it, whenever, and whatever was entered after it,
 -- and changes nothing.

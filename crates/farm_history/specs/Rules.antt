@@ -6,12 +6,13 @@ use Rattle.std.specs.List.{list_any}
 use Rattle.farm_base.specs.Steps.{or_else}
 use Rattle.farm_fixed.specs.declared.records.Reading.{Reading}
 use Rattle.site_items.specs.declared.records.Tank.{Tank}
+use Rattle.strap_table.specs.Capacity.{top_of}
 use Rattle.farm_history.specs.declared.command.Command.{Command}
 use Rattle.farm_history.specs.declared.entry.Entry.{Entry}
 use Rattle.farm_history.specs.declared.limits.TheConstants.{STOPS_BEYOND_LIMIT}
 use Rattle.farm_history.specs.declared.rule.Rule.{Rule}
 use Rattle.farm_history.specs.declared.rule.Rule.TheVariants.{KeyReused, HistoryFull, UnknownTank, OutOfRange, Tape, AboveTable, WaterAboveLevel}
-use Rattle.farm_history.specs.Commands.{is_stop, same_command, tanks_given}
+use Rattle.farm_history.specs.Commands.{is_stop, is_same_command, tanks_given}
 use Rattle.farm_history.specs.Fields.{first_bad_field}
 use Rattle.farm_history.specs.Gauging.{Gauging, gauging_after}
 use Rattle.farm_history.specs.History.{History, last_place, tank_after}
@@ -19,16 +20,16 @@ use Rattle.farm_history.specs.MovementRules.{already_reversed, broken_where, cri
 use Rattle.farm_history.specs.Places.{first_place}
 
 -- another entry has the account and the key of an entry
-abbrev pub same_key : Entry → Entry → Bool
-same_key entry other = other.account == entry.account && other.key == entry.key
+abbrev pub has_same_key : Entry → Entry → Bool
+has_same_key entry other = other.account == entry.account && other.key == entry.key
 
 -- another entry has the account, the key and the command of an entry
 abbrev pub is_repeat : Entry → Entry → Bool
-is_repeat entry other = same_key entry other && same_command other.cmd entry.cmd
+is_repeat entry other = has_same_key entry other && is_same_command other.cmd entry.cmd
 
 -- the account and the key stand in the history, at this place first
 unfoldable pub key_reused : History → Entry → Option Rule
-key_reused history entry = option_map KeyReused (first_place (same_key entry) history.entries)
+key_reused history entry = option_map KeyReused (first_place (has_same_key entry) history.entries)
 
 -- a history of this many entries doesn't take the command: it has its limit and the command is no Stop, or it has its limit and as
 -- many more as may be Stops
@@ -52,14 +53,10 @@ unknown_tank history command = broken_where (list_any (λ number. is_missing (ta
 unfoldable pub out_of_range : Command → Option Rule
 out_of_range command = option_map OutOfRange (first_bad_field command)
 
--- the height of the last row of a capacity table, in mm
-abbrev pub top_of : List ℤ → ℤ
-top_of table = pos (10 * (length table - 1))
-
 -- a reading is above the tank's table, or its water above its level
 abbrev pub refused_reading : List ℤ → Reading → Option Rule
 refused_reading table reading =
-    if int_lt (top_of table) reading.level then Some AboveTable
+    if int_lt (pos (top_of table)) reading.level then Some AboveTable
     else (if int_lt reading.level reading.water then Some WaterAboveLevel else None)
 
 -- a gauging's tapes give no reading, or its reading is refused

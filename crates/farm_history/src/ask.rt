@@ -3,7 +3,7 @@
 use crate::{Command, Query};
 
 /// One request.
-#[derive(Clone, Copy, Debug, PartialEq, Eq)]
+#[derive(Debug, Drop, PartialEq, Eq)]
 pub enum Ask {
     /// To record a command, for an account and under its key.
     Do {

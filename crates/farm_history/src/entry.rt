@@ -3,7 +3,7 @@
 use crate::Command;
 
 /// A command as it stands in a history.
-#[derive(Clone, Copy, Debug, PartialEq, Eq)]
+#[derive(Debug, Drop, PartialEq, Eq)]
 pub struct Entry {
     /// The number of the caller that made it.
     pub caller: u32,

@@ -23,7 +23,7 @@ pub const GREATEST_PARTY: u16 = 65_535;
 pub const GREATEST_PLACE: u32 = 4_294_967_295;
 
 /// What a line asks for.
-#[derive(Clone, Copy, Debug, PartialEq, Eq)]
+#[derive(Debug, Drop, PartialEq, Eq)]
 pub enum LineAsked {
     /// A request to the desk.
     Ask(Ask),

@@ -4,7 +4,7 @@ use Rattle.std.proofs.lemmas.Bool.Decides.{nat_tests}
 use Rattle.std.proofs.lemmas.Int.{ints}
 use Rattle.std.specs.Int.RustNames.{unsigned_abs}
 use Rattle.farm_fixed.specs.Range.{IsWithin}
-use Rattle.farm_fixed.specs.declared.limits.TheConstants.{MOST_HEIGHT}
+use Rattle.farm_fixed.specs.declared.limits.TheConstants.{LEAST_TEMPERATURE, MOST_HEIGHT, MOST_TEMPERATURE}
 use Rattle.farm_rounding.specs.declared.mode.Mode.{Mode}
 use Rattle.farm_rounding.specs.declared.mode.Mode.TheVariants.{HalfAway, TowardZero}
 use Rattle.farm_rounding.specs.Multiple.{IsMultiple, IsNearest, is_step}
@@ -91,8 +91,8 @@ mean_height mode total step m allowed within nearest =
 
 -- the rounded mean of temperatures is a temperature
 pub mean_temperature_within : (mode : Mode) (total : ℤ) (count step : ℕ) (m : ℤ) → 1 ≤ count → IsTrue (is_step step) →
-    pos 0 ≤ℤ (total +ℤ pos (10000 * count)) → total ≤ℤ pos (30000 * count) → IsNearest mode total count step m → IsWithin (negsuc 9999) (pos 30000) m
+    pos 0 ≤ℤ (total +ℤ pos (10000 * count)) → total ≤ℤ pos (30000 * count) → IsNearest mode total count step m → IsWithin LEAST_TEMPERATURE MOST_TEMPERATURE m
 mean_temperature_within mode total count step m some allowed low high nearest =
     let under : neg_ℤ (pos (10000 * count)) ≤ℤ total = omega (arith, ints, low) in
-    nearest_within mode total count step (negsuc 9999) (pos 30000) m (omega (arith, some)) (least_temperature step allowed) (greatest_temperature step allowed)
+    nearest_within mode total count step LEAST_TEMPERATURE MOST_TEMPERATURE m (omega (arith, some)) (least_temperature step allowed) (greatest_temperature step allowed)
     (omega (arith, ints)) (omega (arith, ints)) under high nearest

@@ -3,7 +3,6 @@
 ghost use Rattle.std.specs.Prelude.{◌≡◌, ◌↔◌, IfOk, IsErr, ◌+ℤ◌, ◌<ℤ◌};
 ghost use Rattle.farm_readings.specs.Readings.{innage_of};
 
-use crate::in_range::height as above_datum;
 use farm_fixed::Mm;
 use farm_rounding::difference;
 use thiserror::Error;
@@ -17,10 +16,11 @@ pub struct BelowDatum;
 pub fn innage(height: Mm, outage: Mm) -> Result<Mm, BelowDatum>
     ensures innage { IfOk result (λ innage. innage +ℤ outage ≡ height) }
     ensures below_datum { IsErr result ↔ (height <ℤ outage) }
-    ensures value { result ≡ innage_of height outage }
+    ensures innage_of { result ≡ innage_of height outage }
 {
     if height.get() < outage.get() {
         return Err(BelowDatum);
     }
-    Ok(above_datum(i128::from(difference(height.get(), outage.get()))))
+    let innage = difference(height.get(), outage.get());
+    Ok(Mm::in_range(i128::from(innage)))
 }

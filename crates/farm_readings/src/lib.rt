@@ -5,7 +5,6 @@
 #![tactic(auto)]
 
 mod datum;
-mod in_range;
 mod tapes;
 mod temperatures;
 

@@ -6,7 +6,6 @@ ghost use Rattle.farm_rounding.specs.Table.{row_at, rounded};
 ghost use Rattle.farm_readings.specs.Readings.{IsTapeReading, are_close, is_close, tape_reading, tape_of_three, tape_of_two};
 ghost use Rattle.farm_rounding.specs.declared.table.TheConstants.{TAPE_MEAN};
 
-use crate::in_range::height;
 use farm_fixed::Mm;
 use farm_rounding::{RoundTable, TAPE_MEAN, difference, nearest, sum};
 use thiserror::Error;
@@ -26,13 +25,13 @@ pub enum TapeFault {
 }
 
 /// The reading of two equal tapes, or the rounded mean of three of which each two differ by at most 3 mm.
-pub fn tape(tapes: &[Mm], rounds: &RoundTable) -> Result<Mm, TapeFault>
-    ensures value { result ≡ tape_reading rounds.now tapes.now }
-    ensures meaning { IsTapeReading rounds.now tapes.now result }
+pub fn tape(tapes: &[Mm], rounding: &RoundTable) -> Result<Mm, TapeFault>
+    ensures tape { result ≡ tape_reading rounding.now tapes.now }
+    ensures meaning { IsTapeReading rounding.now tapes.now result }
 {
     match tapes {
         [first, second] => tape_of_two(*first, *second),
-        [first, second, third] => tape_of_three(*first, *second, *third, rounds),
+        [first, second, third] => tape_of_three(*first, *second, *third, rounding),
         _ => Err(TapeFault::Count),
     }
 }
@@ -48,12 +47,12 @@ fn tape_of_two(first: Mm, second: Mm) -> Result<Mm, TapeFault>
 }
 
 // The reading of three tapes.
-fn tape_of_three(first: Mm, second: Mm, third: Mm, rounds: &RoundTable) -> Result<Mm, TapeFault>
-    ensures value { result ≡ tape_of_three rounds.now first second third }
-    ensures meaning { IsTapeReading rounds.now (first ∷ second ∷ third ∷ []) result }
+fn tape_of_three(first: Mm, second: Mm, third: Mm, rounding: &RoundTable) -> Result<Mm, TapeFault>
+    ensures value { result ≡ tape_of_three rounding.now first second third }
+    ensures meaning { IsTapeReading rounding.now (first ∷ second ∷ third ∷ []) result }
 {
     if are_close(first, second, third) {
-        Ok(mean_of_three(first, second, third, rounds))
+        Ok(mean_of_three(first, second, third, rounding))
     } else {
         Err(TapeFault::Spread)
     }
@@ -74,11 +73,11 @@ fn is_close(first: Mm, second: Mm) -> bool
 }
 
 // The mean of three tapes, rounded.
-fn mean_of_three(first: Mm, second: Mm, third: Mm, rounds: &RoundTable) -> Mm
-    ensures value { result ≡ rounded rounds.now TAPE_MEAN (first +ℤ second +ℤ third) 3 }
-    ensures meaning { IsNearest (row_at rounds.now TAPE_MEAN).1 (first +ℤ second +ℤ third) 3 (row_at rounds.now TAPE_MEAN).0 result }
+fn mean_of_three(first: Mm, second: Mm, third: Mm, rounding: &RoundTable) -> Mm
+    ensures value { result ≡ rounded rounding.now TAPE_MEAN (first +ℤ second +ℤ third) 3 }
+    ensures meaning { IsNearest (row_at rounding.now TAPE_MEAN).1 (first +ℤ second +ℤ third) 3 (row_at rounding.now TAPE_MEAN).0 result }
 {
-    let (step, mode) = rounds.row(TAPE_MEAN);
+    let (step, mode) = rounding.row(TAPE_MEAN);
     let two = sum(i128::from(first.get()), i128::from(second.get()));
-    height(nearest(sum(two, i128::from(third.get())), 3, step, mode))
+    Mm::in_range(nearest(sum(two, i128::from(third.get())), 3, step, mode))
 }

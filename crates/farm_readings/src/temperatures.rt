@@ -8,7 +8,6 @@ ghost use Rattle.farm_rounding.specs.declared.table.TheConstants.{LIQUID_TEMPERA
 ghost use Rattle.farm_readings.specs.declared.temperatures.TheConstants.{MOST_TEMPERATURES};
 ghost use Rattle.farm_readings.specs.Readings.{AreTemperatures, mean_temperature, total};
 
-use crate::in_range::temperature;
 use farm_fixed::Centi;
 use farm_rounding::{LIQUID_TEMPERATURE, Mode, RoundTable, nearest, sum};
 
@@ -16,12 +15,12 @@ use farm_rounding::{LIQUID_TEMPERATURE, Mode, RoundTable, nearest, sum};
 pub const MOST_TEMPERATURES: usize = 8;
 
 /// The mean of 1 to 8 temperatures, rounded.
-pub fn mean_temp(list: &[Centi], rounds: &RoundTable) -> Centi
+pub fn mean_temp(list: &[Centi], rounding: &RoundTable) -> Centi
     requires temperatures { AreTemperatures list.now }
-    ensures value { result ≡ mean_temperature rounds.now list.now }
-    ensures meaning { IsNearest (row_at rounds.now LIQUID_TEMPERATURE).1 (total list.now) (length list.now) (row_at rounds.now LIQUID_TEMPERATURE).0 result }
+    ensures mean_temperature { result ≡ mean_temperature rounding.now list.now }
+    ensures meaning { IsNearest (row_at rounding.now LIQUID_TEMPERATURE).1 (total list.now) (length list.now) (row_at rounding.now LIQUID_TEMPERATURE).0 result }
 {
-    let (step, mode) = rounds.row(LIQUID_TEMPERATURE);
+    let (step, mode) = rounding.row(LIQUID_TEMPERATURE);
     rounded_mean(total(list), list.len(), step, mode)
 }
 
@@ -35,7 +34,7 @@ fn rounded_mean(total: i128, count: usize, step: i64, mode: Mode) -> Centi
     ensures value { result ≡ nearest_multiple mode total count (unsigned_abs step) }
     ensures meaning { IsNearest mode total count (unsigned_abs step) result }
 {
-    temperature(nearest(total, count as i128, step, mode))
+    Centi::in_range(nearest(total, count as i128, step, mode))
 }
 
 // The sum of temperatures.

@@ -1,9 +1,9 @@
 -- What a crash may leave over calls in a row.
-use Rattle.std.proofs.Common.{◌≡◌, ⊎_elim, ℕ, ◌+◌, ◌-◌, List, [], length, Option, Some, None, sym, ap, ◌∙◌, subst, arith}
-use Rattle.std.proofs.lemmas.Bool.{cases_lt}
-use Rattle.std.proofs.lemmas.List.{get_or-take, take_all}
+use Rattle.std.proofs.Common.{◌≡◌, ℕ, ◌+◌, ◌-◌, List, length, Option, Some, None, subst, arith}
+use Rattle.std.proofs.lemmas.List.{take_all}
 use Rattle.farm_base.specs.Known.{WhereKnown}
-use Rattle.farm_disk.specs.Images.{IsCrashImage, State, at_rest, state_at}
+use Rattle.farm_disk.proofs.Extending.{moment_more}
+use Rattle.farm_disk.specs.Images.{IsCrashImage, State, state_at}
 use Rattle.farm_disk.specs.Runs.{EachNow, EachSince, Extends}
 use Rattle.farm_records.specs.Moments.{EachFrom}
 
@@ -40,13 +40,7 @@ pub from_more : (P : List ℕ → Type 0) (from : ℕ) (old new : Option (List S
 from_more P from old None extends each since = tt
 from_more P from None (Some new) extends each since = absurd extends
 from_more P from (Some old) (Some new) extends each since = λ moment after within image is.
-    ⊎_elim
-    (λ before.
-    let same : state_at new moment ≡ state_at old moment =
-    sym (get_or-take (length old) new moment (at_rest []) before) ∙ ap (λ states. state_at states moment) extends in
-    each moment after before image (subst (λ state. IsCrashImage state image) same is))
-    (λ later. since moment (omega arith) within image is)
-    (cases_lt moment (length old))
+    moment_more P old new extends moment image (λ before there. each moment after before image there) (λ later. since moment (omega arith) within image is) is
 
 -- what holds now holds from the present moment on
 pub from_now : (P : List ℕ → Type 0) (trace : Option (List State)) (moment : ℕ) → WhereKnown trace (λ states. length states ≡ moment + 1) → EachNow trace P → EachFrom trace moment P

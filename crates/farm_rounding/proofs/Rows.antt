@@ -5,7 +5,7 @@ use Rattle.std.proofs.lemmas.Bool.Decides.{leb_tells, nat_tests}
 use Rattle.std.proofs.lemmas.List.{get_or_past}
 use Rattle.farm_rounding.specs.declared.mode.Mode.TheVariants.{HalfAway}
 use Rattle.farm_rounding.specs.Multiple.{is_step}
-use Rattle.farm_rounding.specs.declared.table.TheConstants.{FACTOR_TIES, ROWS}
+use Rattle.farm_rounding.specs.declared.table.TheConstants.{FACTOR_TIES, ROUNDING_ROWS}
 use Rattle.farm_rounding.specs.Table.{IsAllowedRow, IsFirstBadRow, IsTable, Row, first_bad_row, is_row, row_at}
 
 -- the first row passes
@@ -37,14 +37,14 @@ tie_of : (row : Row) → is_row 7 row ≡ true → row.0 ≡ 1
 tie_of row passes = let one : IsTrue (row.0 == 1) = (and_parts (is_step row.0) (row.0 == 1) passes).1 in grind (arith, nat_tests)
 
 -- the step of a row that passes, and of none
-step_of : (rows : List Row) → first_bad_row 1 rows ≡ None → length rows ≡ ROWS → (k : ℕ) → IsTrue (is_step (get_or rows k (1, HalfAway)).0)
-step_of rows good twelve k = elim (leb_tells (k + 1) ROWS) [
+step_of : (rows : List Row) → first_bad_row 1 rows ≡ None → length rows ≡ ROUNDING_ROWS → (k : ℕ) → IsTrue (is_step (get_or rows k (1, HalfAway)).0)
+step_of rows good twelve k = elim (leb_tells (k + 1) ROUNDING_ROWS) [
   | inl t ↦ step_of_row (1 + k) (get_or rows k (1, HalfAway)) (each_row 1 k rows good (omega (arith, t.1)))
   | inr t ↦ let P : Row → Type 0 = λ row. IsTrue (is_step row.0) in subst P (sym (get_or_past rows k (1, HalfAway) (omega (arith, t.1)))) refl
 ]
 
 -- twelve rows that pass are a table
-pub table_from_rows : (rows : List Row) → length rows ≡ ROWS → first_bad_row 1 rows ≡ None → IsTable rows
+pub table_from_rows : (rows : List Row) → length rows ≡ ROUNDING_ROWS → first_bad_row 1 rows ≡ None → IsTable rows
 table_from_rows rows twelve good = record {
   twelve = twelve;
   steps = λ n. step_of rows good twelve (n - 1);

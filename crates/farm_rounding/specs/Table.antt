@@ -2,7 +2,7 @@
 use Rattle.std.specs.Prelude.{◌≡◌, ℕ, ◌+◌, ◌-◌, ◌<◌, ◌≤◌, ℤ, ◌==◌, ◌&&◌, Bool, true, if◌then◌else◌, Option, Some, None, List, [], ◌∷◌, length, IsTrue, slice_index_or}
 use Rattle.farm_rounding.specs.declared.mode.Mode.{Mode}
 use Rattle.farm_rounding.specs.declared.mode.Mode.TheVariants.{HalfAway}
-use Rattle.farm_rounding.specs.declared.table.TheConstants.{FACTOR_TIES, ROWS}
+use Rattle.farm_rounding.specs.declared.table.TheConstants.{FACTOR_TIES, ROUNDING_ROWS}
 use Rattle.farm_rounding.specs.Multiple.{is_step, nearest_multiple}
 
 -- a row: the step, then the mode
@@ -19,7 +19,7 @@ rounded rows n num den = nearest_multiple (row_at rows n).1 num den (row_at rows
 
 -- twelve allowed steps, of which that of the factor ties is 1
 pub record IsTable (rows : List Row) : Type 0 where
-  pub twelve : length rows ≡ ROWS
+  pub twelve : length rows ≡ ROUNDING_ROWS
   pub steps : (n : ℕ) → IsTrue (is_step (row_at rows n).0)
   pub ties : (row_at rows FACTOR_TIES).0 ≡ 1
 

@@ -7,7 +7,7 @@ ghost use Rattle.std.specs.Int.RustNames.{unsigned_abs};
 pub fn product<const A: u64, const B: u64>(a: i64, b: i64) -> i128
     requires a { unsigned_abs a ≤ A }
     requires b { unsigned_abs b ≤ B }
-    ensures value { result ≡ a *ℤ b }
+    ensures product { result ≡ a *ℤ b }
     ensures size { unsigned_abs result ≤ A * B }
     ensures positive { pos 1 ≤ℤ a → pos 1 ≤ℤ b → pos 1 ≤ℤ result }
 {
@@ -18,7 +18,7 @@ pub fn product<const A: u64, const B: u64>(a: i64, b: i64) -> i128
 pub fn sum(a: i128, b: i128) -> i128
     requires a { unsigned_abs a ≤ 10 ^ 36 }
     requires b { unsigned_abs b ≤ 10 ^ 36 }
-    ensures value { result ≡ a +ℤ b }
+    ensures sum { result ≡ a +ℤ b }
     ensures size { unsigned_abs result ≤ unsigned_abs a + unsigned_abs b }
 {
     a + b
@@ -28,7 +28,7 @@ pub fn sum(a: i128, b: i128) -> i128
 pub fn wide_difference(a: i128, b: i128) -> i128
     requires a { unsigned_abs a ≤ 10 ^ 36 }
     requires b { unsigned_abs b ≤ 10 ^ 36 }
-    ensures value { result ≡ a -ℤ b }
+    ensures difference { result ≡ a -ℤ b }
     ensures size { unsigned_abs result ≤ unsigned_abs a + unsigned_abs b }
 {
     a - b
@@ -38,7 +38,7 @@ pub fn wide_difference(a: i128, b: i128) -> i128
 pub fn difference(a: i64, b: i64) -> i64
     requires a { unsigned_abs a ≤ 10 ^ 18 }
     requires b { unsigned_abs b ≤ 10 ^ 18 }
-    ensures value { result ≡ a -ℤ b }
+    ensures difference { result ≡ a -ℤ b }
     ensures size { unsigned_abs result ≤ unsigned_abs a + unsigned_abs b }
     ensures size_above_zero { pos 0 ≤ℤ a → pos 0 ≤ℤ b → unsigned_abs result ≤ max (unsigned_abs a) (unsigned_abs b) }
 {
@@ -48,7 +48,7 @@ pub fn difference(a: i64, b: i64) -> i64
 /// A number of magnitude at most 10^36 with its sign turned.
 pub fn negated(a: i128) -> i128
     requires fits { unsigned_abs a ≤ 10 ^ 36 }
-    ensures value { result ≡ neg_ℤ a }
+    ensures negated { result ≡ neg_ℤ a }
     ensures size { unsigned_abs result ≡ unsigned_abs a }
 {
     -a

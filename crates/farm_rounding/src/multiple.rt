@@ -14,7 +14,7 @@ pub fn nearest(num: i128, den: i128, step: i64, mode: Mode) -> i128
     requires denominator_low { pos 1 ≤ℤ den }
     requires denominator_high { den ≤ℤ pos (10 ^ 20) }
     requires step { IsAllowedStep step }
-    ensures value { result ≡ nearest_multiple mode num (unsigned_abs den) (unsigned_abs step) }
+    ensures nearest_multiple { result ≡ nearest_multiple mode num (unsigned_abs den) (unsigned_abs step) }
     ensures meaning { IsNearest mode num (unsigned_abs den) (unsigned_abs step) result }
     ensures size { IsWithinAStep (unsigned_abs num / unsigned_abs den) (unsigned_abs step) (unsigned_abs result) }
     ensures sign { pos 0 ≤ℤ num → pos 0 ≤ℤ result }

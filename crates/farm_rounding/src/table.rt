@@ -35,7 +35,7 @@ pub const NET_STANDARD: u8 = 11;
 pub const MASS: u8 = 12;
 
 /// How many rows a rounding table has.
-pub const ROWS: usize = 12;
+pub const ROUNDING_ROWS: usize = 12;
 
 /// Rows that are no rounding table: the number, from 1, of the first row whose step isn't 1, 2, 5, 10, 20, 50 or 100, or of
 /// the seventh row with another step than 1.
@@ -48,7 +48,7 @@ pub struct BadRow(pub u8);
 /// Each step is 1, 2, 5, 10, 20, 50 or 100 units of its figure, and that of the factor ties is 1.
 #[derive(Clone, Copy, Debug)]
 pub struct RoundTable {
-    rows: [(u8, Mode); ROWS],
+    rows: [(u8, Mode); ROUNDING_ROWS],
 }
 
 impl Model for RoundTable {
@@ -66,9 +66,9 @@ impl Model for RoundTable {
 
 impl RoundTable {
     /// The table of these rows, each a step and a mode.
-    pub fn new(rows: [(u8, Mode); ROWS]) -> Result<RoundTable, BadRow>
+    pub fn new(rows: [(u8, Mode); ROUNDING_ROWS]) -> Result<RoundTable, BadRow>
         ensures rows { IfOk result (λ table. table ≡ rows) }
-        ensures ok { OnOk result (first_bad_row 1 rows ≡ None) }
+        ensures good { OnOk result (first_bad_row 1 rows ≡ None) }
         ensures bad { IfErr result (λ bad. first_bad_row 1 rows ≡ Some bad.0) }
         ensures allowed { OnOk result (IsTable rows) }
         ensures first_bad { IfErr result (λ bad. IsFirstBadRow rows bad.0) }
@@ -86,7 +86,7 @@ impl RoundTable {
     pub fn usual() -> RoundTable
         ensures usual_rows { result ≡ usual_rows }
     {
-        let mut rows = [(1, Mode::HalfAway); ROWS];
+        let mut rows = [(1, Mode::HalfAway); ROUNDING_ROWS];
         rows[1] = (5, Mode::HalfAway);
         RoundTable { rows }
     }
@@ -94,7 +94,7 @@ impl RoundTable {
     /// The step and the mode of row `n`, counted from 1.
     pub fn row(&self, n: u8) -> (i64, Mode)
         requires low { 1 ≤ n }
-        requires high { n ≤ ROWS }
+        requires high { n ≤ ROUNDING_ROWS }
         ensures step { result.0 ≡ pos (row_at self.now n).0 }
         ensures mode { result.1 ≡ (row_at self.now n).1 }
         ensures allowed { IsAllowedStep result.0 }
@@ -107,11 +107,11 @@ impl RoundTable {
     /// `num / den` rounded by row `n`, counted from 1.
     pub fn round(&self, n: u8, num: i128, den: i128) -> i128
         requires row_low { 1 ≤ n }
-        requires row_high { n ≤ ROWS }
+        requires row_high { n ≤ ROUNDING_ROWS }
         requires numerator { unsigned_abs num ≤ 10 ^ 36 }
         requires denominator_low { pos 1 ≤ℤ den }
         requires denominator_high { den ≤ℤ pos (10 ^ 20) }
-        ensures value { result ≡ rounded self.now n num (unsigned_abs den) }
+        ensures rounded { result ≡ rounded self.now n num (unsigned_abs den) }
         ensures above { unsigned_abs result ≤ unsigned_abs num / unsigned_abs den + 100 }
         ensures below { unsigned_abs num / unsigned_abs den ≤ unsigned_abs result + 100 }
         ensures size { unsigned_abs result ≤ unsigned_abs num + 100 }

@@ -53,7 +53,7 @@ site_reader laws =
     (record {
       to = λ f h. record { named = h.0.0; rounding = h.0.1; products_sound = h.1.0; parties_sound = h.1.1.0; tanks_sound = h.1.1.1.0; lines_sound = h.1.1.1.1 };
       same = λ f h. site_same f;
-      of = λ site. ((site.name, site.rounds), (site.products, (site.parties, (site.tanks, site.lines))));
+      of = λ site. ((site.name, site.rounding), (site.products, (site.parties, (site.tanks, site.lines))));
       back = λ site h. refl;
       of_fits = λ site h. ((h.named, h.rounding), (h.products_sound, (h.parties_sound, (h.tanks_sound, h.lines_sound))));
     })

@@ -34,7 +34,7 @@ use Rattle.site_lines.specs.Lines.{lines_of}
 use Rattle.farm_site.specs.declared.site.Site.{Site}
 use Rattle.farm_site.specs.Described.{Described, site_of_files, site_of_keys, top_of_files}
 use Rattle.farm_site.specs.Members.{IsSiteOf, IsStopped}
-use Rattle.farm_site.specs.Rounds.{rounds_at}
+use Rattle.farm_site.specs.Rounding.{rounding_at}
 
 -- a product is read the same where there are no earlier ones
 product_alone : (files : List File) (earlier : List Product) (item : ℕ) (keys : Data) (product : Product) →
@@ -54,10 +54,10 @@ party_alone earlier item keys party is =
     rw number went.2
 
 -- a tank is
-tank_alone : (files : List File) (format : Format) (rounds : List Row) (products : List ℕ) (earlier : List Tank) (item : ℕ) (keys : Data) (tank : Tank) →
-    tank_of files format rounds products earlier item keys ≡ Ok tank → tank_of files format rounds products [] item keys ≡ Ok tank
+tank_alone : (files : List File) (format : Format) (rounding : List Row) (products : List ℕ) (earlier : List Tank) (item : ℕ) (keys : Data) (tank : Tank) →
+    tank_of files format rounding products earlier item keys ≡ Ok tank → tank_of files format rounding products [] item keys ≡ Ok tank
 unfolding tank_of
-tank_alone files format rounds products earlier item keys tank is =
+tank_alone files format rounding products earlier item keys tank is =
     let went = both_went (found (own_number (map tank_number earlier) item keys)) _ tank is in
     let number = own_alone (map tank_number earlier) item keys went.0 (found_there _ went.0 went.1) in
     rw number went.2
@@ -87,14 +87,14 @@ parties_listed top parties is facts =
     record { tables = went.0; listed = listed; in_file = members.0; each = members.1; once = members.2; rising = rising.1 }
 
 -- the tanks of a site file
-tanks_listed : (files : List File) (format : Format) (rounds : List Row) (products : List ℕ) (top : Data) (tanks : List Tank) →
-    tanks_of files format rounds products top ≡ Ok tanks → are_tanks products tanks ≡ true →
-    AreItemsAt tank_number (tank_of files format rounds products []) top (codes "tank") tanks
+tanks_listed : (files : List File) (format : Format) (rounding : List Row) (products : List ℕ) (top : Data) (tanks : List Tank) →
+    tanks_of files format rounding products top ≡ Ok tanks → are_tanks products tanks ≡ true →
+    AreItemsAt tank_number (tank_of files format rounding products []) top (codes "tank") tanks
 unfolding tanks_of
-tanks_listed files format rounds products top tanks is facts =
+tanks_listed files format rounding products top tanks is facts =
     let went = both_went (found (list_at 1 MOST_TANKS 0 top (codes "tank"))) _ tanks is in
     let listed = listed_there 1 MOST_TANKS top (codes "tank") went.0 (found_there _ went.0 went.1) in
-    let members = same_members tank_number (tank_of files format rounds products) (tank_alone files format rounds products) 1 [] went.0 tanks went.2 in
+    let members = same_members tank_number (tank_of files format rounding products) (tank_alone files format rounding products) 1 [] went.0 tanks went.2 in
     let numbered = and_parts (is_between 1 MOST_TANKS (length tanks)) (are_numbered tank_number (is_tank products) tanks) facts in
     let rising = and_parts (list_all (is_tank products) tanks) (rises (map tank_number tanks)) numbered.1 in
     record { tables = went.0; listed = listed; in_file = members.0; each = members.1; once = members.2; rising = rising.1 }
@@ -111,14 +111,14 @@ unfolding site_of_keys
 keys_mean files top site keys is =
     let format = both_went (found (format_at top)) _ site is in
     let name = both_went (found (name_at 0 top)) _ site format.2 in
-    let rounds = both_went (found (rounds_at format.0 top)) _ site name.2 in
-    let products = both_went (products_of files top) _ site rounds.2 in
+    let rounding = both_went (found (rounding_at format.0 top)) _ site name.2 in
+    let products = both_went (products_of files top) _ site rounding.2 in
     let parties = both_went (found (parties_of top)) _ site products.2 in
-    let tanks = both_went (tanks_of files format.0 rounds.0 (map product_number products.0) top) _ site parties.2 in
+    let tanks = both_went (tanks_of files format.0 rounding.0 (map product_number products.0) top) _ site parties.2 in
     let lines = both_went (found (lines_of (map tank_number tanks.0) top)) _ site tanks.2 in
     let made : Described = record {
       name = name.0;
-      rounds = rounds.0;
+      rounding = rounding.0;
       products = products.0;
       parties = parties.0;
       tanks = tanks.0;
@@ -133,10 +133,10 @@ keys_mean files top site keys is =
       format = format.0;
       of_format = found_there _ format.0 format.1;
       name = found_there _ name.0 name.1;
-      rounds = found_there _ rounds.0 rounds.1;
+      rounding = found_there _ rounding.0 rounding.1;
       products = products_listed files top products.0 products.1 has_products;
       parties = parties_listed top parties.0 (found_there _ parties.0 parties.1) has_parties;
-      tanks = tanks_listed files format.0 rounds.0 (map product_number products.0) top tanks.0 tanks.1 has_tanks;
+      tanks = tanks_listed files format.0 rounding.0 (map product_number products.0) top tanks.0 tanks.1 has_tanks;
       lines = found_there _ lines.0 lines.1;
     })
 
@@ -144,7 +144,7 @@ keys_mean files top site keys is =
 abbrev pub described : Site → Described
 described site = record {
   name = site.name;
-  rounds = site.rounds;
+  rounding = site.rounding;
   products = site.products;
   parties = site.parties;
   tanks = site.tanks;

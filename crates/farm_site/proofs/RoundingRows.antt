@@ -5,7 +5,7 @@ use Rattle.toml.specs.View.{view}
 use Rattle.toml.specs.declared.value.Value.{Value}
 use Rattle.farm_rounding.specs.Table.{Row, is_row, first_bad_row}
 use Rattle.site_items.specs.declared.formats.Format.{Format}
-use Rattle.farm_site.specs.Rounds.{row_of_value, rows_after}
+use Rattle.farm_site.specs.Rounding.{row_of_value, rows_after}
 
 -- a row that may stand first, before rows that may stand after it
 good_first : (n : ℕ) (row : Row) (rows : List Row) (b : Bool) → is_row n row ≡ b → first_bad_row n (row ∷ rows) ≡ None →

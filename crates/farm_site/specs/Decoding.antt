@@ -18,7 +18,7 @@ Parts = (List ℕ × List Row) × (List Product × (List Party × (List Tank × 
 
 -- the site of its parts
 abbrev pub site_of : Parts → Described
-site_of f = record { name = f.0.0; rounds = f.0.1; products = f.1.0; parties = f.1.1.0; tanks = f.1.1.1.0; lines = f.1.1.1.1 }
+site_of f = record { name = f.0.0; rounding = f.0.1; products = f.1.0; parties = f.1.1.0; tanks = f.1.1.1.0; lines = f.1.1.1.1 }
 
 -- a site: the tanks are read by the products, and the lines by the tanks
 unfoldable pub site_at : Reader Described

@@ -17,12 +17,12 @@ use Rattle.site_items.specs.Parties.{parties_of}
 use Rattle.site_items.specs.Products.{product_number, products_of}
 use Rattle.site_items.specs.Tanks.{tank_number, tanks_of}
 use Rattle.site_lines.specs.Lines.{lines_of}
-use Rattle.farm_site.specs.Rounds.{rounds_at}
+use Rattle.farm_site.specs.Rounding.{rounding_at}
 
 -- a site, as it is described
 pub record Described : Type 0 where
   pub name : List ℕ
-  pub rounds : List Row
+  pub rounding : List Row
   pub products : List Product
   pub parties : List Party
   pub tanks : List Tank
@@ -33,12 +33,12 @@ unfoldable pub site_of_keys : List File → Data → Result Described Refusal
 site_of_keys files top = do
   format ← found (format_at top)
   name ← found (name_at 0 top)
-  rounds ← found (rounds_at format top)
+  rounding ← found (rounding_at format top)
   products ← products_of files top
   parties ← found (parties_of top)
-  tanks ← tanks_of files format rounds (map product_number products) top
+  tanks ← tanks_of files format rounding (map product_number products) top
   lines ← found (lines_of (map tank_number tanks) top)
-  Ok (record { name = name; rounds = rounds; products = products; parties = parties; tanks = tanks; lines = lines })
+  Ok (record { name = name; rounding = rounding; products = products; parties = parties; tanks = tanks; lines = lines })
 
 -- the keys of the site file
 unfoldable pub top_of_files : List File → Result Data Refusal

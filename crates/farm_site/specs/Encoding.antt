@@ -12,14 +12,14 @@ use Rattle.farm_site.specs.Described.{Described}
 -- the bytes of a site: their format, its name, how figures are rounded, its products, parties, tanks and gauge lines
 unfoldable pub site_encoding : Described → List ℕ
 site_encoding site =
-    FORMAT ∷ text_bytes site.name ++ flat_map row_bytes site.rounds ++ short_list_bytes product_bytes site.products
+    FORMAT ∷ text_bytes site.name ++ flat_map row_bytes site.rounding ++ short_list_bytes product_bytes site.products
     ++ list_bytes w16 party_bytes site.parties ++ short_list_bytes tank_bytes site.tanks ++ short_list_bytes line_bytes site.lines
 
 -- What a site has, in the words of the rule: a name, a rounding table, products, parties, tanks each of one of the products, and gauge
 -- lines whose gauges are on the tanks.
 pub record IsSite (site : Described) : Type 0 where
   pub named : IsTrue (is_name site.name)
-  pub rounding : IsTable site.rounds
+  pub rounding : IsTable site.rounding
   pub products_sound : AreProducts site.products
   pub parties_sound : AreParties site.parties
   pub tanks_sound : AreTanks site.products site.tanks

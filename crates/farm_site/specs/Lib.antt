@@ -1,5 +1,5 @@
 -- The definitions of `farm_site`, by subject.
-pub mod Rounds
+pub mod Rounding
 pub mod Described
 pub mod Members
 pub mod Sites

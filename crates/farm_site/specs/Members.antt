@@ -14,7 +14,7 @@ use Rattle.site_items.specs.Products.{product_number, product_of}
 use Rattle.site_items.specs.Tanks.{tank_number, tank_of}
 use Rattle.site_lines.specs.Lines.{lines_of}
 use Rattle.farm_site.specs.Described.{Described, top_of_files}
-use Rattle.farm_site.specs.Rounds.{rounds_at}
+use Rattle.farm_site.specs.Rounding.{rounding_at}
 
 -- a site has the name and the rounding table of its file, its lines in the order of the file, and of each other list the items
 pub record IsSiteOf (files : List File) (site : Described) : Type 0 where
@@ -23,10 +23,10 @@ pub record IsSiteOf (files : List File) (site : Described) : Type 0 where
   pub format : Format
   pub of_format : format_at top ≡ Ok format
   pub name : name_at 0 top ≡ Ok site.name
-  pub rounds : rounds_at format top ≡ Ok site.rounds
+  pub rounding : rounding_at format top ≡ Ok site.rounding
   pub products : AreItemsAt product_number (product_of files []) top (codes "product") site.products
   pub parties : AreItemsAt party_number (party_of []) top (codes "party") site.parties
-  pub tanks : AreItemsAt tank_number (tank_of files format site.rounds (map product_number site.products) []) top (codes "tank") site.tanks
+  pub tanks : AreItemsAt tank_number (tank_of files format site.rounding (map product_number site.products) []) top (codes "tank") site.tanks
   pub lines : lines_of (map tank_number site.tanks) top ≡ Ok site.lines
 
 -- no site and no fault of one: the folder failed, or out of memory

@@ -6,7 +6,7 @@ use Rattle.farm_site.specs.Described.{Described}
 abbrev pub described : Site → Described
 described site = record {
   name = site.name;
-  rounds = site.rounds;
+  rounding = site.rounding;
   products = site.products;
   parties = site.parties;
   tanks = site.tanks;

@@ -33,7 +33,7 @@ impl Site {
         ensures whole { Gives (described) result (whole_site bytes.now) }
     {
         decoding_laws();
-        let ((name, rounds), rest) = match head_at(alloc, bytes) {
+        let ((name, rounding), rest) = match head_at(alloc, bytes) {
             Ok(read) => read,
             Err(fault) => return Err(fault),
         };
@@ -46,7 +46,7 @@ impl Site {
         }
         Ok(Site {
             name,
-            rounds,
+            rounding,
             products: Products::new(products),
             parties: Parties::new(parties),
             tanks: Tanks::new(tanks),

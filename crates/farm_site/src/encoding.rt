@@ -35,7 +35,7 @@ impl Site {
         ensures len { result ≡ length (site_encoding (described self.now)) }
         ensures short { result < MOST_SITE_BYTES }
     {
-        len_of_head(self.name.get(), &self.rounds)
+        len_of_head(self.name.get(), &self.rounding)
             + len_of_products(self.products.get())
             + len_of_parties(self.parties.get())
             + len_of_tanks(self.tanks.get())
@@ -49,7 +49,7 @@ impl Site {
         ensures put { IsPut out.old out.new (site_encoding (described self.now)) }
         ensures sound { IsSite (described self.now) }
     {
-        put_head(out, self.name.get(), &self.rounds);
+        put_head(out, self.name.get(), &self.rounding);
         put_products(out, self.products.get());
         put_parties(out, self.parties.get());
         put_tanks(out, self.tanks.get());

@@ -8,7 +8,7 @@
 mod decoding;
 mod encoding;
 mod lists;
-mod rounds;
+mod rounding;
 mod site;
 
 pub use encoding::MOST_SITE_BYTES;

@@ -20,7 +20,7 @@ ghost use Rattle.site_lines.specs.Lines.{are_lines};
 ghost use Rattle.farm_site.specs.Described.{product_numbered, site_of_files, site_of_keys, tank_numbered, top_of_files};
 ghost use Rattle.farm_site.specs.Members.{IsSiteOf, IsStopped};
 
-use crate::rounds::rounds_at;
+use crate::rounding::rounding_at;
 use crate::{Lines, Name, Parties, Product, Products, Tank, Tanks};
 use farm_ports::Folder;
 use farm_rounding::RoundTable;
@@ -36,7 +36,7 @@ pub struct Site {
     /// Its name, of 1 to 32 printable ASCII characters.
     pub name: Name,
     /// How figures are rounded.
-    pub rounds: RoundTable,
+    pub rounding: RoundTable,
     /// The products, from 1 to 16, in rising order of number.
     pub products: Products,
     /// The parties, at most 256, in rising order of number.
@@ -46,7 +46,7 @@ pub struct Site {
     /// The gauge lines, at most 16, in the order of the site file. Each gauge is on a tank of the site, and no two are on one.
     pub lines: Lines,
     pub ghost is_named: { IsTrue (is_name name) },
-    pub ghost has_rounds: { IsTable rounds },
+    pub ghost has_rounding: { IsTable rounding },
     pub ghost has_products: { IsTrue (are_products products) },
     pub ghost has_parties: { IsTrue (are_parties parties) },
     pub ghost has_tanks: { IsTrue (are_tanks (map product_number products) tanks) },
@@ -63,7 +63,7 @@ impl Site {
         ensures site { WhereKnown (F.files folder.new) (λ files. MatchResult result
             (λ site. site_of_files files ≡ Ok (record {
               name = site.name;
-              rounds = site.rounds;
+              rounding = site.rounding;
               products = site.products;
               parties = site.parties;
               tanks = site.tanks;
@@ -72,7 +72,7 @@ impl Site {
             (λ fault. IsRefusedAs (refusal_of fault) (site_of_files files))) }
         ensures meaning { WhereKnown (F.files folder.new) (λ files. IfOk result (λ site. IsSiteOf files (record {
           name = site.name;
-          rounds = site.rounds;
+          rounding = site.rounding;
           products = site.products;
           parties = site.parties;
           tanks = site.tanks;
@@ -96,7 +96,7 @@ impl Site {
         ensures site { (files : List File) → F.files folder.new ≡ Some files → MatchResult result
             (λ site. site_of_files files ≡ Ok (record {
               name = site.name;
-              rounds = site.rounds;
+              rounding = site.rounding;
               products = site.products;
               parties = site.parties;
               tanks = site.tanks;
@@ -128,7 +128,7 @@ impl Site {
         ensures site { (files : List File) → F.files folder.new ≡ Some files → MatchResult result
             (λ site. site_of_keys files (view top.now.table.now) ≡ Ok (record {
               name = site.name;
-              rounds = site.rounds;
+              rounding = site.rounding;
               products = site.products;
               parties = site.parties;
               tanks = site.tanks;
@@ -143,14 +143,14 @@ impl Site {
     {
         let format = format_at(top)?;
         let name = name_at(alloc, top)?;
-        let rounds = rounds_at(format, top)?;
+        let rounding = rounding_at(format, top)?;
         let products = products_of(alloc, folder, top)?;
         let parties = parties_of(alloc, top)?;
-        let tanks = tanks_of(alloc, folder, format, &rounds, &products, top)?;
+        let tanks = tanks_of(alloc, folder, format, &rounding, &products, top)?;
         let lines = lines_of(alloc, &tanks, top)?;
         Ok(Site {
             name,
-            rounds,
+            rounding,
             products: Products::new(products),
             parties: Parties::new(parties),
             tanks: Tanks::new(tanks),

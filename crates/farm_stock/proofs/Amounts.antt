@@ -43,8 +43,8 @@ total_more books index default before now inside now_is total =
 -- and their magnitudes stay within the limit
 pub within_more : (unit : Amount → ℤ) (books : List Book) (index : ℕ) (default : Book) (before now : ℤ) → index < length books →
     now ≡ before +ℤ unit (get_or books index default).amount →
-    unsigned_abs before + magnitudes unit (drop index books) ≤ 10 ^ 17 →
-    unsigned_abs now + magnitudes unit (drop (index + 1) books) ≤ 10 ^ 17
+    unsigned_abs before + magnitudes unit (drop index books) ≤ 10 ^ 18 →
+    unsigned_abs now + magnitudes unit (drop (index + 1) books) ≤ 10 ^ 18
 within_more unit books index default before now inside now_is within =
     let next = unit (get_or books index default).amount in
     let step = at_drop_more (magnitudes unit) books index default inside in

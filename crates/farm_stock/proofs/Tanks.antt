@@ -4,7 +4,7 @@ use Rattle.std.proofs.lemmas.Bool.Decides.{nat_tests}
 use Rattle.std.proofs.lemmas.List.Elements.{Contains-append_right}
 use Rattle.farm_stock.specs.declared.book.Book.{Book}
 use Rattle.farm_stock.specs.Books.{book_of, tanks_of}
-use Rattle.farm_stock.proofs.Places.{tests_same}
+use Rattle.farm_stock.proofs.Indexes.{tests_same}
 
 -- a tank that has a book is there
 is_there : (tank : ℕ) (books : List Book) → IsSome (book_of tank books) → Contains (tanks_of books) tank
@@ -17,11 +17,11 @@ is_there tank (book ∷ books) found = by (is_there tank books) (book.tank == ta
     by rest false e = Contains-append_right (book.tank ∷ []) (tanks_of books) tank (rest (rw e at found))
 
 -- a tank that is there has a book
-has_book : (tank : ℕ) (books : List Book) (place : ℕ) → place < length (tanks_of books) → get_or (tanks_of books) place tank ≡ tank →
+has_book : (tank : ℕ) (books : List Book) (index : ℕ) → index < length (tanks_of books) → get_or (tanks_of books) index tank ≡ tank →
     IsSome (book_of tank books)
-has_book tank [] place inside here = absurd (omega arith)
+has_book tank [] index inside here = absurd (omega arith)
 has_book tank (book ∷ books) zero inside here = rw (tests_same book.tank tank here) refl
-has_book tank (book ∷ books) (suc place) inside here = by (has_book tank books place (omega arith) here) (book.tank == tank) refl
+has_book tank (book ∷ books) (suc index) inside here = by (has_book tank books index (omega arith) here) (book.tank == tank) refl
   where
     by : IsSome (book_of tank books) → (b : Bool) → (book.tank == tank) ≡ b → IsSome (book_of tank (book ∷ books))
     by rest true e = rw e refl

@@ -10,10 +10,14 @@ abbrev pub magnitudes : (Amount → ℤ) → List Book → ℕ
 magnitudes unit [] = 0
 magnitudes unit (book ∷ books) = unsigned_abs (unit book.amount) + magnitudes unit books
 
--- the magnitudes of the books add up to at most 10^17, in litres and in kg
-pub record AreWithinSums (books : List Book) : Type 0 where
-  pub litres : magnitudes (λ amount. amount.litres) books ≤ 10 ^ 17
-  pub kg : magnitudes (λ amount. amount.kg) books ≤ 10 ^ 17
+-- the magnitudes of the books add up to at most this much, in litres and in kg
+pub record AddUpTo (most : ℕ) (books : List Book) : Type 0 where
+  pub litres : magnitudes (λ amount. amount.litres) books ≤ most
+  pub kg : magnitudes (λ amount. amount.kg) books ≤ most
+
+-- the magnitudes of the books of a stock add up to at most 10^17
+abbrev pub AreWithinSums : List Book → Type 0
+AreWithinSums books = AddUpTo (10 ^ 17) books
 
 -- the books of a stock: the numbers of the tanks rise, and the sums are within their limits
 pub record IsSound (books : List Book) : Type 0 where

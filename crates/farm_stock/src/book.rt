@@ -1,11 +1,11 @@
 //! The book of a tank, and lists of them.
 
-ghost use Rattle.std.specs.Prelude.{◌≡◌, ◌+ℤ◌, FitsSigned, IfOk, IsSome, MatchOption, None};
+ghost use Rattle.std.specs.Prelude.{◌≡◌, ◌^◌, ◌+ℤ◌, FitsSigned, IfOk, IsSome, MatchOption, None};
 ghost use Rattle.std.specs.Int.{w64};
 ghost use Rattle.farm_stock.specs.Books.{book_of, opened, plus, total_of};
-ghost use Rattle.farm_stock.specs.Places.{IsPlaceOf};
+ghost use Rattle.farm_stock.specs.Indexes.{IsIndexOf};
 ghost use Rattle.farm_stock.specs.Postings.{added};
-ghost use Rattle.farm_stock.specs.Sums.{AreWithinSums};
+ghost use Rattle.farm_stock.specs.Sums.{AddUpTo, AreWithinSums};
 
 use farm_fixed::Amount;
 use std::alloc::{AllocError, Global};
@@ -38,19 +38,19 @@ pub fn add(books: &mut [Book], tank: u16, amount: Amount)
     requires sums { AreWithinSums (added tank amount books.old) }
     ensures added { books.new ≡ added tank amount books.old }
 {
-    if let Some(place) = place_of(books, tank) {
-        let book = &mut books[place];
+    if let Some(index) = index_of(books, tank) {
+        let book = &mut books[index];
         book.amount = plus(book.amount, amount);
     }
 }
 
-/// The place of a tank's book among these, None where the tank isn't there.
-pub fn place_of(books: &[Book], tank: u16) -> Option<usize>
-    ensures place { MatchOption result (book_of tank books.now ≡ None) (IsPlaceOf tank books.now) }
+/// The index of a tank's book among these, None where the tank isn't there.
+pub fn index_of(books: &[Book], tank: u16) -> Option<usize>
+    ensures index { MatchOption result (book_of tank books.now ≡ None) (IsIndexOf tank books.now) }
 {
-    for (place, book) in books.iter().enumerate() {
+    for (index, book) in books.iter().enumerate() {
         if book.tank == tank {
-            return Some(place);
+            return Some(index);
         }
     }
     None
@@ -60,13 +60,13 @@ pub fn place_of(books: &[Book], tank: u16) -> Option<usize>
 pub fn book_of(books: &[Book], tank: u16) -> Option<Amount>
     ensures book { result ≡ book_of tank books.now }
 {
-    let place = place_of(books, tank)?;
-    Some(books[place].amount)
+    let index = index_of(books, tank)?;
+    Some(books[index].amount)
 }
 
-/// The sum of these books, litres and kg each by itself.
+/// The sum of these books, litres and kg each by itself. Their magnitudes add up to at most 10^18, so that every sum fits.
 pub fn total_of(books: &[Book]) -> Amount
-    requires sums { AreWithinSums books.now }
+    requires sums { AddUpTo (10 ^ 18) books.now }
     ensures total { result ≡ total_of books.now }
 {
     let mut total = Amount { litres: 0, kg: 0 };

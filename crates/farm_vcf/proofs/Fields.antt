@@ -3,7 +3,7 @@ use Rattle.std.proofs.Common.{◌≡◌, ◌≢◌, ℕ, zero, suc, ◌+◌, ◌
 use Rattle.std.specs.Prelude.{Result, Ok, Err}
 use Rattle.csv.specs.Records.{field_at}
 use Rattle.farm_base.specs.Steps.{IsRefusedAs}
-use Rattle.farm_csv.specs.Records.{equal_lengths, records_of}
+use Rattle.farm_csv.specs.Records.{have_equal_lengths, records_of}
 use Rattle.farm_csv.specs.Rows as csv
 use Rattle.farm_csv.specs.Rows.{AreRows, IsFaultOfRows, below_header}
 use Rattle.farm_csv.specs.declared.fault.CsvFault.{CsvFault}
@@ -62,12 +62,12 @@ rows_agree above (fields ∷ records) = by (row_of fields) (rows_of (above + 1) 
     by (Some row) (Err number) same = rw same refl
 
 -- the grid of a text with rows
-pub vcf_of_rows : (text : List ℕ) (rows : List Listed) → AreRows (λ above fields. row_of fields) (equal_lengths (records_of text)) (below_header (records_of text)) rows → vcf_of text ≡ grid_of_few (Ok rows)
+pub vcf_of_rows : (text : List ℕ) (rows : List Listed) → AreRows (λ above fields. row_of fields) (have_equal_lengths (records_of text)) (below_header (records_of text)) rows → vcf_of text ≡ grid_of_few (Ok rows)
 unfolding grid_of_records grid_under_header
 vcf_of_rows text rows are = rw (are.0, rows_agree 0 (below_header (records_of text)), are.1) refl
 
 -- a text whose records have a fault
-pub vcf_of_fault : (text : List ℕ) (fault : CsvFault) → IsFaultOfRows (λ above fields. row_of fields) (equal_lengths (records_of text)) (below_header (records_of text)) fault →
+pub vcf_of_fault : (text : List ℕ) (fault : CsvFault) → IsFaultOfRows (λ above fields. row_of fields) (have_equal_lengths (records_of text)) (below_header (records_of text)) fault →
     IsRefusedAs (reported (fault_of fault)) (vcf_of text)
 unfolding grid_of_records grid_under_header
 vcf_of_fault text cause.Uneven is = rw is refl

@@ -4,7 +4,7 @@ use Rattle.std.proofs.lemmas.Bool.Decides.{nat_tests}
 use Rattle.std.proofs.lemmas.List.Elements.{All-cons, All-nil}
 use Rattle.std.specs.Prelude.{IfSome, IsSome, MatchResult, Result, Ok, Err}
 use Rattle.farm_base.specs.Steps.{IsRefusedAs}
-use Rattle.farm_csv.specs.Records.{all_of_length, equal_lengths, records_of}
+use Rattle.farm_csv.specs.Records.{have_this_length, have_equal_lengths, records_of}
 use Rattle.farm_csv.specs.Rows.{below_header}
 use Rattle.farm_vcf.specs.declared.fault.VcfFault.{VcfFault}
 use Rattle.farm_vcf.specs.declared.rows.Listed.{Listed}
@@ -85,7 +85,7 @@ first_bad_record records m found = record {
 }
 
 -- so a text whose rows aren't read is refused there
-not_read : (text : List ℕ) (fault : FactorFault) → equal_lengths (records_of text) ≡ true → rows_below_header (records_of text) ≡ Err fault → IsFaultOfText text fault
+not_read : (text : List ℕ) (fault : FactorFault) → have_equal_lengths (records_of text) ≡ true → rows_below_header (records_of text) ≡ Err fault → IsFaultOfText text fault
 not_read text fault even is =
     let refused = refused_record 1 (below_header (records_of text)) fault is in
     let P : FactorFault → Type 0 = λ other. IsFaultOfText text other in
@@ -100,11 +100,11 @@ record OtherLength (size : ℕ) (records : List (List (List ℕ))) : Type 0 wher
   differs : ¬ (length other ≡ size)
 
 -- where not all records have a length, one has another
-other_length : (size : ℕ) (records : List (List (List ℕ))) → all_of_length size records ≡ false → OtherLength size records
+other_length : (size : ℕ) (records : List (List (List ℕ))) → have_this_length size records ≡ false → OtherLength size records
 other_length size [] uneven = cc
 other_length size (fields ∷ records) uneven = by (length fields == size) refl uneven (other_length size records)
   where
-    by : (b : Bool) → (length fields == size) ≡ b → (length fields == size && all_of_length size records) ≡ false → (all_of_length size records ≡ false → OtherLength size records) →
+    by : (b : Bool) → (length fields == size) ≡ b → (length fields == size && have_this_length size records) ≡ false → (have_this_length size records ≡ false → OtherLength size records) →
         OtherLength size (fields ∷ records)
     by true e is more =
         let rest = more (rw e at is) in
@@ -124,8 +124,8 @@ other_length size (fields ∷ records) uneven = by (length fields == size) refl 
     }
 
 -- records that aren't of one length are uneven
-uneven_is : (records : List (List (List ℕ))) → equal_lengths records ≡ false → IsUneven records
-unfolding equal_lengths
+uneven_is : (records : List (List (List ℕ))) → have_equal_lengths records ≡ false → IsUneven records
+unfolding have_equal_lengths
 uneven_is [] uneven = cc
 uneven_is (header ∷ records) uneven =
     let found = other_length (length header) records uneven in
@@ -139,7 +139,7 @@ uneven_is (header ∷ records) uneven =
     }
 
 -- the grid of the rows of a text, or its fault
-few_mean : (text : List ℕ) (few : Result (List Listed) FactorFault) → equal_lengths (records_of text) ≡ true → rows_below_header (records_of text) ≡ few →
+few_mean : (text : List ℕ) (few : Result (List Listed) FactorFault) → have_equal_lengths (records_of text) ≡ true → rows_below_header (records_of text) ≡ few →
     MatchResult (grid_of_few few) (IsGridOfText text) (IsFaultOfText text)
 few_mean text (Err fault) even is = not_read text fault even is
 few_mean text (Ok rows) even is = by (nat_lt 100000 (length rows)) (grid_of_rows rows) refl (rows_mean rows)
@@ -156,9 +156,9 @@ few_mean text (Ok rows) even is = by (nat_lt 100000 (length rows)) (grid_of_rows
 -- the grid of a text, or its fault
 text_means : (text : List ℕ) → MatchResult (vcf_of text) (IsGridOfText text) (IsFaultOfText text)
 unfolding grid_of_records grid_under_header
-text_means text = by (equal_lengths (records_of text)) refl (λ even. few_mean text (rows_below_header (records_of text)) even refl)
+text_means text = by (have_equal_lengths (records_of text)) refl (λ even. few_mean text (rows_below_header (records_of text)) even refl)
   where
-    by : (even : Bool) → equal_lengths (records_of text) ≡ even → (equal_lengths (records_of text) ≡ true → MatchResult (grid_of_few (rows_below_header (records_of text))) (IsGridOfText text) (IsFaultOfText text)) →
+    by : (even : Bool) → have_equal_lengths (records_of text) ≡ even → (have_equal_lengths (records_of text) ≡ true → MatchResult (grid_of_few (rows_below_header (records_of text))) (IsGridOfText text) (IsFaultOfText text)) →
         MatchResult (if even then grid_of_few (rows_below_header (records_of text)) else Err Csv) (IsGridOfText text) (IsFaultOfText text)
     by true e mean = mean e
     by false e mean = uneven_is (records_of text) e

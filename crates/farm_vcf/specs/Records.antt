@@ -2,8 +2,9 @@
 use Rattle.std.specs.Prelude.{◌≡◌, ℕ, ◌+◌, ◌<◌, ◌≤◌, ◌++◌, All, IsSome, IsTrue, nat_lt, if◌then◌else◌, List, [], ◌∷◌, length, Option, Some, None, Result, Ok, Err, ℤ, pos, negsuc}
 use Rattle.farm_fixed.specs.declared.fault.ReadFault.{ReadFault}
 use Rattle.farm_fixed.specs.Parsing.{quantity_of}
+use Rattle.farm_fixed.specs.declared.limits.TheConstants.{LEAST_DENSITY, LEAST_FACTOR, LEAST_TEMPERATURE, MOST_DENSITY, MOST_FACTOR, MOST_TEMPERATURE}
 use Rattle.farm_csv.specs.Blanks.{without_blanks}
-use Rattle.farm_csv.specs.Records.{equal_lengths, records_of}
+use Rattle.farm_csv.specs.Records.{have_equal_lengths, records_of}
 use Rattle.farm_csv.specs.Rows.{below_header}
 use Rattle.farm_vcf.specs.declared.grid.TheConstants.{MOST_FACTORS}
 use Rattle.farm_vcf.specs.declared.rows.Listed.{Listed}
@@ -23,9 +24,9 @@ row_from (Err fault) temperature factor = None
 abbrev pub row_of_fields : List ℕ → List ℕ → List ℕ → Option Listed
 row_of_fields density temperature factor =
     row_from
-    (quantity_of 1 (pos 4000) (pos 12000) (without_blanks density))
-    (quantity_of 2 (negsuc 9999) (pos 30000) (without_blanks temperature))
-    (quantity_of 5 (pos 50000) (pos 150000) (without_blanks factor))
+    (quantity_of 1 LEAST_DENSITY MOST_DENSITY (without_blanks density))
+    (quantity_of 2 LEAST_TEMPERATURE MOST_TEMPERATURE (without_blanks temperature))
+    (quantity_of 5 LEAST_FACTOR MOST_FACTOR (without_blanks factor))
 
 -- the row of a record
 unfoldable pub row_of : List (List ℕ) → Option Listed
@@ -61,7 +62,7 @@ grid_under_header records = grid_of_few (rows_below_header records)
 
 -- the grid of the records of a file
 unfoldable pub grid_of_records : List (List (List ℕ)) → Result Grid FactorFault
-grid_of_records records = if equal_lengths records then grid_under_header records else Err Csv
+grid_of_records records = if have_equal_lengths records then grid_under_header records else Err Csv
 
 -- the grid of a text, or its fault
 abbrev pub vcf_of : List ℕ → Result Grid FactorFault
@@ -69,7 +70,7 @@ vcf_of text = grid_of_records (records_of text)
 
 -- rows are those of a text: its records have one number of fields, and each below the header is a row
 pub record AreRowsOf (text : List ℕ) (rows : List Listed) : Type 0 where
-  pub even : IsTrue (equal_lengths (records_of text))
+  pub even : IsTrue (have_equal_lengths (records_of text))
   pub read : rows_below_header (records_of text) ≡ Ok rows
 
 -- a grid is that of a text: of its rows, at most 100,000
@@ -114,6 +115,6 @@ pub record IsFirstBreakOfText (text : List ℕ) (number : ℕ) : Type 0 where
 -- a text has a fault, and none of a kind before it
 abbrev pub IsFaultOfText : List ℕ → FactorFault → Type 0
 IsFaultOfText text Csv = IsUneven (records_of text)
-IsFaultOfText text (BadField n) = IsTrue (equal_lengths (records_of text)) × IsFirstBadRecord (below_header (records_of text)) n
+IsFaultOfText text (BadField n) = IsTrue (have_equal_lengths (records_of text)) × IsFirstBadRecord (below_header (records_of text)) n
 IsFaultOfText text TooMany = HasTooManyRows text
 IsFaultOfText text (NotGrid n) = IsFirstBreakOfText text n

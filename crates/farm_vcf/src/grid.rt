@@ -63,7 +63,7 @@ impl Vcf {
     ///
     /// The text is CSV by the csv reader's defaults. Blanks at the ends of a field are dropped.
     pub fn read(alloc: Global, text: &[u8]) -> Result<Vcf, VcfFault>
-        ensures value { MatchResult result (λ grid. vcf_of text.now ≡ Ok grid) (λ fault. IsRefusedAs (reported fault) (vcf_of text.now)) }
+        ensures grid { MatchResult result (λ grid. vcf_of text.now ≡ Ok grid) (λ fault. IsRefusedAs (reported fault) (vcf_of text.now)) }
         ensures meaning { MatchResult result (λ grid. IsGridOfText text.now grid) (λ fault. IfSome (reported fault) (IsFaultOfText text.now)) }
     {
         vcf_of(alloc, text)
@@ -71,7 +71,7 @@ impl Vcf {
 
     /// The listed densities, rising.
     pub fn densities(&self) -> &[Dens]
-        ensures value { result.now ≡ self.now.densities }
+        ensures densities { result.now ≡ self.now.densities }
         ensures grid { IsGrid self.now }
     {
         self.densities.as_slice()
@@ -79,7 +79,7 @@ impl Vcf {
 
     /// The listed temperatures, rising.
     pub fn temperatures(&self) -> &[Centi]
-        ensures value { result.now ≡ self.now.temperatures }
+        ensures temperatures { result.now ≡ self.now.temperatures }
         ensures grid { IsGrid self.now }
     {
         self.temperatures.as_slice()
@@ -87,7 +87,7 @@ impl Vcf {
 
     /// The factors, by density and then temperature.
     pub fn factors(&self) -> &[Fac5]
-        ensures value { result.now ≡ self.now.factors }
+        ensures factors { result.now ≡ self.now.factors }
         ensures grid { IsGrid self.now }
     {
         self.factors.as_slice()
@@ -98,7 +98,7 @@ impl Vcf {
     /// Of two listed values at the same distance `HalfAway` takes the one of greater magnitude and `TowardZero` the one of
     /// lesser; of -5.00 and 5.00 both take 5.00. `NoEntry` exactly below the first or above the last listed value.
     pub fn entry(&self, density: Dens, liquid: Centi, mode: Mode) -> Result<Fac5, NoEntry>
-        ensures value { MatchResult result (λ factor. grid_factor mode self.now density liquid ≡ Some factor) (λ _. grid_factor mode self.now density liquid ≡ None) }
+        ensures factor { MatchResult result (λ factor. grid_factor mode self.now density liquid ≡ Some factor) (λ _. grid_factor mode self.now density liquid ≡ None) }
         ensures meaning { MatchResult result (λ factor. IsEntry mode self.now density liquid factor) (λ _. ¬ (IsInGrid self.now density liquid)) }
     {
         let densities = self.densities.as_slice();

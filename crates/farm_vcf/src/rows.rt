@@ -27,7 +27,7 @@ pub struct Listed {
 /// At most 100,000 rows are asked for. Whatever lists factors row by row is a grid by this one rule.
 pub fn grid_of_rows(alloc: Global, rows: &[Listed]) -> Result<Vcf, VcfFault>
     requires most_factors { length rows.now ≤ MOST_FACTORS }
-    ensures value { MatchResult result (λ grid. grid_of_rows rows.now ≡ Ok grid) (λ fault. IsRefusedAs (reported fault) (grid_of_rows rows.now)) }
+    ensures grid { MatchResult result (λ grid. grid_of_rows rows.now ≡ Ok grid) (λ fault. IsRefusedAs (reported fault) (grid_of_rows rows.now)) }
     ensures meaning { MatchResult result (λ grid. IsGridOf rows.now grid) (λ fault. IfSome (reported fault) (IsFaultOfRows rows.now)) }
 {
     match rows {

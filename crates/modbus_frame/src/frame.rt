@@ -1,12 +1,14 @@
 //! What bytes are as a response.
 
+use crate::MOST_QUANTITY;
+
 /// The registers of a response.
 #[derive(Clone, Copy, Debug, PartialEq, Eq)]
 pub struct Registers {
     /// How many there are, from 1 to 125.
     pub count: u8,
     /// The registers, then zeros.
-    pub words: [u16; 125],
+    pub words: [u16; MOST_QUANTITY as usize],
 }
 
 /// What the bytes that were received so far are as a response to a request.

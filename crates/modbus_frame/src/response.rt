@@ -1,13 +1,14 @@
 //! Responses.
 
 ghost use Rattle.std.specs.Prelude.{◌^◌, ◌≡◌, ◌+◌, ◌-◌, ◌*◌, ◌<◌, ◌≤◌, ◌++◌, ℕ, IfErr, IfOk, IsOk, if◌then◌else◌, length, List, MatchResult, nat_lt};
+ghost use Rattle.modbus_frame.specs.declared.expect.TheConstants.{MOST_QUANTITY};
 ghost use Rattle.modbus_frame.specs.declared.frame.Frame.TheVariants.{Exception, Need};
 ghost use Rattle.modbus_frame.specs.Frames.{IsFrame, length_given, registers_of};
 ghost use Rattle.modbus_frame.specs.Fields.{IsDecided, byte_at, frame_answer, number_at, words_of};
 ghost use Rattle.modbus_frame.specs.Requests.{IsExpect};
 ghost use Rattle.modbus_frame.specs.Stages.{GivesLength, answer_at_count, answer_from_unit};
 
-use crate::{Expect, Frame, Registers};
+use crate::{Expect, Frame, MOST_QUANTITY, Registers};
 
 // The fewest bytes of a response, which those with an exception code have.
 const LEAST_FRAME: usize = 9;
@@ -24,7 +25,7 @@ const EXCEPTION: u8 = 128;
 /// whole response aren't looked at.
 pub fn read_response(bytes: &[u8], expect: &Expect) -> Frame
     requires expect { IsExpect expect.now }
-    ensures value { result ≡ frame_answer expect.now bytes.now }
+    ensures frame { result ≡ frame_answer expect.now bytes.now }
     ensures meaning { IsFrame expect.now bytes.now result }
     ensures stays { (more : List ℕ) → IsDecided result → frame_answer expect.now (bytes.now ++ more) ≡ result }
 {
@@ -128,11 +129,11 @@ fn read_exception(bytes: &[u8]) -> Frame
 
 // The registers that bytes begin with.
 fn registers(bytes: &[u8], count: u8) -> Registers
-    requires most { count ≤ 125 }
+    requires most { count ≤ MOST_QUANTITY }
     requires there { 2 * count ≤ length bytes.now }
     ensures { result ≡ registers_of (words_of count bytes.now) }
 {
-    let mut words = [0; 125];
+    let mut words = [0; MOST_QUANTITY as usize];
     for i in 0..usize::from(count) {
         words[i] = u16::from_be_bytes([bytes[2 * i], bytes[2 * i + 1]]);
     }

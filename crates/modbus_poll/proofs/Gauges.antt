@@ -6,6 +6,7 @@ use Rattle.std.proofs.lemmas.Bool.{and_parts, leb-true}
 use Rattle.std.proofs.lemmas.Bool.Decides.{nat_tests}
 use Rattle.std.proofs.lemmas.List.Folds.{list_all_at}
 use Rattle.farm_fixed.specs.Range.{is_within, is_between}
+use Rattle.farm_fixed.specs.declared.limits.TheConstants.{LEAST_TEMPERATURE, MOST_TEMPERATURE}
 use Rattle.modbus_poll.specs.declared.map.Field.{Field}
 use Rattle.modbus_poll.specs.declared.map.GaugeMap.{GaugeMap}
 use Rattle.modbus_poll.specs.declared.map.LineMap.{LineMap}
@@ -28,9 +29,9 @@ pub record IsGauge (gauge : GaugeMap) : Type 0 where
 -- a field's factors are in range
 scaled : (quantity : ℕ) (field : Field) → is_field quantity field ≡ true → IsScaled field
 scaled quantity field is =
-    let place : Bool = is_between 1 2 field.words && nat_le (field.offset + field.words) quantity in
-    let a = and_parts (place && is_between 1 1000000 field.mul) (is_between 1 1000000 field.div) is in
-    let b = and_parts place (is_between 1 1000000 field.mul) a.0 in
+    let index : Bool = is_between 1 2 field.words && nat_le (field.offset + field.words) quantity in
+    let a = and_parts (index && is_between 1 1000000 field.mul) (is_between 1 1000000 field.div) is in
+    let b = and_parts index (is_between 1 1000000 field.mul) a.0 in
     let mul = and_parts (nat_le 1 field.mul) (nat_le field.mul 1000000) b.1 in
     let div = and_parts (nat_le 1 field.div) (nat_le field.div 1000000) a.1 in
     record { mul = leb-true field.mul 1000000 mul.1; div_least = leb-true 1 field.div div.0; div_most = leb-true field.div 1000000 div.1 }
@@ -59,7 +60,7 @@ field_tests gauge =
 -- and of the validity bit
 abbrev valid_tests : GaugeMap → Bool
 valid_tests gauge =
-    field_tests gauge && is_within (negsuc 9999) (pos 30000) gauge.ambient_fixed && is_valid_or_none gauge.quantity gauge.valid
+    field_tests gauge && is_within LEAST_TEMPERATURE MOST_TEMPERATURE gauge.ambient_fixed && is_valid_or_none gauge.quantity gauge.valid
 
 -- a gauge that a site may have passes them
 passes : (gauge : GaugeMap) → is_gauge_map gauge ≡ true → valid_tests gauge ≡ true
@@ -70,7 +71,7 @@ passes gauge is =
 -- a gauge that a site may have is one
 pub gauge_is : (gauge : GaugeMap) → is_gauge_map gauge ≡ true → IsGauge gauge
 gauge_is gauge is =
-    let fixed : Bool = is_within (negsuc 9999) (pos 30000) gauge.ambient_fixed in
+    let fixed : Bool = is_within LEAST_TEMPERATURE MOST_TEMPERATURE gauge.ambient_fixed in
     let level : Bool = is_field gauge.quantity gauge.level in
     let temperature : Bool = is_field gauge.quantity gauge.temperature in
     let water : Bool = is_field_or_none gauge.quantity gauge.water in
@@ -99,15 +100,15 @@ gauge_is gauge is =
     }
 
 -- each gauge of a line that a site may have is one that a site may have
-gauge_of : (gauges : List GaugeMap) (place : ℕ) (default : GaugeMap) → list_all is_gauge_map gauges ≡ true → place < length gauges →
-    (test : Bool) → is_gauge_map (get_or gauges place default) ≡ test → test ≡ true
-gauge_of gauges place default all inside true is = refl
-gauge_of gauges place default all inside false is = let none = list_all_at is_gauge_map gauges place default inside is in cc
+gauge_of : (gauges : List GaugeMap) (index : ℕ) (default : GaugeMap) → list_all is_gauge_map gauges ≡ true → index < length gauges →
+    (test : Bool) → is_gauge_map (get_or gauges index default) ≡ test → test ≡ true
+gauge_of gauges index default all inside true is = refl
+gauge_of gauges index default all inside false is = let none = list_all_at is_gauge_map gauges index default inside is in cc
 
 -- the gauges of a line that a site may have pass their test
-pub gauges_are : (line : LineMap) (place : ℕ) (default : GaugeMap) → is_line_map line ≡ true → place < length line.gauges →
-    is_gauge_map (get_or line.gauges place default) ≡ true
-gauges_are line place default is inside =
+pub gauges_are : (line : LineMap) (index : ℕ) (default : GaugeMap) → is_line_map line ≡ true → index < length line.gauges →
+    is_gauge_map (get_or line.gauges index default) ≡ true
+gauges_are line index default is inside =
     let few : Bool = is_between 1 16 (length line.gauges) in
     let all = and_parts (is_host line.host && nat_le 1 line.port && few) (list_all is_gauge_map line.gauges) is in
-    gauge_of line.gauges place default all.1 inside (is_gauge_map (get_or line.gauges place default)) refl
+    gauge_of line.gauges index default all.1 inside (is_gauge_map (get_or line.gauges index default)) refl

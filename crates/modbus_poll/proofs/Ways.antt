@@ -22,18 +22,18 @@ added_on old middle new first second third added then =
     subst P (sym (append_assoc first second third)) (calls_add_up old middle new first (second ++ third) added then)
 
 -- a gauge whose turn it is, the poller being connected by these calls, and what is asked of it
-pub record IsConnected (before after : Option (List LinkCall)) (old : PollerState) (gauge : GaugeMap) (expect : Expect) (place number : ℕ) : Type 0 where
+pub record IsConnected (before after : Option (List LinkCall)) (old : PollerState) (gauge : GaugeMap) (expect : Expect) (index number : ℕ) : Type 0 where
   pub its_turn : IsGaugeAt old.line old.next gauge
   pub connects : AddsCalls before after (connects_of old)
   pub expect_is : expect ≡ expect_of gauge old.number
-  pub place_is : place ≡ old.next
+  pub index_is : index ≡ old.next
   pub number_is : number ≡ number_after old.number
 
 -- the response was decided
-pub decides : (before middle after : Option (List LinkCall)) (old : PollerState) (gauge : GaugeMap) (expect : Expect) (place number : ℕ) (answer : Polled) (frame : Frame) →
-    IsConnected before middle old gauge expect place number → IsAnswered middle after expect frame → answer ≡ polled_of gauge place frame →
+pub decides : (before middle after : Option (List LinkCall)) (old : PollerState) (gauge : GaugeMap) (expect : Expect) (index number : ℕ) (answer : Polled) (frame : Frame) →
+    IsConnected before middle old gauge expect index number → IsAnswered middle after expect frame → answer ≡ polled_of gauge index frame →
     Asks before after old (answer, number)
-decides before middle after old gauge expect place number answer frame is answered answer_is =
+decides before middle after old gauge expect index number answer frame is answered answer_is =
     let sends = answered.sends in
     let receives = answered.receives in
     let E : Expect → Type 0 = λ e. Decides old gauge e number (connects_of old ++ sent sends.pieces ++ received receives.came) answer in
@@ -44,7 +44,7 @@ decides before middle after old gauge expect place number answer frame is answer
       as_needed = receives.as_needed;
       decided = subst IsDecided (sym receives.is) receives.decided;
       calls_are = refl;
-      answer_is = answer_is ∙ ap₂ (polled_of gauge) is.place_is (sym receives.is);
+      answer_is = answer_is ∙ ap₂ (polled_of gauge) is.index_is (sym receives.is);
       number_is = is.number_is;
     } in
     record {
@@ -55,16 +55,16 @@ decides before middle after old gauge expect place number answer frame is answer
     }
 
 -- a send failed
-pub fails_to_send : (before middle after : Option (List LinkCall)) (old : PollerState) (gauge : GaugeMap) (expect : Expect) (place number : ℕ) →
-    IsConnected before middle old gauge expect place number → StopsSending middle after (request_frame expect) → Asks before after old (LinkFault place, number)
-fails_to_send before middle after old gauge expect place number is stops =
+pub fails_to_send : (before middle after : Option (List LinkCall)) (old : PollerState) (gauge : GaugeMap) (expect : Expect) (index number : ℕ) →
+    IsConnected before middle old gauge expect index number → StopsSending middle after (request_frame expect) → Asks before after old (LinkFault index, number)
+fails_to_send before middle after old gauge expect index number is stops =
     let calls : List LinkCall = connects_of old ++ sent stops.pieces ++ Sent [] true ∷ [] in
-    let E : Expect → Type 0 = λ e. FailsToSend old e number calls (LinkFault place) in
-    let here : FailsToSend old expect number calls (LinkFault place) = record {
+    let E : Expect → Type 0 = λ e. FailsToSend old e number calls (LinkFault index) in
+    let here : FailsToSend old expect number calls (LinkFault index) = record {
       pieces = stops.pieces;
       front = stops.front;
       calls_are = refl;
-      answer_is = ap LinkFault is.place_is;
+      answer_is = ap LinkFault is.index_is;
       number_is = is.number_is;
     } in
     record {
@@ -74,14 +74,14 @@ fails_to_send before middle after old gauge expect place number is stops =
     }
 
 -- a receive failed
-pub fails_to_receive : (before middle after : Option (List LinkCall)) (old : PollerState) (gauge : GaugeMap) (expect : Expect) (place number : ℕ) →
-    IsConnected before middle old gauge expect place number → IsUnanswered middle after expect → Asks before after old (LinkFault place, number)
-fails_to_receive before middle after old gauge expect place number is unanswered =
+pub fails_to_receive : (before middle after : Option (List LinkCall)) (old : PollerState) (gauge : GaugeMap) (expect : Expect) (index number : ℕ) →
+    IsConnected before middle old gauge expect index number → IsUnanswered middle after expect → Asks before after old (LinkFault index, number)
+fails_to_receive before middle after old gauge expect index number is unanswered =
     let sends = unanswered.sends in
     let stops = unanswered.receives in
     let calls : List LinkCall = connects_of old ++ sent sends.pieces ++ received stops.came ++ Received [] true ∷ [] in
-    let E : Expect → Type 0 = λ e. FailsToReceive old e number calls (LinkFault place) in
-    let here : FailsToReceive old expect number calls (LinkFault place) = record {
+    let E : Expect → Type 0 = λ e. FailsToReceive old e number calls (LinkFault index) in
+    let here : FailsToReceive old expect number calls (LinkFault index) = record {
       pieces = sends.pieces;
       whole = sends.whole;
       came = stops.came;
@@ -89,7 +89,7 @@ fails_to_receive before middle after old gauge expect place number is unanswered
       needed = stops.needed;
       undecided = stops.undecided;
       calls_are = refl;
-      answer_is = ap LinkFault is.place_is;
+      answer_is = ap LinkFault is.index_is;
       number_is = is.number_is;
     } in
     record {
@@ -100,8 +100,8 @@ fails_to_receive before middle after old gauge expect place number is unanswered
     }
 
 -- the link failed on the way
-pub fails : (before middle after : Option (List LinkCall)) (old : PollerState) (gauge : GaugeMap) (expect : Expect) (place number : ℕ) →
-    IsConnected before middle old gauge expect place number → StopsSending middle after (request_frame expect) ⊎ IsUnanswered middle after expect →
-    Asks before after old (LinkFault place, number)
-fails before middle after old gauge expect place number is (inl stops) = fails_to_send before middle after old gauge expect place number is stops
-fails before middle after old gauge expect place number is (inr unanswered) = fails_to_receive before middle after old gauge expect place number is unanswered
+pub fails : (before middle after : Option (List LinkCall)) (old : PollerState) (gauge : GaugeMap) (expect : Expect) (index number : ℕ) →
+    IsConnected before middle old gauge expect index number → StopsSending middle after (request_frame expect) ⊎ IsUnanswered middle after expect →
+    Asks before after old (LinkFault index, number)
+fails before middle after old gauge expect index number is (inl stops) = fails_to_send before middle after old gauge expect index number is stops
+fails before middle after old gauge expect index number is (inr unanswered) = fails_to_receive before middle after old gauge expect index number is unanswered

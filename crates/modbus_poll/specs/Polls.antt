@@ -18,7 +18,7 @@ use Rattle.modbus_poll.specs.Decoding.{is_valid, raw_reading}
 use Rattle.modbus_poll.specs.Maps.{is_line_map}
 use Rattle.modbus_poll.specs.Pieces.{IsPartlySent, IsSent, ReceivesAsNeeded, received, sent}
 
--- what a poller keeps: its line, the place of the gauge whose turn is next, the number of the next transaction, whether it is connected,
+-- what a poller keeps: its line, the index of the gauge whose turn is next, the number of the next transaction, whether it is connected,
 -- and what was last submitted of each gauge
 pub record PollerState : Type 0 where
   pub line : LineMap
@@ -27,7 +27,7 @@ pub record PollerState : Type 0 where
   pub connected : Bool
   pub last : List (Option Raw)
 
--- the line is one that a site may have, there is a place for what was submitted of each gauge, and the next gauge is one of them
+-- the line is one that a site may have, there is room for what was submitted of each gauge, and the next gauge is one of them
 pub record IsSound (state : PollerState) : Type 0 where
   pub line : IsTrue (is_line_map state.line)
   pub as_many : length state.last ≡ length state.line.gauges
@@ -37,27 +37,27 @@ pub record IsSound (state : PollerState) : Type 0 where
 abbrev pub fresh : LineMap → PollerState
 fresh line = record { line = line; next = 0; number = 1; connected = false; last = replicate (length line.gauges) None }
 
--- a gauge stands at this place of a line, from 0
-pub record IsGaugeAt (line : LineMap) (place : ℕ) (gauge : GaugeMap) : Type 0 where
-  pub inside : place < length line.gauges
-  pub here : (default : GaugeMap) → slice_index_or line.gauges place default ≡ gauge
+-- a gauge stands at this index of a line, from 0
+pub record IsGaugeAt (line : LineMap) (index : ℕ) (gauge : GaugeMap) : Type 0 where
+  pub inside : index < length line.gauges
+  pub here : (default : GaugeMap) → slice_index_or line.gauges index default ≡ gauge
 
--- what was last submitted of the gauge at a place
+-- what was last submitted of the gauge at an index
 abbrev pub last_of : PollerState → ℕ → Option Raw
-last_of state place = slice_index_or state.last place None
+last_of state index = slice_index_or state.last index None
 
--- a reading of the gauge at a place was submitted
+-- a reading of the gauge at an index was submitted
 abbrev pub with_submitted : PollerState → ℕ → Raw → PollerState
-with_submitted old place raw =
-    record { line = old.line; next = old.next; number = old.number; connected = old.connected; last = slice_set old.last place (Some raw) }
+with_submitted old index raw =
+    record { line = old.line; next = old.next; number = old.number; connected = old.connected; last = slice_set old.last index (Some raw) }
 
 -- the number of the transaction after this one: 0 after 65,535
 abbrev pub number_after : ℕ → ℕ
 number_after number = if number == 65535 then 0 else number + 1
 
--- the place after this one among a number of places: the first after the last
-abbrev pub place_after : ℕ → ℕ → ℕ
-place_after place count = if place + 1 == count then 0 else place + 1
+-- the index after this one among a number of items: the first after the last
+abbrev pub index_after : ℕ → ℕ → ℕ
+index_after index count = if index + 1 == count then 0 else index + 1
 
 -- what is asked of a gauge in a transaction
 abbrev pub expect_of : GaugeMap → ℕ → Expect
@@ -71,39 +71,39 @@ expect_of gauge number = record {
 
 -- registers as a poll's answer: the reading, or that it isn't valid
 abbrev pub valued : GaugeMap → ℕ → List ℕ → Polled
-valued gauge place words = if is_valid gauge.valid words then Value place (raw_reading gauge words) else NotValid place
+valued gauge index words = if is_valid gauge.valid words then Value index (raw_reading gauge words) else NotValid index
 
 -- a response as a poll's answer; one that isn't decided is a fault of the link
 abbrev pub polled_of : GaugeMap → ℕ → Frame → Polled
-polled_of gauge place (frame.Words registers used) = valued gauge place registers.words
-polled_of gauge place (frame.Exception code used) = Exception place code
-polled_of gauge place (frame.Wrong field) = Wrong place field
-polled_of gauge place (frame.Need count) = LinkFault place
+polled_of gauge index (frame.Words registers used) = valued gauge index registers.words
+polled_of gauge index (frame.Exception code used) = Exception index code
+polled_of gauge index (frame.Wrong field) = Wrong index field
+polled_of gauge index (frame.Need count) = LinkFault index
 
--- the place of the gauge that an answer is about
-abbrev pub place_of : Polled → ℕ
-place_of (Value place raw) = place
-place_of (NotValid place) = place
-place_of (Exception place code) = place
-place_of (Wrong place field) = place
-place_of (LinkFault place) = place
+-- the index of the gauge that an answer is about
+abbrev pub index_of : Polled → ℕ
+index_of (Value index raw) = index
+index_of (NotValid index) = index
+index_of (Exception index code) = index
+index_of (Wrong index field) = index
+index_of (LinkFault index) = index
 
 -- an answer leaves the connection as it is: a wrong response and a fault of the link drop it
 abbrev pub keeps_connection : Polled → Bool
-keeps_connection (Value place raw) = true
-keeps_connection (NotValid place) = true
-keeps_connection (Exception place code) = true
-keeps_connection (Wrong place field) = false
-keeps_connection (LinkFault place) = false
+keeps_connection (Value index raw) = true
+keeps_connection (NotValid index) = true
+keeps_connection (Exception index code) = true
+keeps_connection (Wrong index field) = false
+keeps_connection (LinkFault index) = false
 
 -- the link failed
 abbrev pub IsLinkFault : Polled → Type 0
-IsLinkFault answer = answer ≡ LinkFault (place_of answer)
+IsLinkFault answer = answer ≡ LinkFault (index_of answer)
 
 -- the poller after a poll: the next gauge has its turn
 abbrev pub turned : PollerState → ℕ → Bool → PollerState
 turned old number connected =
-    record { line = old.line; next = place_after old.next (length old.line.gauges); number = number; connected = connected; last = old.last }
+    record { line = old.line; next = index_after old.next (length old.line.gauges); number = number; connected = connected; last = old.last }
 
 -- a poll begins with a connect where the poller isn't connected
 abbrev pub connects_of : PollerState → List LinkCall

@@ -11,6 +11,7 @@
 mod asking;
 mod deadband;
 mod decoding;
+mod limits;
 mod map;
 mod polled;
 mod poller;
@@ -18,6 +19,10 @@ mod raw;
 mod receiving;
 mod sending;
 
+pub use limits::{
+    GREATEST_PORT, GREATEST_UNIT, HIGHEST_BIT, LONGEST_HOST, MOST_DEADBAND, MOST_GAUGES,
+    MOST_MULTIPLIER, MOST_WORDS, REGISTERS,
+};
 pub use map::{Field, GaugeMap, Gauges, Host, LineMap, Valid};
 pub use polled::Polled;
 pub use poller::Poller;

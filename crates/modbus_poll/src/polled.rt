@@ -8,7 +8,7 @@ use crate::decoding::{is_valid, raw_reading};
 use crate::{GaugeMap, Raw};
 use modbus_frame::Frame;
 
-/// What a poll of a gauge answers, with the gauge's place in its line, from 0.
+/// What a poll of a gauge answers, with the gauge's index in its line, from 0.
 #[derive(Clone, Copy, Debug, PartialEq, Eq)]
 pub enum Polled {
     /// The gauge answered, and the reading is valid.
@@ -24,27 +24,27 @@ pub enum Polled {
 }
 
 /// A response as a poll's answer.
-pub fn polled_of(gauge: &GaugeMap, place: usize, frame: &Frame) -> Polled
+pub fn polled_of(gauge: &GaugeMap, index: usize, frame: &Frame) -> Polled
     requires map { IsTrue (is_gauge_map gauge.now) }
-    ensures { result ≡ polled_of gauge.now place frame.now }
+    ensures { result ≡ polled_of gauge.now index frame.now }
 {
     match frame {
-        Frame::Words(registers, _) => valued(gauge, place, &registers.words),
-        Frame::Exception(code, _) => Polled::Exception(place, *code),
-        Frame::Wrong(field) => Polled::Wrong(place, *field),
-        Frame::Need(_) => Polled::LinkFault(place),
+        Frame::Words(registers, _) => valued(gauge, index, &registers.words),
+        Frame::Exception(code, _) => Polled::Exception(index, *code),
+        Frame::Wrong(field) => Polled::Wrong(index, *field),
+        Frame::Need(_) => Polled::LinkFault(index),
     }
 }
 
 // Registers as a poll's answer.
-fn valued(gauge: &GaugeMap, place: usize, words: &[u16]) -> Polled
+fn valued(gauge: &GaugeMap, index: usize, words: &[u16]) -> Polled
     requires map { IsTrue (is_gauge_map gauge.now) }
-    ensures { result ≡ valued gauge.now place words.now }
+    ensures { result ≡ valued gauge.now index words.now }
 {
     if is_valid(gauge.valid, words) {
-        Polled::Value(place, raw_reading(gauge, words))
+        Polled::Value(index, raw_reading(gauge, words))
     } else {
-        Polled::NotValid(place)
+        Polled::NotValid(index)
     }
 }
 

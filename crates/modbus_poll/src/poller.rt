@@ -5,7 +5,7 @@ ghost use Rattle.farm_base.specs.Counts.{HasCause, Rose};
 ghost use Rattle.modbus_poll.specs.declared.map.GaugeMap.{GaugeMap};
 ghost use Rattle.modbus_poll.specs.Deadbands.{IsDue, is_due};
 ghost use Rattle.modbus_poll.specs.Maps.{is_gauge_map, is_line_map};
-ghost use Rattle.modbus_poll.specs.Polls.{Asks, ConnectsFirst, IsGaugeAt, IsLinkFault, IsSound, Polls, fresh, keeps_connection, last_of, number_after, place_after, place_of, with_submitted};
+ghost use Rattle.modbus_poll.specs.Polls.{Asks, ConnectsFirst, IsGaugeAt, IsLinkFault, IsSound, Polls, fresh, keeps_connection, last_of, number_after, index_after, index_of, with_submitted};
 
 use crate::asking::{exchange, expect_of};
 use crate::deadband::is_due;
@@ -58,35 +58,35 @@ impl Poller {
     /// Polls the gauge whose turn it is, and gives the turn to the next one. Takes no memory.
     pub fn turn<L: Link>(&mut self, link: &mut L) -> Polled
         ensures poll { Polls (L.calls link.old) (L.calls link.new) self.old self.new result }
-        ensures position { place_of result ≡ self.old.next }
-        ensures inside { place_of result < length self.new.line.gauges }
+        ensures position { index_of result ≡ self.old.next }
+        ensures inside { index_of result < length self.new.line.gauges }
         ensures never_falls { L.faults link.old ≤ L.faults link.new }
         ensures fault { IsLinkFault result → Rose (L.faults link.old) (L.faults link.new) }
         ensures quiet { ¬ (IsLinkFault result) → L.faults link.new ≡ L.faults link.old }
         ensures connected { self.new.connected ≡ keeps_connection result }
         ensures line { self.new.line ≡ self.old.line }
         ensures last { self.new.last ≡ self.old.last }
-        ensures next { self.new.next ≡ place_after self.old.next (length self.old.line.gauges) }
+        ensures next { self.new.next ≡ index_after self.old.next (length self.old.line.gauges) }
         ensures sound { IsSound self.new }
     {
         let (answer, number) = self.ask(link);
-        self.next = place_after(self.next, self.line.gauges.get().len());
+        self.next = index_after(self.next, self.line.gauges.get().len());
         self.number = number;
         self.connected = keeps_connection(&answer);
         answer
     }
 
-    /// Whether a reading of the gauge at a place, from 0, is to be submitted.
+    /// Whether a reading of the gauge at an index, from 0, is to be submitted.
     pub fn due(&self, gauge: usize, raw: &Raw) -> bool
         requires gauge { gauge < length self.now.line.gauges }
-        ensures value { (map : GaugeMap) → IsGaugeAt self.now.line gauge map → result ≡ is_due map (last_of self.now gauge) raw.now }
+        ensures due { (map : GaugeMap) → IsGaugeAt self.now.line gauge map → result ≡ is_due map (last_of self.now gauge) raw.now }
         ensures meaning { (map : GaugeMap) → IsGaugeAt self.now.line gauge map → (result ≡ true) ↔ IsDue map (last_of self.now gauge) raw.now }
         ensures sound { IsSound self.now }
     {
         is_due(&self.line.gauges.get()[gauge], &self.last[gauge], raw)
     }
 
-    /// Remembers that a reading of the gauge at a place, from 0, was submitted.
+    /// Remembers that a reading of the gauge at an index, from 0, was submitted.
     pub fn submitted(&mut self, gauge: usize, raw: Raw)
         requires gauge { gauge < length self.old.line.gauges }
         ensures submitted { self.new ≡ with_submitted self.old gauge raw }
@@ -100,7 +100,7 @@ impl Poller {
         ensures never_falls { L.faults link.old ≤ L.faults link.new }
         ensures fault { IsLinkFault result.0 → Rose (L.faults link.old) (L.faults link.new) }
         ensures quiet { ¬ (IsLinkFault result.0) → L.faults link.new ≡ L.faults link.old }
-        ensures position { place_of result.0 ≡ self.now.next }
+        ensures position { index_of result.0 ≡ self.now.next }
     {
         let gauge = self.gauge();
         if let Err(Failed) = self.connect(link) {
@@ -141,11 +141,11 @@ fn number_after(number: u16) -> u16
     number.wrapping_add(1)
 }
 
-// The place after this one among `count`, the first after the last.
-fn place_after(place: usize, count: usize) -> usize
-    requires { place < count }
-    ensures value { result ≡ place_after place count }
+// The index after this one among `count`, the first after the last.
+fn index_after(index: usize, count: usize) -> usize
+    requires { index < count }
+    ensures value { result ≡ index_after index count }
     ensures inside { result < count }
 {
-    if place + 1 == count { 0 } else { place + 1 }
+    if index + 1 == count { 0 } else { index + 1 }
 }

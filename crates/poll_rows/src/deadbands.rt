@@ -10,7 +10,7 @@ use row_checks::{Checks, shared};
 use std::alloc::Global;
 use std::test::Fail;
 
-// Polls the gauge whose turn it is; its place and its reading where that is to be submitted.
+// Polls the gauge whose turn it is; its index and its reading where that is to be submitted.
 fn due_reading<L: Link>(poller: &mut Poller, link: &mut L) -> Option<(usize, Raw)>
     ensures { IfSome result (λ due. due.0 ≡ poller.old.next) }
 {

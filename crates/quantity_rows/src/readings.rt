@@ -14,13 +14,13 @@ use std::test::Fail;
 fn reading(
     alloc: Global,
     heights: &[i64],
-    rounds: &RoundTable,
+    rounding: &RoundTable,
 ) -> Result<Result<Mm, TapeFault>, Fail> {
     let mut tapes = Vec::new(alloc);
     for height in heights {
         tapes.push(Mm::new(*height)?)?;
     }
-    Ok(tape(&tapes, rounds))
+    Ok(tape(&tapes, rounding))
 }
 
 #[test]
@@ -44,10 +44,10 @@ fn equal_or_close_tapes_have_a_reading(rt: HostRuntime) -> Result<(), Fail> {
 }
 
 // The outage that tapes read and the innage that it stands for, where there are such.
-fn gauged(reference: Mm, tapes: &[Mm], rounds: &RoundTable) -> Option<(Mm, Mm)>
-    ensures { IfSome result (λ gauge. (tape_reading rounds.now tapes.now ≡ Ok gauge.0) × (gauge.1 +ℤ gauge.0 ≡ reference)) }
+fn gauged(reference: Mm, tapes: &[Mm], rounding: &RoundTable) -> Option<(Mm, Mm)>
+    ensures { IfSome result (λ gauge. (tape_reading rounding.now tapes.now ≡ Ok gauge.0) × (gauge.1 +ℤ gauge.0 ≡ reference)) }
 {
-    let outage = tape(tapes, rounds).ok()?;
+    let outage = tape(tapes, rounding).ok()?;
     let innage = innage(reference, outage).ok()?;
     Some((outage, innage))
 }

@@ -59,10 +59,10 @@ fn figures_at(
         density: Dens::new(density)?,
         sw: Permil5::new(0)?,
     };
-    let rounds = RoundTable::usual();
+    let rounding = RoundTable::usual();
     let table = table(alloc)?;
     let vcf = vcf(alloc)?;
-    Ok(quantities(&tank, &table, &vcf, &rounds, &reading, &sample))
+    Ok(quantities(&tank, &table, &vcf, &rounding, &reading, &sample))
 }
 
 #[test]

@@ -78,11 +78,11 @@ fn rows_of(
     plate: i64,
     deadwoods: &[(i64, i64, i64)],
     bottom: &[(i64, i64)],
-    rounds: &RoundTable,
+    rounding: &RoundTable,
 ) -> Result<Result<Vec<i64>, StrapFault>, Fail> {
     let course = [1_000, 355_000, 355_000, 0, 0, plate, 0];
     let tank = shared(tank_of(alloc, &[course], deadwoods, bottom)??);
-    Ok(tank.rows(alloc, rounds))
+    Ok(tank.rows(alloc, rounding))
 }
 
 #[test]
@@ -143,9 +143,9 @@ fn each_deadwood_is_rounded_by_itself(rt: HostRuntime) -> Result<(), Fail> {
         (RoundTable::usual(), 1_003 - 3 - 3),
         (RoundTable::new(steps)?, 1_000 - 4 - 4),
     ];
-    for (rounds, want) in cases {
+    for (rounding, want) in cases {
         let deadwoods = [(0, 1_000, 333), (0, 1_000, 333)];
-        let rows = rows_of(rt.alloc(), 0, &deadwoods, FLAT, &rounds)??;
+        let rows = rows_of(rt.alloc(), 0, &deadwoods, FLAT, &rounding)??;
         checks.same(rows.get(1).copied(), Some(want));
     }
     Ok(checks.end()?)

@@ -12,7 +12,7 @@ use std::alloc::Global;
 pub fn row_site(alloc: Global) -> Result<Site, SiteReadFault>
     ensures site { IfOk result (λ site. site_of_files row_files ≡ Ok (record {
       name = site.name;
-      rounds = site.rounds;
+      rounding = site.rounding;
       products = site.products;
       parties = site.parties;
       tanks = site.tanks;

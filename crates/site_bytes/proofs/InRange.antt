@@ -5,7 +5,7 @@ use Rattle.std.proofs.lemmas.Bool.{and_parts}
 use Rattle.std.proofs.lemmas.Bool.Decides.{nat_tests}
 use Rattle.std.proofs.lemmas.List.Sums.{AllPass-from_list_all}
 use Rattle.farm_fixed.proofs.ParsingLaws.{is_within-true}
-use Rattle.farm_fixed.specs.declared.limits.TheConstants.{MOST_COEFFICIENT, MOST_ROOF_MASS}
+use Rattle.farm_fixed.specs.declared.limits.TheConstants.{LEAST_TEMPERATURE, MOST_COEFFICIENT, MOST_ROOF_MASS, MOST_TEMPERATURE}
 use Rattle.farm_fixed.specs.Range.{is_within, is_between}
 use Rattle.modbus_poll.specs.declared.map.GaugeMap.{GaugeMap}
 use Rattle.modbus_poll.specs.declared.map.LineMap.{LineMap}
@@ -15,7 +15,7 @@ use Rattle.site_items.specs.declared.records.Tank.{Tank}
 use Rattle.site_items.specs.Facts.{are_tanks}
 use Rattle.site_items.specs.Shells.{is_roof}
 use Rattle.site_items.specs.Tanks.{is_tank}
-use Rattle.site_lines.specs.declared.lines.TheConstants.{MOST_GAUGES}
+use Rattle.modbus_poll.specs.declared.limits.TheConstants.{MOST_GAUGES}
 use Rattle.site_lines.specs.Lines.{are_lines}
 use Rattle.site_bytes.specs.Sizes.{IsGaugeInRange, IsLineInRange, IsRoofWithMass, IsTankInRange}
 
@@ -51,7 +51,7 @@ gauge_in_range gauge is =
     let to_deadband = (and_parts _ _ is).0 in
     let to_valid = (and_parts _ _ to_deadband).0 in
     let to_fixed = (and_parts _ _ to_valid).0 in
-    is_within-true (negsuc 9999) (pos 30000) gauge.ambient_fixed (and_parts _ _ to_fixed).1
+    is_within-true LEAST_TEMPERATURE MOST_TEMPERATURE gauge.ambient_fixed (and_parts _ _ to_fixed).1
 
 -- a number that lies in a range is at most its end
 at_most : (least most n : ℕ) → is_between least most n ≡ true → n ≤ most

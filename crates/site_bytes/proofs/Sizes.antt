@@ -20,8 +20,8 @@ length-flat_map-even item n (one ∷ items) even =
     omega arith
 
 -- rows of the rounding table have two bytes each
-pub length-rounds : (rounds : List Row) → length (flat_map row_bytes rounds) ≡ 2 * length rounds
-length-rounds rounds = length-flat_map-even row_bytes 2 rounds (λ row. refl)
+pub length-rounding : (rounding : List Row) → length (flat_map row_bytes rounding) ≡ 2 * length rounding
+length-rounding rounding = length-flat_map-even row_bytes 2 rounding (λ row. refl)
 
 -- the bytes of a grid
 pub length-grid : (grid : Grid) → length (grid_bytes grid) ≡ 8 + 2 * length grid.densities + 2 * length grid.temperatures + 4 * length grid.factors

@@ -1,7 +1,7 @@
 -- How large the items of a site are: what keeps their counts and numbers within their bytes, and the most bytes that each may have.
 use Rattle.std.specs.Prelude.{ℕ, ◌+◌, ◌*◌, ◌≤◌, All, IfSome, length, pos, negsuc}
 use Rattle.farm_fixed.specs.Range.{IsWithin}
-use Rattle.farm_fixed.specs.declared.limits.TheConstants.{MOST_COEFFICIENT, MOST_ROOF_MASS}
+use Rattle.farm_fixed.specs.declared.limits.TheConstants.{LEAST_TEMPERATURE, MOST_COEFFICIENT, MOST_ROOF_MASS, MOST_TEMPERATURE}
 use Rattle.farm_vcf.specs.declared.grid.TheConstants.{MOST_FACTORS}
 use Rattle.modbus_poll.specs.declared.map.GaugeMap.{GaugeMap}
 use Rattle.modbus_poll.specs.declared.map.LineMap.{LineMap}
@@ -9,7 +9,7 @@ use Rattle.site_items.specs.declared.names.TheConstants.{LONGEST_NAME}
 use Rattle.site_items.specs.declared.records.Party.{Party}
 use Rattle.site_items.specs.declared.records.Product.{Product}
 use Rattle.site_items.specs.declared.records.Tank.{Tank}
-use Rattle.site_lines.specs.declared.lines.TheConstants.{MOST_GAUGES}
+use Rattle.modbus_poll.specs.declared.limits.TheConstants.{MOST_GAUGES}
 use Rattle.strap_table.specs.declared.faults.TheConstants.{MOST_ROWS}
 use Rattle.strap_table.specs.declared.tank.Roof.{Roof}
 
@@ -32,7 +32,7 @@ pub record IsTankInRange (tank : Tank) : Type 0 where
 
 -- a gauge's fixed ambient temperature is from -100.00 to 300.00 C
 abbrev pub IsGaugeInRange : GaugeMap → Type 0
-IsGaugeInRange gauge = IsWithin (negsuc 9999) (pos 30000) gauge.ambient_fixed
+IsGaugeInRange gauge = IsWithin LEAST_TEMPERATURE MOST_TEMPERATURE gauge.ambient_fixed
 
 -- a line has a host of at most 64 bytes and at most 16 gauges
 pub record IsLineInRange (line : LineMap) : Type 0 where

@@ -14,7 +14,7 @@ use Rattle.farm_rounding.specs.Table.{IsTable, Row, first_bad_row, row_at}
 use Rattle.farm_rounding.proofs.Rows.{first_bad_of, table_from_rows}
 use Rattle.site_items.specs.Names.{is_name}
 use Rattle.site_decoding.specs.ByteReaders.{made_at, flag_at}
-use Rattle.site_decoding.specs.Decoding.{are_good, head_at, mode_of, name_at, round_at, rounds_at}
+use Rattle.site_decoding.specs.Decoding.{are_good, head_at, mode_of, name_at, round_at, rounding_at}
 use Rattle.site_bytes.specs.Encoding.{flag_byte, mode_byte, row_bytes, text_bytes}
 use Rattle.site_decoding.specs.Parts.{IsHead, head_bytes}
 use Rattle.site_decoding.specs.Readers.{IsReader}
@@ -100,9 +100,9 @@ steps_small rows table k row within =
     (subst P (get_or_default rows k (1, HalfAway) row within) (step_small (get_or rows k (1, HalfAway)).0 step), tt)
 
 -- rounding tables
-rounds_reader : IsReader IsTable (flat_map row_bytes) rounds_at
-unfolding rounds_at
-rounds_reader =
+rounding_reader : IsReader IsTable (flat_map row_bytes) rounding_at
+unfolding rounding_at
+rounding_reader =
     reader_as (tested_reader (λ rows. are_good (first_bad_row 1 rows)) (counted_reader round_reader 12))
     (λ rows h. table_from_rows rows h.0.0 (none_bad (first_bad_row 1 rows) h.1))
     (λ rows h. ((h.twelve, steps_small rows h), rows_good rows h))
@@ -113,7 +113,7 @@ rounds_reader =
 pub head_reader : IsReader IsHead head_bytes head_at
 unfolding head_at
 head_reader =
-    made_reader (then_reader (tested_reader (λ format. format == 1) byte_reader) (λ format h. then_reader name_reader (λ name i. rounds_reader))) (record {
+    made_reader (then_reader (tested_reader (λ format. format == 1) byte_reader) (λ format h. then_reader name_reader (λ name i. rounding_reader))) (record {
       to = λ p h. h.1;
       same = λ p h. ap (λ format. (format ∷ text_bytes p.1.0) ++ flat_map row_bytes p.1.1) (sym (eqb-true p.0 1 h.0.1));
       of = λ head. (1, head);

@@ -9,6 +9,7 @@ use Rattle.std.proofs.lemmas.List.Folds.{list_all-append}
 use Rattle.farm_base.proofs.BoolTests.{and_parts, leb-true, ltb-true}
 use Rattle.farm_fixed.specs.Range.{is_within, is_between}
 use Rattle.farm_fixed.proofs.ParsingLaws.{is_within-true}
+use Rattle.farm_fixed.specs.declared.limits.TheConstants.{LEAST_TEMPERATURE, MOST_TEMPERATURE}
 use Rattle.modbus_poll.specs.declared.map.Field.{Field}
 use Rattle.modbus_poll.specs.declared.map.GaugeMap.{GaugeMap}
 use Rattle.modbus_poll.specs.declared.map.LineMap.{LineMap}
@@ -66,8 +67,8 @@ deadband_fits : (n : ℕ) → is_between 1 1000 n ≡ true → n < 2 ^ 16
 deadband_fits n sound = let most = leb-true n 1000 (and_parts (nat_le 1 n) (nat_le n 1000) sound).1 in omega (arith, most)
 
 -- a temperature of a site is of its type
-fixed_fits : (fixed : ℤ) → is_within (negsuc 9999) (pos 30000) fixed ≡ true → FitsSigned w16 fixed
-fixed_fits fixed sound = let within = is_within-true (negsuc 9999) (pos 30000) fixed sound in omega (arith, ints, within.low, within.high)
+fixed_fits : (fixed : ℤ) → is_within LEAST_TEMPERATURE MOST_TEMPERATURE fixed ≡ true → FitsSigned w16 fixed
+fixed_fits fixed sound = let within = is_within-true LEAST_TEMPERATURE MOST_TEMPERATURE fixed sound in omega (arith, ints, within.low, within.high)
 
 -- what is read of a device is of its types
 asked_fits : (gauge : GaugeMap) → gauge.unit < 2 ^ 8 → is_between 3 4 gauge.function ≡ true → is_between 1 125 gauge.quantity ≡ true →
@@ -93,7 +94,7 @@ gauge_fits gauge tank sound typed =
     let e = is_field q gauge.temperature in
     let f = is_field_or_none q gauge.water in
     let g = is_field_or_none q gauge.ambient in
-    let h = is_within (negsuc 9999) (pos 30000) gauge.ambient_fixed in
+    let h = is_within LEAST_TEMPERATURE MOST_TEMPERATURE gauge.ambient_fixed in
     let i = is_valid_or_none q gauge.valid in
     let j = is_between 1 1000 gauge.deadband_mm in
     let ten = and_parts (a && b && c && d && e && f && g && h && i && j) (is_between 1 1000 gauge.deadband_centi) sound in

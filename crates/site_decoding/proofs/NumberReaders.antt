@@ -8,6 +8,7 @@ use Rattle.std.proofs.lemmas.List.{take_at, drop_at, take-append-drop, length-ta
 use Rattle.std.proofs.lemmas.Nat.{be_bytes_2, be_bytes_4, be_bytes_8, from_be_bytes-to_be_bytes_2, from_be_bytes-to_be_bytes_4, from_be_bytes-to_be_bytes_8}
 use Rattle.farm_fixed.specs.Range.{IsWithin, is_within}
 use Rattle.farm_fixed.proofs.ParsingLaws.{is_within-from, is_within-true}
+use Rattle.farm_fixed.specs.declared.limits.TheConstants.{LEAST_DENSITY, LEAST_FACTOR, LEAST_TEMPERATURE, MOST_DENSITY, MOST_FACTOR, MOST_HEIGHT, MOST_TEMPERATURE}
 use Rattle.site_decoding.specs.declared.fault.SiteBytesFault.TheVariants.{BadSite}
 use Rattle.site_decoding.specs.ByteReaders.{Reader, byte_at, byte_up_to, bytes_at, flag_at, natural_at, number_at, signed_at, tested_at, text_at}
 use Rattle.site_decoding.specs.Decoding.{density_at, factor_at, height_at, temperature_at}
@@ -192,24 +193,24 @@ natural_within least most limit small (pos n) h = record { is_pos = refl; below 
 natural_within least most limit small (negsuc n) h = absurd (omega (arith, ints, h.low))
 
 -- densities
-pub density_reader : IsReader (IsWithin (pos 4000) (pos 12000)) (natural_bytes w16) density_at
+pub density_reader : IsReader (IsWithin LEAST_DENSITY MOST_DENSITY) (natural_bytes w16) density_at
 unfolding density_at
-density_reader = ranged_reader (pos 4000) (pos 12000) (natural_reader w16 (2 ^ 16) wide16) (natural_within 4000 12000 (2 ^ 16) (omega arith))
+density_reader = ranged_reader LEAST_DENSITY MOST_DENSITY (natural_reader w16 (2 ^ 16) wide16) (natural_within 4000 12000 (2 ^ 16) (omega arith))
 
 -- temperatures
-pub temperature_reader : IsReader (IsWithin (negsuc 9999) (pos 30000)) (signed_bytes w16) temperature_at
+pub temperature_reader : IsReader (IsWithin LEAST_TEMPERATURE MOST_TEMPERATURE) (signed_bytes w16) temperature_at
 unfolding temperature_at
-temperature_reader = ranged_reader (negsuc 9999) (pos 30000) signed16_reader (λ z h. omega (arith, ints, h.low, h.high))
+temperature_reader = ranged_reader LEAST_TEMPERATURE MOST_TEMPERATURE signed16_reader (λ z h. omega (arith, ints, h.low, h.high))
 
 -- factors
-pub factor_reader : IsReader (IsWithin (pos 50000) (pos 150000)) (natural_bytes w32) factor_at
+pub factor_reader : IsReader (IsWithin LEAST_FACTOR MOST_FACTOR) (natural_bytes w32) factor_at
 unfolding factor_at
-factor_reader = ranged_reader (pos 50000) (pos 150000) (natural_reader w32 (2 ^ 32) wide32) (natural_within 50000 150000 (2 ^ 32) (omega arith))
+factor_reader = ranged_reader LEAST_FACTOR MOST_FACTOR (natural_reader w32 (2 ^ 32) wide32) (natural_within 50000 150000 (2 ^ 32) (omega arith))
 
 -- heights
-pub height_reader : IsReader (IsWithin (pos 0) (pos 50000)) (natural_bytes w16) height_at
+pub height_reader : IsReader (IsWithin (pos 0) MOST_HEIGHT) (natural_bytes w16) height_at
 unfolding height_at
-height_reader = ranged_reader (pos 0) (pos 50000) (natural_reader w16 (2 ^ 16) wide16) (natural_within 0 50000 (2 ^ 16) (omega arith))
+height_reader = ranged_reader (pos 0) MOST_HEIGHT (natural_reader w16 (2 ^ 16) wide16) (natural_within 0 50000 (2 ^ 16) (omega arith))
 
 -- Texts.
 

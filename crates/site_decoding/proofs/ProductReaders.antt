@@ -7,6 +7,7 @@ use Rattle.std.proofs.lemmas.List.Sums.{AllPass-from_list_all}
 use Rattle.std.proofs.Math.Nat.{mul-le-mul_left}
 use Rattle.farm_base.proofs.BoolTests.{and_parts, leb-true}
 use Rattle.farm_fixed.specs.Range.{IsWithin, is_between}
+use Rattle.farm_fixed.specs.declared.limits.TheConstants.{LEAST_DENSITY, LEAST_FACTOR, LEAST_TEMPERATURE, MOST_DENSITY, MOST_FACTOR, MOST_TEMPERATURE}
 use Rattle.farm_vcf.specs.Grid.{Grid, grid_from}
 use Rattle.site_items.specs.declared.records.Party.{Party}
 use Rattle.site_items.specs.declared.records.Product.{Product}
@@ -34,15 +35,15 @@ Lists = (List ℤ × List ℤ) × List ℤ
 
 -- the ranges of the three
 abbrev IsDensity : ℤ → Type 0
-IsDensity = IsWithin (pos 4000) (pos 12000)
+IsDensity = IsWithin LEAST_DENSITY MOST_DENSITY
 
 -- a temperature of a grid, in 0.01 C
 abbrev IsTemperature : ℤ → Type 0
-IsTemperature = IsWithin (negsuc 9999) (pos 30000)
+IsTemperature = IsWithin LEAST_TEMPERATURE MOST_TEMPERATURE
 
 -- a factor of a grid, in 0.00001
 abbrev IsFactor : ℤ → Type 0
-IsFactor = IsWithin (pos 50000) (pos 150000)
+IsFactor = IsWithin LEAST_FACTOR MOST_FACTOR
 
 -- lists that a grid is made of
 abbrev FitsLists : Lists → Type 0

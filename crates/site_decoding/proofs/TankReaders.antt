@@ -12,6 +12,7 @@ use Rattle.farm_fixed.specs.declared.records.Amount.{Amount}
 use Rattle.farm_fixed.specs.declared.records.Shell.{Shell}
 use Rattle.farm_fixed.specs.Range.{IsWithin, is_within, is_between}
 use Rattle.farm_fixed.proofs.ParsingLaws.{is_within-true}
+use Rattle.farm_fixed.specs.declared.limits.TheConstants.{LEAST_TEMPERATURE, MOST_HEIGHT, MOST_TEMPERATURE}
 use Rattle.site_items.specs.declared.records.Product.{Product}
 use Rattle.site_items.specs.declared.records.Tank.{Tank}
 use Rattle.site_items.specs.Facts.{are_products, are_tanks}
@@ -21,7 +22,7 @@ use Rattle.site_items.specs.Shells.{is_roof, is_spec}
 use Rattle.site_items.specs.Tanks.{is_opening, is_stock, is_tank, tank_number}
 use Rattle.site_items.proofs.TankParts.{coefficient_within, product_there, roof_is, spec_is}
 use Rattle.site_keys.specs.Lists.{are_numbered, is_among}
-use Rattle.strap_table.specs.declared.fault.TableFault.{TableFault}
+use Rattle.strap_table.specs.declared.faults.TableFault.{TableFault}
 use Rattle.strap_table.specs.declared.tank.Roof.{Roof}
 use Rattle.strap_table.specs.declared.tank.TankSpec.{TankSpec}
 use Rattle.strap_table.specs.Capacity.{IsCapTable}
@@ -42,7 +43,7 @@ use Rattle.site_decoding.proofs.Readers.{made_reader, reader_as, tested_reader, 
 
 -- the numbers of a shell are of their types
 abbrev FitsShell : Shell → Type 0
-FitsShell shell = Unit {0} × (IsNatural (2 ^ 16) shell.coefficient × IsWithin (negsuc 9999) (pos 30000) shell.reference)
+FitsShell shell = Unit {0} × (IsNatural (2 ^ 16) shell.coefficient × IsWithin LEAST_TEMPERATURE MOST_TEMPERATURE shell.reference)
 
 -- the bytes of a shell are those of its flag and its numbers, one after another
 shell_same : (insulated : Bool) (coefficient reference : ℤ) → shell_bytes (record { insulated = insulated; coefficient = coefficient; reference = reference }) ≡
@@ -64,7 +65,7 @@ shell_reader =
 
 -- the range of a height
 abbrev IsHeight : ℤ → Type 0
-IsHeight = IsWithin (pos 0) (pos 50000)
+IsHeight = IsWithin (pos 0) MOST_HEIGHT
 
 -- the numbers of a roof are of their types
 abbrev FitsRoof : Roof → Type 0
@@ -219,9 +220,9 @@ roof_fits (Some roof) sound typed =
 height_of : (spec : TankSpec) → is_spec spec ≡ true → IsHeight spec.height
 height_of spec sound =
     let coefficient = is_within (pos 0) (pos 1000) spec.shell.coefficient in
-    let height = is_within (pos 1) (pos 50000) spec.height in
+    let height = is_within (pos 1) MOST_HEIGHT spec.height in
     let both = and_parts coefficient height (and_parts (coefficient && height) (is_roof spec.roof) sound).0 in
-    let within = is_within-true (pos 1) (pos 50000) spec.height both.1 in
+    let within = is_within-true (pos 1) MOST_HEIGHT spec.height both.1 in
     record { low = omega (arith, ints, within.low); high = within.high }
 
 -- a sound tank is of its types

@@ -6,9 +6,10 @@ use Rattle.std.specs.Int.RustNames.{int_lt}
 use Rattle.farm_fixed.specs.Range.{is_within}
 use Rattle.farm_fixed.specs.declared.records.Amount.{Amount}
 use Rattle.farm_fixed.specs.declared.records.Shell.{Shell}
+use Rattle.farm_fixed.specs.declared.limits.TheConstants.{LEAST_DENSITY, LEAST_FACTOR, LEAST_TEMPERATURE, MOST_DENSITY, MOST_FACTOR, MOST_HEIGHT, MOST_TEMPERATURE}
 use Rattle.farm_rounding.specs.declared.mode.Mode.{Mode}
 use Rattle.farm_rounding.specs.declared.mode.Mode.TheVariants.{HalfAway, TowardZero}
-use Rattle.farm_rounding.specs.declared.table.TheConstants.{ROWS}
+use Rattle.farm_rounding.specs.declared.table.TheConstants.{ROUNDING_ROWS}
 use Rattle.farm_rounding.specs.Table.{Row, first_bad_row}
 use Rattle.farm_vcf.specs.Grid.{Grid, grid_from, is_full}
 use Rattle.modbus_poll.specs.declared.map.Field.{Field}
@@ -23,14 +24,14 @@ use Rattle.site_items.specs.Names.{is_name}
 use Rattle.site_items.specs.Products.{product_number}
 use Rattle.site_items.specs.Tanks.{tank_number}
 use Rattle.site_lines.specs.Lines.{are_lines}
-use Rattle.strap_table.specs.declared.fault.TableFault.{TableFault}
+use Rattle.strap_table.specs.declared.faults.TableFault.{TableFault}
 use Rattle.strap_table.specs.declared.tank.Roof.{Roof}
 use Rattle.strap_table.specs.declared.tank.TankSpec.{TankSpec}
 use Rattle.strap_table.specs.Faults.{first_fault}
 use Rattle.site_bytes.specs.declared.TheConstants.{FORMAT}
 use Rattle.site_decoding.specs.ByteReaders.{Reader, then_at, ◌▸◌, made_at, tested_at, byte_at, byte_up_to, flag_at, number_at, natural_at, signed_at, text_at, option_at, counted_at, short_list_at, list_at}
 use Rattle.site_decoding.specs.declared.decoding.gauges.Fields.{Fields}
-use Rattle.site_decoding.specs.declared.decoding.gauges.Request.{Request}
+use Rattle.site_lines.specs.declared.gauges.Request.{Request}
 
 -- The head.
 
@@ -53,26 +54,26 @@ are_good None = true
 are_good (Some bad) = false
 
 -- the rounding table
-unfoldable pub rounds_at : Reader (List Row)
-rounds_at = tested_at (λ rows. are_good (first_bad_row 1 rows)) (counted_at round_at ROWS)
+unfoldable pub rounding_at : Reader (List Row)
+rounding_at = tested_at (λ rows. are_good (first_bad_row 1 rows)) (counted_at round_at ROUNDING_ROWS)
 
 -- the head of a site: its format, its name and its rounding table
 unfoldable pub head_at : Reader (List ℕ × List Row)
-head_at = made_at (λ head. head.1) (tested_at (λ format. format == FORMAT) byte_at ▸ name_at ▸ rounds_at)
+head_at = made_at (λ head. head.1) (tested_at (λ format. format == FORMAT) byte_at ▸ name_at ▸ rounding_at)
 
 -- Products and parties.
 
 -- a density
 unfoldable pub density_at : Reader ℤ
-density_at = tested_at (is_within (pos 4000) (pos 12000)) (natural_at w16)
+density_at = tested_at (is_within LEAST_DENSITY MOST_DENSITY) (natural_at w16)
 
 -- a temperature
 unfoldable pub temperature_at : Reader ℤ
-temperature_at = tested_at (is_within (negsuc 9999) (pos 30000)) (signed_at w16)
+temperature_at = tested_at (is_within LEAST_TEMPERATURE MOST_TEMPERATURE) (signed_at w16)
 
 -- a factor
 unfoldable pub factor_at : Reader ℤ
-factor_at = tested_at (is_within (pos 50000) (pos 150000)) (natural_at w32)
+factor_at = tested_at (is_within LEAST_FACTOR MOST_FACTOR) (natural_at w32)
 
 -- each number is above the one before
 abbrev pub rises_above : ℤ → List ℤ → Bool
@@ -115,7 +116,7 @@ parties_at = tested_at are_parties (list_at w16 party_at)
 
 -- a height
 unfoldable pub height_at : Reader ℤ
-height_at = tested_at (is_within (pos 0) (pos 50000)) (natural_at w16)
+height_at = tested_at (is_within (pos 0) MOST_HEIGHT) (natural_at w16)
 
 -- a shell
 unfoldable pub shell_at : Reader Shell

@@ -16,7 +16,7 @@ use crate::SiteBytesFault;
 use crate::SiteBytesFault::BadSite;
 use crate::sound::{are_lines, are_parties, are_products, are_tanks};
 use farm_rounding::RoundTable;
-use heads::{format_at, name_at, rounds_at};
+use heads::{format_at, name_at, rounding_at};
 use lists::{list16_at, short_list_at};
 use modbus_poll::LineMap;
 use site_items::{Name, Party, Product, Tank};
@@ -29,8 +29,8 @@ pub fn head_at(alloc: Global, bytes: &[u8]) -> Result<((Name, RoundTable), &[u8]
 {
     let (_, rest) = format_at(bytes)?;
     let (name, rest) = name_at(alloc, rest)?;
-    match rounds_at(rest) {
-        Ok((rounds, rest)) => Ok(((name, rounds), rest)),
+    match rounding_at(rest) {
+        Ok((rounding, rest)) => Ok(((name, rounding), rest)),
         Err(fault) => Err(fault),
     }
 }

@@ -17,7 +17,7 @@ mod gauged;
 
 use crate::SiteBytesFault;
 use farm_fixed::{Amount, MOST_COEFFICIENT, MOST_HEIGHT, MOST_ROOF_MASS};
-use gauged::{all_gauged, all_line_maps, are_gauged};
+use gauged::{all_gauged, are_gauged, are_sound_lines};
 use modbus_poll::LineMap;
 use site_items::{
     LONGEST_NAME, MOST_PARTIES, MOST_PRODUCTS, MOST_STOCK, MOST_TANKS, Name, Party, Product, Tank,
@@ -33,7 +33,7 @@ pub fn are_products(products: &[Product]) -> bool
 {
     !products.is_empty()
         && products.len() <= MOST_PRODUCTS
-        && all_products(products)
+        && are_sound_products(products)
         && rises(products)
 }
 
@@ -41,14 +41,17 @@ pub fn are_products(products: &[Product]) -> bool
 pub fn are_parties(parties: &[Party]) -> bool
     ensures { result ≡ are_parties parties.now }
 {
-    parties.len() <= MOST_PARTIES && all_parties(parties) && rises(parties)
+    parties.len() <= MOST_PARTIES && are_sound_parties(parties) && rises(parties)
 }
 
 /// Whether these may be the tanks of a site with these products.
 pub fn are_tanks(products: &[Product], tanks: &[Tank]) -> bool
     ensures { result ≡ are_tanks (map product_number products.now) tanks.now }
 {
-    !tanks.is_empty() && tanks.len() <= MOST_TANKS && all_tanks(products, tanks) && rises(tanks)
+    !tanks.is_empty()
+        && tanks.len() <= MOST_TANKS
+        && are_sound_tanks(products, tanks)
+        && rises(tanks)
 }
 
 /// Whether these may be the gauge lines of a site with these tanks.
@@ -56,7 +59,7 @@ pub fn are_lines(alloc: Global, tanks: &[Tank], lines: &[LineMap]) -> Result<boo
     ensures lines { IfOk result (λ sound. sound ≡ are_lines (map tank_number tanks.now) lines.now) }
     ensures out_of_memory { IfErr result (λ fault. fault ≡ SiteBytesFault.NoMemory) }
 {
-    if lines.len() > MOST_LINES || !all_line_maps(lines) {
+    if lines.len() > MOST_LINES || !are_sound_lines(lines) {
         return Ok(false);
     }
     let gauged = all_gauged(alloc, lines)?;
@@ -102,7 +105,7 @@ fn is_number(number: u16) -> bool
 }
 
 // Whether each product is sound.
-fn all_products(products: &[Product]) -> bool
+fn are_sound_products(products: &[Product]) -> bool
     ensures { result ≡ list_all is_product products.now }
 {
     products.iter().all(is_product)
@@ -116,7 +119,7 @@ fn is_product(product: &Product) -> bool
 }
 
 // Whether each party is sound.
-fn all_parties(parties: &[Party]) -> bool
+fn are_sound_parties(parties: &[Party]) -> bool
     ensures { result ≡ list_all is_party parties.now }
 {
     parties.iter().all(is_party)
@@ -130,7 +133,7 @@ fn is_party(party: &Party) -> bool
 }
 
 // Whether each tank is sound, and of one of these products.
-fn all_tanks(products: &[Product], tanks: &[Tank]) -> bool
+fn are_sound_tanks(products: &[Product], tanks: &[Tank]) -> bool
     ensures { result ≡ list_all (is_tank (map product_number products.now)) tanks.now }
 {
     tanks.iter().all(|tank| is_tank(products, tank))

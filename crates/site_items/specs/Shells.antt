@@ -1,11 +1,11 @@
 -- What is fixed of a tank: its shell, its reference height and its roof.
-use Rattle.std.specs.Prelude.{ℕ, ◌&&◌, ◌||◌, Bool, true, false, not, if◌then◌else◌, List, codes, Option, Some, None, Result, Ok, pos, negsuc}
+use Rattle.std.specs.Prelude.{ℕ, ◌&&◌, ◌||◌, Bool, true, not, if◌then◌else◌, List, codes, Option, Some, None, Result, Ok, pos, negsuc}
 use Rattle.std.specs.Int.RustNames.{int_lt}
-use Rattle.std.specs.Str.{bytes_eq}
 use Rattle.toml.specs.Data.{Data}
 use Rattle.farm_base.specs.Steps.{◌>>=◌}
-use Rattle.farm_fixed.specs.declared.limits.TheConstants.{MOST_COEFFICIENT, MOST_HEIGHT, MOST_ROOF_MASS}
+use Rattle.farm_fixed.specs.declared.limits.TheConstants.{LEAST_TEMPERATURE, MOST_COEFFICIENT, MOST_HEIGHT, MOST_ROOF_MASS, MOST_TEMPERATURE}
 use Rattle.farm_fixed.specs.Range.{is_within}
+use Rattle.farm_fixed.specs.Shells.{insulated_of}
 use Rattle.farm_fixed.specs.declared.records.Shell.{Shell}
 use Rattle.strap_table.specs.declared.tank.Roof.{Roof}
 use Rattle.strap_table.specs.declared.tank.TankSpec.{TankSpec}
@@ -16,10 +16,14 @@ use Rattle.site_keys.specs.Keys.{has, quantity_at, text_at, whole_at}
 use Rattle.site_items.specs.declared.formats.Format.{Format}
 use Rattle.site_items.specs.declared.formats.Format.TheVariants.{One}
 
+-- a kind of shell that there is; any other text is outside its set
+abbrev pub kind_there : ℕ → Option Bool → Result Bool SiteFault
+kind_there item None = bad RANGE item 0
+kind_there item (Some insulated) = Ok insulated
+
 -- whether a shell is insulated
 abbrev pub shell_kind : ℕ → List ℕ → Result Bool SiteFault
-shell_kind item text =
-    if bytes_eq text (codes "bare") then Ok false else (if bytes_eq text (codes "insulated") then Ok true else bad RANGE item 0)
+shell_kind item text = kind_there item (insulated_of text)
 
 -- the shell of a tank
 unfoldable pub shell_at : ℕ → Data → Result Shell SiteFault
@@ -27,7 +31,7 @@ shell_at item keys = do
   text ← text_at item keys (codes "shell")
   insulated ← shell_kind item text
   coefficient ← whole_at item keys (codes "coefficient") (pos 0) MOST_COEFFICIENT
-  reference ← quantity_at 2 (negsuc 9999) (pos 30000) item keys (codes "reference_temperature")
+  reference ← quantity_at 2 LEAST_TEMPERATURE MOST_TEMPERATURE item keys (codes "reference_temperature")
   Ok (record { insulated = insulated; coefficient = coefficient; reference = reference })
 
 -- the floating roof of a tank, once it has one

@@ -49,12 +49,12 @@ opening_at item keys = do
 
 -- the capacity table of a file
 abbrev pub table_in : ℕ → List Row → Bool → List ℕ → Result (List ℤ) SiteFault
-table_in item rounds true bytes = strapped_file item rounds bytes
-table_in item rounds false bytes = table_of_file item bytes
+table_in item rounding true bytes = strapped_file item rounding bytes
+table_in item rounding false bytes = table_of_file item bytes
 
 -- a tank of a table, after others
 unfoldable pub tank_of : List File → Format → List Row → List ℕ → List Tank → ℕ → Data → Result Tank Refusal
-tank_of files format rounds products earlier item keys = do
+tank_of files format rounding products earlier item keys = do
   number ← found (own_number (map tank_number earlier) item keys)
   product ← found (reference_at item keys (codes "product") products)
   spec ← found (spec_at format item keys)
@@ -62,14 +62,14 @@ tank_of files format rounds products earlier item keys = do
   file ← found (text_at item keys (file_key strapped))
   opening ← found (opening_at item keys)
   bytes ← content files item file
-  table ← found (table_in item rounds strapped bytes)
+  table ← found (table_in item rounding strapped bytes)
   Ok (record { number = number; product = product; spec = spec; table = table; opening = opening })
 
 -- the tanks, from 1 to 64
 unfoldable pub tanks_of : List File → Format → List Row → List ℕ → Data → Result (List Tank) Refusal
-tanks_of files format rounds products top = do
+tanks_of files format rounding products top = do
   tables ← found (list_at 1 MOST_TANKS 0 top (codes "tank"))
-  numbered_from tank_number (tank_of files format rounds products) 1 [] tables
+  numbered_from tank_number (tank_of files format rounding products) 1 [] tables
 
 -- a stock is at most 10^9 either way
 abbrev pub is_stock : ℤ → Bool

@@ -10,7 +10,7 @@ ghost use Rattle.site_items.specs.Parties.{is_party, parties_of, party_number, p
 
 use crate::Party;
 use crate::names::name_at;
-use site_keys::{Keys, Numbered, SiteReadFault, list_at, own_number, place};
+use site_keys::{Keys, Numbered, SiteReadFault, list_at, own_number, put_by_number};
 use std::alloc::Global;
 use toml::Value;
 
@@ -55,7 +55,7 @@ fn parties_in(alloc: Global, tables: &[Value]) -> Result<Vec<Party>, SiteReadFau
             table,
         };
         let party = party_of(alloc, &parties, &keys)?;
-        place(&mut parties, party)?;
+        put_by_number(&mut parties, party)?;
     }
     Ok(parties)
 }

@@ -18,7 +18,8 @@ use crate::names::name_at;
 use farm_ports::Folder;
 use farm_vcf::{Vcf, VcfFault};
 use site_keys::{
-    FACTORS, Keys, Numbered, SiteReadFault, TEXT, bad, bad_at, content, list_at, own_number, place,
+    FACTORS, Keys, Numbered, SiteReadFault, TEXT, bad, bad_at, content, list_at, own_number,
+    put_by_number,
 };
 use std::alloc::Global;
 use toml::Value;
@@ -82,7 +83,7 @@ fn products_in<F: Folder>(
             table,
         };
         let product = product_of(alloc, folder, &products, &keys)?;
-        place(&mut products, product)?;
+        put_by_number(&mut products, product)?;
     }
     Ok(products)
 }

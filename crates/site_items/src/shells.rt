@@ -6,7 +6,9 @@ ghost use Rattle.farm_fixed.specs.Range.{IsWithin};
 ghost use Rattle.site_items.specs.Shells.{floating_at, is_roof, is_spec, roof_at, roof_of_three, shell_at, shell_kind, spec_at};
 
 use crate::Format;
-use farm_fixed::{HundredthDegree, Kg, MOST_COEFFICIENT, MOST_HEIGHT, MOST_ROOF_MASS, Mm, Shell};
+use farm_fixed::{
+    HundredthDegree, Kg, MOST_COEFFICIENT, MOST_HEIGHT, MOST_ROOF_MASS, Mm, Shell, insulated_of,
+};
 use site_keys::{Keys, RANGE, SiteFault, bad};
 use strap_table::{Roof, TankSpec};
 
@@ -47,10 +49,9 @@ fn shell_at(keys: &Keys<'_>) -> Result<Shell, SiteFault>
 fn shell_kind(item: u32, text: &str) -> Result<bool, SiteFault>
     ensures insulated { result ≡ shell_kind item text.now }
 {
-    match text {
-        "bare" => Ok(false),
-        "insulated" => Ok(true),
-        _ => Err(bad(RANGE, item)),
+    match insulated_of(text.as_bytes()) {
+        Some(insulated) => Ok(insulated),
+        None => Err(bad(RANGE, item)),
     }
 }
 

@@ -18,8 +18,8 @@ use farm_fixed::Amount;
 use farm_ports::Folder;
 use farm_rounding::RoundTable;
 use site_keys::{
-    FIELD, Keys, Numbered, SiteFault, SiteReadFault, bad, content, list_at, own_number, place,
-    reference,
+    FIELD, Keys, Numbered, SiteFault, SiteReadFault, bad, content, list_at, own_number,
+    put_by_number, reference,
 };
 use site_tables::{strapped_file, table_of_file};
 use std::alloc::Global;
@@ -48,26 +48,26 @@ pub fn tanks_of<F: Folder>(
     alloc: Global,
     folder: &mut F,
     format: Format,
-    rounds: &RoundTable,
+    rounding: &RoundTable,
     products: &[Product],
     top: &Keys<'_>,
 ) -> Result<Vec<Tank>, SiteReadFault>
     requires top_of_file { top.now.item ≡ 0 }
     ensures tanks { (files : List File) → F.files folder.new ≡ Some files →
-        MatchResult result (λ tanks. tanks_of files format rounds.now (map product_number products.now) (view top.now.table.now) ≡ Ok tanks.items)
-        (λ fault. IsRefusedAs (refusal_of fault) (tanks_of files format rounds.now (map product_number products.now) (view top.now.table.now))) }
+        MatchResult result (λ tanks. tanks_of files format rounding.now (map product_number products.now) (view top.now.table.now) ≡ Ok tanks.items)
+        (λ fault. IsRefusedAs (refusal_of fault) (tanks_of files format rounding.now (map product_number products.now) (view top.now.table.now))) }
     ensures sound { IfOk result (λ tanks. IsTrue (are_tanks (map product_number products.now) tanks.items)) }
     ensures keeps { KeepsKnown (F.files folder.old) (F.files folder.new) (F.faults folder.old) (F.faults folder.new)
         SiteReadFault.Folder result }
     ensures missing_only { F.lists_no_failure folder.old →
-        FailsAsMissing (F.files folder.new) result (λ files. tanks_of files format rounds.now (map product_number products.now) (view top.now.table.now)) }
+        FailsAsMissing (F.files folder.new) result (λ files. tanks_of files format rounding.now (map product_number products.now) (view top.now.table.now)) }
     ensures lists { F.lists_no_failure folder.old → F.lists_no_failure folder.new }
 {
     tanks_in(
         alloc,
         folder,
         format,
-        rounds,
+        rounding,
         products,
         list_at(top, "tank", 1, MOST_TANKS)?,
     )
@@ -78,20 +78,20 @@ fn tanks_in<F: Folder>(
     alloc: Global,
     folder: &mut F,
     format: Format,
-    rounds: &RoundTable,
+    rounding: &RoundTable,
     products: &[Product],
     tables: &[Value],
 ) -> Result<Vec<Tank>, SiteReadFault>
     requires { length tables.now ≤ MOST_TANKS }
     ensures tanks { (files : List File) → F.files folder.new ≡ Some files →
-        MatchResult result (λ tanks. numbered_from tank_number (tank_of files format rounds.now (map product_number products.now)) 1 [] (map view tables.now) ≡ Ok tanks.items)
-        (λ fault. IsRefusedAs (refusal_of fault) (numbered_from tank_number (tank_of files format rounds.now (map product_number products.now)) 1 [] (map view tables.now))) }
+        MatchResult result (λ tanks. numbered_from tank_number (tank_of files format rounding.now (map product_number products.now)) 1 [] (map view tables.now) ≡ Ok tanks.items)
+        (λ fault. IsRefusedAs (refusal_of fault) (numbered_from tank_number (tank_of files format rounding.now (map product_number products.now)) 1 [] (map view tables.now))) }
     ensures count { IfOk result (λ tanks. length tanks.items ≡ length tables.now) }
     ensures sound { IfOk result (λ tanks. IsTrue (are_numbered tank_number (is_tank (map product_number products.now)) tanks.items)) }
     ensures keeps { KeepsKnown (F.files folder.old) (F.files folder.new) (F.faults folder.old) (F.faults folder.new)
         SiteReadFault.Folder result }
     ensures missing_only { F.lists_no_failure folder.old →
-        FailsAsMissing (F.files folder.new) result (λ files. numbered_from tank_number (tank_of files format rounds.now (map product_number products.now)) 1 [] (map view tables.now)) }
+        FailsAsMissing (F.files folder.new) result (λ files. numbered_from tank_number (tank_of files format rounding.now (map product_number products.now)) 1 [] (map view tables.now)) }
     ensures lists { F.lists_no_failure folder.old → F.lists_no_failure folder.new }
 {
     let mut tanks = Vec::new(alloc);
@@ -100,8 +100,8 @@ fn tanks_in<F: Folder>(
             item: index as u32 + 1,
             table,
         };
-        let tank = tank_of(alloc, folder, format, rounds, products, &tanks, &keys)?;
-        place(&mut tanks, tank)?;
+        let tank = tank_of(alloc, folder, format, rounding, products, &tanks, &keys)?;
+        put_by_number(&mut tanks, tank)?;
     }
     Ok(tanks)
 }
@@ -112,20 +112,20 @@ fn tank_of<F: Folder>(
     alloc: Global,
     folder: &mut F,
     format: Format,
-    rounds: &RoundTable,
+    rounding: &RoundTable,
     products: &[Product],
     earlier: &[Tank],
     keys: &Keys<'_>,
 ) -> Result<Tank, SiteReadFault>
     ensures tank { (files : List File) → F.files folder.new ≡ Some files →
-        MatchResult result (λ tank. tank_of files format rounds.now (map product_number products.now) earlier.now keys.now.item (view keys.now.table.now) ≡ Ok tank)
-        (λ fault. IsRefusedAs (refusal_of fault) (tank_of files format rounds.now (map product_number products.now) earlier.now keys.now.item (view keys.now.table.now))) }
+        MatchResult result (λ tank. tank_of files format rounding.now (map product_number products.now) earlier.now keys.now.item (view keys.now.table.now) ≡ Ok tank)
+        (λ fault. IsRefusedAs (refusal_of fault) (tank_of files format rounding.now (map product_number products.now) earlier.now keys.now.item (view keys.now.table.now))) }
     ensures sound { IfOk result (λ tank. IsTrue (is_tank (map product_number products.now) tank)) }
     ensures fresh { IfOk result (λ tank. IsFalse (is_among tank.number (map tank_number earlier.now))) }
     ensures keeps { KeepsKnown (F.files folder.old) (F.files folder.new) (F.faults folder.old) (F.faults folder.new)
         SiteReadFault.Folder result }
     ensures missing_only { F.lists_no_failure folder.old →
-        FailsAsMissing (F.files folder.new) result (λ files. tank_of files format rounds.now (map product_number products.now) earlier.now keys.now.item (view keys.now.table.now)) }
+        FailsAsMissing (F.files folder.new) result (λ files. tank_of files format rounding.now (map product_number products.now) earlier.now keys.now.item (view keys.now.table.now)) }
     ensures lists { F.lists_no_failure folder.old → F.lists_no_failure folder.new }
 {
     let number = own_number(earlier, keys)?;
@@ -135,7 +135,7 @@ fn tank_of<F: Folder>(
     let file = keys.text(file_key(strapped))?;
     let opening = opening_at(keys)?;
     let bytes = content(alloc, folder, keys.item, file)?;
-    let table = table_in(alloc, keys.item, rounds, strapped, &bytes)?;
+    let table = table_in(alloc, keys.item, rounding, strapped, &bytes)?;
     Ok(Tank {
         number,
         product,
@@ -149,16 +149,16 @@ fn tank_of<F: Folder>(
 fn table_in(
     alloc: Global,
     item: u32,
-    rounds: &RoundTable,
+    rounding: &RoundTable,
     strapped: bool,
     bytes: &[u8],
 ) -> Result<CapTable, SiteReadFault>
-    ensures table { MatchResult result (λ table. table_in item rounds.now strapped bytes.now ≡ Ok table)
-        (λ fault. IsRefusedAs (reported fault) (table_in item rounds.now strapped bytes.now)) }
+    ensures table { MatchResult result (λ table. table_in item rounding.now strapped bytes.now ≡ Ok table)
+        (λ fault. IsRefusedAs (reported fault) (table_in item rounding.now strapped bytes.now)) }
     ensures not_the_folders { IfErr result IsNotTheFolders }
 {
     if strapped {
-        strapped_file(alloc, item, rounds, bytes)
+        strapped_file(alloc, item, rounding, bytes)
     } else {
         table_of_file(alloc, item, bytes)
     }

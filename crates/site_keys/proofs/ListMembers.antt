@@ -12,7 +12,7 @@ use Rattle.site_keys.specs.declared.fault.SiteFault.{SiteFault}
 use Rattle.site_keys.specs.Faults.{bad, found}
 use Rattle.site_keys.specs.declared.lists.TheConstants.{GREATEST_NUMBER}
 use Rattle.site_keys.specs.Keys.{array_or_none, natural_at}
-use Rattle.site_keys.specs.Lists.{EachReadsAs, list_at, numbered_from, own_number, is_among, place_among, placed}
+use Rattle.site_keys.specs.Lists.{EachReadsAs, list_at, numbered_from, own_number, is_among, index_among, placed}
 
 -- the first of two steps went well, and the second on what it gave
 pub both_went : {A B E : Type 0} (first : Result A E) (next : A → Result B E) (b : B) → (first >>= next) ≡ Ok b →
@@ -49,9 +49,9 @@ listed_there least most top key tables is =
 -- an item put among others, and those, are the item and the others
 placed_same : {A : Type 0} (number : A → ℕ) (new : A) (others : List A) → IsPermutation (placed number new others) (new ∷ others)
 placed_same number new others =
-    let place = place_among (number new) (map number others) in
+    let index = index_among (number new) (map number others) in
     let P : List _ → Type 0 = λ all. IsPermutation (placed number new others) (new ∷ all) in
-    subst P (take-append-drop place others) (IsPermutation-middle (take place others) new (drop place others))
+    subst P (take-append-drop index others) (IsPermutation-middle (take index others) new (drop index others))
 
 -- a number of its own is read the same where there are no earlier items
 pub own_alone : (earlier : List ℕ) (item : ℕ) (keys : Data) (n : ℕ) → own_number earlier item keys ≡ Ok n → own_number [] item keys ≡ Ok n

@@ -12,7 +12,7 @@ use Rattle.std.specs.Prelude.{Result}
 use Rattle.toml.specs.Data.{Data}
 use Rattle.toml.specs.View.{view}
 use Rattle.toml.specs.declared.value.Value.{Value}
-use Rattle.site_keys.specs.Lists.{are_numbered, is_among, numbered_from, place_among, placed, rises, rises_from}
+use Rattle.site_keys.specs.Lists.{are_numbered, is_among, numbered_from, index_among, placed, rises, rises_from}
 use Rattle.site_keys.proofs.Steps.{one_more}
 
 -- a number that is neither less than another nor the same is greater
@@ -27,24 +27,24 @@ module _ {A : Type 0} (number : A → ℕ) where
   -- and after one that has not
   placed_after : (new first : A) (others : List A) → nat_lt (number new) (number first) ≡ false →
       placed number new (first ∷ others) ≡ first ∷ placed number new others
-  placed_after new first others not_less = rw (not_less, add-one (place_among (number new) (map number others))) refl
+  placed_after new first others not_less = rw (not_less, add-one (index_among (number new) (map number others))) refl
 
   -- there is one item more
   pub placed_length : (new : A) (others : List A) → length (placed number new others) ≡ length others + 1
   placed_length new others =
-      let place = place_among (number new) (map number others) in
-      let apart = length-append (take place others) (drop place others) in
-      let whole = ap length (take-append-drop place others) in
-      let more = length-append (take place others) (new ∷ drop place others) in
+      let index = index_among (number new) (map number others) in
+      let apart = length-append (take index others) (drop index others) in
+      let whole = ap length (take-append-drop index others) in
+      let more = length-append (take index others) (new ∷ drop index others) in
       omega (arith, apart, whole, more)
 
   -- each passes a test, and so does the new one
   placed_all : (test : A → Bool) (new : A) (others : List A) → list_all test others ≡ true → test new ≡ true → list_all test (placed number new others) ≡ true
   placed_all test new others all passes =
-      let place = place_among (number new) (map number others) in
-      let apart = sym (list_all-append test (take place others) (drop place others)) ∙ ap (list_all test) (take-append-drop place others) ∙ all in
-      let parts = and_parts (list_all test (take place others)) (list_all test (drop place others)) apart in
-      rw (list_all-append test (take place others) (new ∷ drop place others), parts.0, passes, parts.1) refl
+      let index = index_among (number new) (map number others) in
+      let apart = sym (list_all-append test (take index others) (drop index others)) ∙ ap (list_all test) (take-append-drop index others) ∙ all in
+      let parts = and_parts (list_all test (take index others)) (list_all test (drop index others)) apart in
+      rw (list_all-append test (take index others) (new ∷ drop index others), parts.0, passes, parts.1) refl
 
   -- numbers rise from one, and so they do with a new one
   placed_rises_from : (before : ℕ) (new : A) (others : List A) → nat_lt before (number new) ≡ true → rises_from before (map number others) ≡ true →

@@ -27,19 +27,19 @@ read_from read done (value ∷ values) = do
   read_from read (done ++ next ∷ []) values
 
 -- where a number goes among others: before the first that is greater
-abbrev pub place_among : ℕ → List ℕ → ℕ
-place_among new [] = 0
-place_among new (number ∷ numbers) = if nat_lt new number then 0 else place_among new numbers + 1
+abbrev pub index_among : ℕ → List ℕ → ℕ
+index_among new [] = 0
+index_among new (number ∷ numbers) = if nat_lt new number then 0 else index_among new numbers + 1
 
--- an item put at a place among others
+-- an item put at an index among others
 abbrev pub put_at : {A : Type 0} → ℕ → A → List A → List A
-put_at place new others = take place others ++ new ∷ drop place others
+put_at index new others = take index others ++ new ∷ drop index others
 
 -- an item put among others in rising order of their numbers
 abbrev pub placed : {A : Type 0} → (A → ℕ) → A → List A → List A
-placed number new others = put_at (place_among (number new) (map number others)) new others
+placed number new others = put_at (index_among (number new) (map number others)) new others
 
--- the items of a list, each with the number of its place in the list, in rising order of their own numbers
+-- the items of a list, each with its number in the list, from 1, in rising order of their own numbers
 abbrev pub numbered_from : {A E : Type 0} → (A → ℕ) → (List A → ℕ → Data → Result A E) → ℕ → List A → List Data → Result (List A) E
 numbered_from number read item done [] = Ok done
 numbered_from number read item done (value ∷ values) = do

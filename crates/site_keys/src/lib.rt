@@ -15,5 +15,7 @@ pub use codes::{FACTORS, FIELD, RANGE, REPEATED, STRAP, TABLE, TEXT, TOO_LONG, T
 pub use fault::{SiteFault, SiteReadFault, bad, bad_at};
 pub use files::{content, toml_of};
 pub use keys::Keys;
-pub use lists::{GREATEST_NUMBER, Numbered, item_numbered, list_at, own_number, place, reference};
+pub use lists::{
+    GREATEST_NUMBER, Numbered, item_numbered, list_at, own_number, put_by_number, reference,
+};
 pub use texts::is_text;

@@ -1,7 +1,7 @@
 //! Lists of tables, and items that have a number of their own, in rising order of it.
 
 ghost use Rattle.std.specs.Prelude.{◌≡◌, ◌≤◌, ◌↔◌, ℕ, length, map, option_map, MatchResult, IfOk, IfErr, IfSome, IsNone, IsTrue, IsFalse, Ok, Err};
-ghost use Rattle.site_keys.specs.Lists.{is_among, item_numbered, known, list_at, own_number, place_among, placed, reference_at};
+ghost use Rattle.site_keys.specs.Lists.{is_among, item_numbered, known, list_at, own_number, index_among, placed, reference_at};
 ghost use Rattle.site_keys.specs.declared.fault.SiteReadFault.TheVariants.{NoMemory};
 ghost use Rattle.toml.specs.View.{view};
 
@@ -107,18 +107,18 @@ pub fn item_numbered<T: Numbered>(number: u16, items: &[T]) -> Option<&T>
 }
 
 /// Puts an item among others in rising order of their numbers, before the first that has a greater one.
-pub fn place<T: Numbered + Drop>(items: &mut Vec<T>, item: T) -> Result<(), SiteReadFault>
+pub fn put_by_number<T: Numbered + Drop>(items: &mut Vec<T>, item: T) -> Result<(), SiteReadFault>
     ensures placed { IfOk result (λ _. items.new.items ≡ placed T.numbered item items.old.items) }
     ensures out_of_memory { IfErr result (λ fault. fault ≡ NoMemory) }
 {
-    let index = place_of(item.number(), items);
+    let index = index_for(item.number(), items);
     items.insert(index, item)?;
     Ok(())
 }
 
 // Where an item of this number goes: before the first with a greater one.
-fn place_of<T: Numbered>(number: u16, items: &[T]) -> usize
-    ensures place { result ≡ place_among number (map T.numbered items.now) }
+fn index_for<T: Numbered>(number: u16, items: &[T]) -> usize
+    ensures index { result ≡ index_among number (map T.numbered items.now) }
     ensures within { result ≤ length items.now }
 {
     for (index, item) in items.iter().enumerate() {

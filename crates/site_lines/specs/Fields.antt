@@ -1,8 +1,10 @@
 -- The fields of a gauge: which registers of its answer make a number, and which bit says that they are valid.
-use Rattle.std.specs.Prelude.{ℕ, ◌+◌, Bool, true, false, nat_le, nat_lt, if◌then◌else◌, List, codes, Option, Some, None, Result, Ok, option_and_then}
+use Rattle.std.specs.Prelude.{ℕ, ◌+◌, ◌-◌, Bool, true, false, nat_le, nat_lt, if◌then◌else◌, List, codes, Option, Some, None, Result, Ok, option_and_then}
 use Rattle.std.specs.Str.{bytes_eq}
 use Rattle.farm_base.specs.Steps.{◌>>=◌}
 use Rattle.toml.specs.Data.{Data, get, as_bool}
+use Rattle.modbus_frame.specs.declared.expect.TheConstants.{MOST_QUANTITY}
+use Rattle.modbus_poll.specs.declared.limits.TheConstants.{HIGHEST_BIT, MOST_MULTIPLIER, MOST_WORDS}
 use Rattle.modbus_poll.specs.declared.map.Field.{Field}
 use Rattle.modbus_poll.specs.declared.map.Valid.{Valid}
 use Rattle.site_keys.specs.declared.codes.TheConstants.{RANGE}
@@ -30,13 +32,13 @@ signed_at item keys =
 -- a field among this number of registers
 unfoldable pub field_of : ℕ → ℕ → Data → Result Field SiteFault
 field_of quantity item keys = do
-  offset ← natural_at item keys (codes "offset") 0 124
-  words ← natural_or 1 item keys (codes "words") 1 2
+  offset ← natural_at item keys (codes "offset") 0 (MOST_QUANTITY - 1)
+  words ← natural_or 1 item keys (codes "words") 1 MOST_WORDS
   within ← ranged item (nat_le (offset + words) quantity) offset
   swapped ← order_at item keys
   signed ← signed_at item keys
-  mul ← natural_or 1 item keys (codes "mul") 1 1000000
-  div ← natural_or 1 item keys (codes "div") 1 1000000
+  mul ← natural_or 1 item keys (codes "mul") 1 MOST_MULTIPLIER
+  div ← natural_or 1 item keys (codes "div") 1 MOST_MULTIPLIER
   Ok (record { offset = within; words = words; swapped = swapped; signed = signed; mul = mul; div = div })
 
 -- a field at a key
@@ -55,9 +57,9 @@ field_or_none quantity item keys key =
 -- a bit among this number of registers
 unfoldable pub valid_of : ℕ → ℕ → Data → Result Valid SiteFault
 valid_of quantity item keys = do
-  offset ← natural_at item keys (codes "offset") 0 124
+  offset ← natural_at item keys (codes "offset") 0 (MOST_QUANTITY - 1)
   within ← ranged item (nat_lt offset quantity) offset
-  bit ← natural_at item keys (codes "bit") 0 15
+  bit ← natural_at item keys (codes "bit") 0 HIGHEST_BIT
   Ok (record { offset = within; bit = bit })
 
 -- the validity bit, if there is one

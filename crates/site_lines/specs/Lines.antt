@@ -3,13 +3,14 @@ use Rattle.std.specs.Prelude.{ℕ, ◌+◌, ◌&&◌, Bool, nat_le, List, [], �
 use Rattle.std.specs.List.{list_all}
 use Rattle.farm_base.specs.Steps.{◌>>=◌}
 use Rattle.toml.specs.Data.{Data}
+use Rattle.modbus_poll.specs.declared.limits.TheConstants.{GREATEST_PORT, MOST_GAUGES}
 use Rattle.modbus_poll.specs.Maps.{is_host, is_line_map}
 use Rattle.modbus_poll.specs.declared.map.LineMap.{LineMap}
 use Rattle.site_keys.specs.declared.fault.SiteFault.{SiteFault}
 use Rattle.site_keys.specs.Faults.{ranged}
 use Rattle.site_keys.specs.Keys.{natural_at, text_at}
 use Rattle.site_keys.specs.Lists.{list_at}
-use Rattle.site_lines.specs.declared.lines.TheConstants.{MOST_GAUGES, MOST_LINES}
+use Rattle.site_lines.specs.declared.lines.TheConstants.{MOST_LINES}
 use Rattle.site_lines.specs.Gauges.{are_gauged, gauges_from, tanks_gauged}
 
 -- a host
@@ -22,7 +23,7 @@ host_at item keys = do
 unfoldable pub line_of : ℕ → List ℕ → List ℕ → Data → Result LineMap SiteFault
 line_of item tanks gauged keys = do
   host ← host_at item keys
-  port ← natural_at item keys (codes "port") 1 65535
+  port ← natural_at item keys (codes "port") 1 GREATEST_PORT
   tables ← list_at 1 MOST_GAUGES item keys (codes "gauge")
   gauges ← gauges_from item tanks gauged [] tables
   Ok (record { host = host; port = port; gauges = gauges })

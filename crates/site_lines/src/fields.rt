@@ -6,7 +6,8 @@ ghost use Rattle.toml.specs.View.{view};
 ghost use Rattle.modbus_poll.specs.Maps.{is_field, is_field_or_none, is_valid_or_none};
 ghost use Rattle.site_lines.specs.Fields.{field_at, field_of, field_or_none, order_at, signed_at, valid_of, valid_or_none, word_order};
 
-use modbus_poll::{Field, Valid};
+use modbus_frame::MOST_QUANTITY;
+use modbus_poll::{Field, HIGHEST_BIT, MOST_MULTIPLIER, MOST_WORDS, Valid};
 use site_keys::{FIELD, Keys, RANGE, SiteFault, bad};
 
 /// A field at a key.
@@ -45,8 +46,8 @@ fn field_of(quantity: u8, keys: &Keys<'_>) -> Result<Field, SiteFault>
     ensures field { result ≡ field_of quantity keys.now.item (view keys.now.table.now) }
     ensures sound { IfOk result (λ field. IsTrue (is_field quantity field)) }
 {
-    let offset = keys.natural("offset", 0, 124)? as u8;
-    let words = keys.natural_or(1, "words", 1, 2)? as u8;
+    let offset = keys.natural("offset", 0, MOST_QUANTITY as u32 - 1)? as u8;
+    let words = keys.natural_or(1, "words", 1, MOST_WORDS as u32)? as u8;
     if offset + words > quantity {
         return Err(bad(RANGE, keys.item));
     }
@@ -55,8 +56,8 @@ fn field_of(quantity: u8, keys: &Keys<'_>) -> Result<Field, SiteFault>
         words,
         swapped: order_at(keys)?,
         signed: signed_at(keys)?,
-        mul: keys.natural_or(1, "mul", 1, 1_000_000)?,
-        div: keys.natural_or(1, "div", 1, 1_000_000)?,
+        mul: keys.natural_or(1, "mul", 1, MOST_MULTIPLIER)?,
+        div: keys.natural_or(1, "div", 1, MOST_MULTIPLIER)?,
     })
 }
 
@@ -116,10 +117,10 @@ fn valid_of(quantity: u8, keys: &Keys<'_>) -> Result<Valid, SiteFault>
     ensures valid { result ≡ valid_of quantity keys.now.item (view keys.now.table.now) }
     ensures sound { IfOk result (λ valid. IsTrue (is_valid_or_none quantity (Some valid))) }
 {
-    let offset = keys.natural("offset", 0, 124)? as u8;
+    let offset = keys.natural("offset", 0, MOST_QUANTITY as u32 - 1)? as u8;
     if offset >= quantity {
         return Err(bad(RANGE, keys.item));
     }
-    let bit = keys.natural("bit", 0, 15)? as u8;
+    let bit = keys.natural("bit", 0, HIGHEST_BIT as u32)? as u8;
     Ok(Valid { offset, bit })
 }

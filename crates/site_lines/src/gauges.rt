@@ -1,9 +1,12 @@
 //! The gauges of a line: what is asked of the device, and which registers are a tank's level and temperatures.
 
-ghost use Rattle.std.specs.Prelude.{◌≡◌, ◌+◌, ◌++◌, [], nat_le, length, map, codes, pos, negsuc, MatchResult, IfOk, Ok, IsTrue, IsFalse, IfErr};
+ghost use Rattle.std.specs.Prelude.{◌≡◌, ◌+◌, ◌++◌, [], nat_le, length, map, codes, MatchResult, IfOk, Ok, IsTrue, IsFalse, IfErr};
 ghost use Rattle.std.specs.List.{list_all};
 ghost use Rattle.toml.specs.View.{view};
 ghost use Rattle.farm_fixed.specs.Range.{is_within, is_between};
+ghost use Rattle.farm_fixed.specs.declared.limits.TheConstants.{LEAST_TEMPERATURE, MOST_TEMPERATURE};
+ghost use Rattle.modbus_frame.specs.declared.expect.TheConstants.{LEAST_QUANTITY, MOST_QUANTITY};
+ghost use Rattle.modbus_poll.specs.declared.limits.TheConstants.{MOST_DEADBAND, REGISTERS};
 ghost use Rattle.modbus_poll.specs.Maps.{is_gauge_map};
 ghost use Rattle.farm_base.specs.Steps.{IsRefusedAs};
 ghost use Rattle.site_keys.specs.Faults.{IsNotTheFolders, reported};
@@ -11,18 +14,33 @@ ghost use Rattle.site_keys.specs.Lists.{is_among};
 ghost use Rattle.site_lines.specs.Gauges.{ambient_fixed_at, are_gauged, deadbands_at, gauge_of, gauged_tank_at, gauges_from, is_request, quantity_from, request_at, tanks_gauged};
 
 use crate::fields::{field_at, field_or_none, valid_or_none};
-use modbus_poll::GaugeMap;
+use farm_fixed::{LEAST_TEMPERATURE, MOST_TEMPERATURE};
+use modbus_frame::{LEAST_QUANTITY, MOST_QUANTITY, READ_HOLDING_REGISTERS, READ_INPUT_REGISTERS};
+use modbus_poll::{GREATEST_UNIT, GaugeMap, MOST_DEADBAND, REGISTERS};
 use site_keys::{Keys, Numbered, RANGE, REPEATED, SiteFault, SiteReadFault, bad, reference};
 use std::alloc::Global;
 use toml::Value;
 
-// What is asked of a device.
+// The ambient temperature where a gauge gives none and its table doesn't say it, in 0.01 C.
+const USUAL_AMBIENT: i64 = 1_500;
+
+// The deadband of the levels where a gauge's table doesn't say it, in mm.
+const USUAL_LEVELS: u32 = 1;
+
+// The deadband of the temperature where a gauge's table doesn't say it, in 0.01 C.
+const USUAL_TEMPERATURE: u32 = 5;
+
+/// The registers that a gauge asks of its device.
 #[derive(Clone, Copy)]
-struct Request {
-    unit: u8,
-    function: u8,
-    start: u16,
-    quantity: u8,
+pub struct Request {
+    /// The unit identifier of the device.
+    pub unit: u8,
+    /// The function: 3 for holding registers, 4 for input registers.
+    pub function: u8,
+    /// The first register, counted from 0.
+    pub start: u16,
+    /// How many registers, from 1 to 125.
+    pub quantity: u8,
 }
 
 /// The gauges of a line's tables, after gauges on some tanks.
@@ -114,9 +132,13 @@ fn request_at(keys: &Keys<'_>) -> Result<Request, SiteFault>
     ensures request { result ≡ request_at keys.now.item (view keys.now.table.now) }
     ensures sound { IfOk result (λ request. IsTrue (is_request request)) }
 {
-    let unit = keys.natural("unit", 0, 255)? as u8;
-    let function = keys.natural("function", 3, 4)? as u8;
-    let start = keys.natural("start", 0, 65_535)? as u16;
+    let unit = keys.natural("unit", 0, GREATEST_UNIT as u32)? as u8;
+    let function = keys.natural(
+        "function",
+        READ_HOLDING_REGISTERS as u32,
+        READ_INPUT_REGISTERS as u32,
+    )? as u8;
+    let start = keys.natural("start", 0, REGISTERS - 1)? as u16;
     let quantity = quantity_from(start, keys)?;
     Ok(Request {
         unit,
@@ -130,11 +152,11 @@ fn request_at(keys: &Keys<'_>) -> Result<Request, SiteFault>
 #[tactic(auto, unfolding(crate::specs::Gauges::quantity_from))]
 fn quantity_from(start: u16, keys: &Keys<'_>) -> Result<u8, SiteFault>
     ensures quantity { result ≡ quantity_from start keys.now.item (view keys.now.table.now) }
-    ensures count { IfOk result (λ quantity. IsTrue (is_between 1 125 quantity)) }
-    ensures within { IfOk result (λ quantity. IsTrue (nat_le (start + quantity) 65536)) }
+    ensures count { IfOk result (λ quantity. IsTrue (is_between LEAST_QUANTITY MOST_QUANTITY quantity)) }
+    ensures within { IfOk result (λ quantity. IsTrue (nat_le (start + quantity) REGISTERS)) }
 {
-    let quantity = keys.natural("quantity", 1, 125)?;
-    if u32::from(start) + quantity > 65_536 {
+    let quantity = keys.natural("quantity", LEAST_QUANTITY as u32, MOST_QUANTITY as u32)?;
+    if u32::from(start) + quantity > REGISTERS {
         return Err(bad(RANGE, keys.item));
     }
     Ok(quantity as u8)
@@ -144,22 +166,27 @@ fn quantity_from(start: u16, keys: &Keys<'_>) -> Result<u8, SiteFault>
 #[tactic(auto, unfolding(crate::specs::Gauges::ambient_fixed_at))]
 fn ambient_fixed_at(keys: &Keys<'_>) -> Result<i64, SiteFault>
     ensures ambient { result ≡ ambient_fixed_at keys.now.item (view keys.now.table.now) }
-    ensures range { IfOk result (λ ambient. IsTrue (is_within (negsuc 9999) (pos 30000) ambient)) }
+    ensures range { IfOk result (λ ambient. IsTrue (is_within LEAST_TEMPERATURE MOST_TEMPERATURE ambient)) }
 {
     if !keys.has("ambient_fixed") {
-        return Ok(1_500);
+        return Ok(USUAL_AMBIENT);
     }
-    keys.whole("ambient_fixed", -10_000, 30_000)
+    keys.whole("ambient_fixed", LEAST_TEMPERATURE, MOST_TEMPERATURE)
 }
 
 // The deadbands: of the levels, in mm, and of the temperature, in 0.01 C.
 #[tactic(auto, unfolding(crate::specs::Gauges::deadbands_at))]
 fn deadbands_at(keys: &Keys<'_>) -> Result<(u16, u16), SiteFault>
     ensures deadbands { result ≡ deadbands_at keys.now.item (view keys.now.table.now) }
-    ensures levels { IfOk result (λ deadbands. IsTrue (is_between 1 1000 deadbands.0)) }
-    ensures temperature { IfOk result (λ deadbands. IsTrue (is_between 1 1000 deadbands.1)) }
+    ensures levels { IfOk result (λ deadbands. IsTrue (is_between 1 MOST_DEADBAND deadbands.0)) }
+    ensures temperature { IfOk result (λ deadbands. IsTrue (is_between 1 MOST_DEADBAND deadbands.1)) }
 {
-    let levels = keys.natural_or(1, "deadband_mm", 1, 1_000)? as u16;
-    let temperature = keys.natural_or(5, "deadband_centi", 1, 1_000)? as u16;
+    let levels = keys.natural_or(USUAL_LEVELS, "deadband_mm", 1, MOST_DEADBAND as u32)? as u16;
+    let temperature = keys.natural_or(
+        USUAL_TEMPERATURE,
+        "deadband_centi",
+        1,
+        MOST_DEADBAND as u32,
+    )? as u16;
     Ok((levels, temperature))
 }

@@ -5,4 +5,5 @@ mod fields;
 mod gauges;
 mod lines;
 
-pub use lines::{MOST_GAUGES, MOST_LINES, lines_of};
+pub use gauges::Request;
+pub use lines::{MOST_LINES, is_host, lines_of};

@@ -10,16 +10,13 @@ ghost use Rattle.site_lines.specs.Gauges.{are_gauged, tanks_gauged};
 ghost use Rattle.site_lines.specs.Lines.{all_gauged, are_lines, host_at, line_of, lines_from, lines_of};
 
 use crate::gauges::gauges_from;
-use modbus_poll::{Gauges, Host, LineMap};
+use modbus_poll::{GREATEST_PORT, Gauges, Host, LONGEST_HOST, LineMap, MOST_GAUGES};
 use site_keys::{Keys, Numbered, RANGE, SiteReadFault, bad, is_text, list_at};
 use std::alloc::Global;
 use toml::Value;
 
 /// A site has at most this many gauge lines.
 pub const MOST_LINES: usize = 16;
-
-/// A line has at most this many gauges.
-pub const MOST_GAUGES: usize = 16;
 
 /// The gauge lines of the site, in the order of the file. Each gauge is on one of these tanks, and no two are on one.
 #[tactic(auto, unfolding(crate::specs::Lines::lines_of))]
@@ -82,7 +79,7 @@ fn line_of<T: Numbered>(
     ensures not_the_folders { IfErr result IsNotTheFolders }
 {
     let host = host_at(alloc, keys)?;
-    let port = keys.natural("port", 1, 65_535)? as u16;
+    let port = keys.natural("port", 1, GREATEST_PORT as u32)? as u16;
     let tables = list_at(keys, "gauge", 1, MOST_GAUGES)?;
     let gauges = gauges_from(alloc, keys.item, tanks, gauged, tables)?;
     Ok(LineMap {
@@ -107,9 +104,9 @@ fn host_at(alloc: Global, keys: &Keys<'_>) -> Result<Host, SiteReadFault>
     Ok(Host::new(host.as_bytes().to_vec(alloc)?))
 }
 
-// Whether a text is 1 to 64 printable bytes without a blank.
-fn is_host(text: &[u8]) -> bool
-    ensures { result ≡ is_host text.now }
+/// Whether a text is a host: 1 to 64 printable bytes without a blank.
+pub fn is_host(text: &[u8]) -> bool
+    ensures is_host { result ≡ is_host text.now }
 {
-    is_text(text, 64, b'!', b'~')
+    is_text(text, LONGEST_HOST, b'!', b'~')
 }

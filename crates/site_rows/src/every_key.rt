@@ -9,13 +9,13 @@ use row_checks::{Checks, shared};
 use std::test::Fail;
 
 // The rounding table has these rows.
-fn check_rounds<R: Print>(
+fn check_rounding<R: Print>(
     checks: &mut Checks<'_, R>,
-    rounds: &RoundTable,
+    rounding: &RoundTable,
     wanted: &[(i64, Mode); 12],
 ) {
     for n in 1..=12 {
-        checks.same_at(n, rounds.row(n), wanted[n as usize - 1]);
+        checks.same_at(n, rounding.row(n), wanted[n as usize - 1]);
     }
 }
 
@@ -53,16 +53,16 @@ fn roof_of(tank: &Tank) -> Option<(i64, i64, i64)> {
 
 // The name and the rounding table are those of the site file.
 fn check_top<R: Print>(checks: &mut Checks<'_, R>, site: &Site) {
-    let mut rounds = [(1, Mode::HalfAway); 12];
-    rounds[1] = (10, Mode::TowardZero);
-    rounds[3] = (2, Mode::HalfAway);
-    rounds[5] = (5, Mode::HalfAway);
-    rounds[6] = (1, Mode::TowardZero);
-    rounds[7] = (20, Mode::HalfAway);
-    rounds[8] = (50, Mode::HalfAway);
-    rounds[9] = (100, Mode::TowardZero);
+    let mut rounding = [(1, Mode::HalfAway); 12];
+    rounding[1] = (10, Mode::TowardZero);
+    rounding[3] = (2, Mode::HalfAway);
+    rounding[5] = (5, Mode::HalfAway);
+    rounding[6] = (1, Mode::TowardZero);
+    rounding[7] = (20, Mode::HalfAway);
+    rounding[8] = (50, Mode::HalfAway);
+    rounding[9] = (100, Mode::TowardZero);
     checks.same(site.name.get(), b"Small site".as_slice());
-    check_rounds(checks, &site.rounds, &rounds);
+    check_rounding(checks, &site.rounding, &rounding);
 }
 
 // Products and parties stand in rising order of number.

@@ -2,7 +2,7 @@
 use Rattle.std.proofs.Common.{◌≡◌, ℕ, ◌+◌, ◌-◌, ◌*◌, List, [], ◌∷◌, ◌++◌, Option, Some, None, ℤ, refl, append_assoc, append-nil, arith}
 use Rattle.std.specs.Prelude.{Result, Ok, Err}
 use Rattle.farm_base.specs.Steps.{◌>>=◌, IsRefusedAs}
-use Rattle.farm_csv.specs.Records.{equal_lengths, records_of}
+use Rattle.farm_csv.specs.Records.{have_equal_lengths, records_of}
 use Rattle.farm_csv.specs.Rows.{AreRows, IsFaultOfRows, below_header, rows_from, with_row}
 use Rattle.farm_csv.specs.declared.fault.CsvFault.{CsvFault}
 use Rattle.farm_csv.specs.declared.fault.CsvFault.TheVariants.{Uneven, NoRow, NoMemory}
@@ -39,13 +39,13 @@ under_header item [] = refl
 under_header item (header ∷ records) = litres_agree item 0 [] records
 
 -- the table of a file with rows
-pub file_of_rows : (item : ℕ) (text : List ℕ) (rows : List ℤ) → AreRows (λ above fields. litres_of (10 * above) fields) (equal_lengths (records_of text)) (below_header (records_of text)) rows →
+pub file_of_rows : (item : ℕ) (text : List ℕ) (rows : List ℤ) → AreRows (λ above fields. litres_of (10 * above) fields) (have_equal_lengths (records_of text)) (below_header (records_of text)) rows →
     table_of_file item text ≡ table_of_rows item rows
 unfolding table_of_file table_of_records
 file_of_rows item text rows are = rw (are.0, under_header item (records_of text), are.1) refl
 
 -- a file whose records have a fault
-pub file_of_fault : (item : ℕ) (text : List ℕ) (fault : CsvFault) → IsFaultOfRows (λ above fields. litres_of (10 * above) fields) (equal_lengths (records_of text)) (below_header (records_of text)) fault →
+pub file_of_fault : (item : ℕ) (text : List ℕ) (fault : CsvFault) → IsFaultOfRows (λ above fields. litres_of (10 * above) fields) (have_equal_lengths (records_of text)) (below_header (records_of text)) fault →
     IsRefusedAs (reported (fault_of item fault)) (table_of_file item text)
 unfolding table_of_file table_of_records
 file_of_fault item text Uneven is = rw is refl

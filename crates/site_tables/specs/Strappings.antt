@@ -2,7 +2,7 @@
 use Rattle.std.specs.Prelude.{ℕ, if◌then◌else◌, List, [], ◌∷◌, codes, Option, Some, None, Result, Ok, Err, ℤ, pos}
 use Rattle.farm_base.specs.Steps.{◌>>=◌}
 use Rattle.toml.specs.Data.{Data, as_array, as_integer}
-use Rattle.farm_fixed.specs.declared.limits.TheConstants.{MOST_HEIGHT}
+use Rattle.farm_fixed.specs.declared.limits.TheConstants.{MOST_HEIGHT, MOST_TENTHS}
 use Rattle.farm_fixed.specs.Range.{is_within}
 use Rattle.farm_rounding.specs.Table.{Row}
 use Rattle.strap_courses.specs.Courses.{Point, StrappedTank}
@@ -21,7 +21,7 @@ use Rattle.site_tables.specs.Tables.{table_of_rows}
 
 -- a circumference, a deduction or a thickness, in 0.1 mm and up to 500 m
 unfoldable pub length_at : ℕ → Data → List ℕ → Result ℤ SiteFault
-length_at item keys key = quantity_at 1 (pos 0) (pos 5000000) item keys key
+length_at item keys key = quantity_at 1 (pos 0) MOST_TENTHS item keys key
 
 -- a deduction or a thickness; where it is missing, none
 unfoldable pub length_or_none : ℕ → Data → List ℕ → Result ℤ SiteFault
@@ -123,17 +123,17 @@ rows_read item (Err fault) = Err (strap_fault item fault)
 
 -- the capacity table of a strapped tank, or why its strapping is refused
 abbrev pub judged : ℕ → List Row → StrappedTank → Option TankFault → Result (List ℤ) SiteFault
-judged item rounds tank (Some fault) = Err (strap_fault item fault)
-judged item rounds tank None = rows_read item (strapped_rows rounds tank)
+judged item rounding tank (Some fault) = Err (strap_fault item fault)
+judged item rounding tank None = rows_read item (strapped_rows rounding tank)
 
 -- the capacity table of a strapping's keys
 unfoldable pub table_of_strapping : ℕ → List Row → Data → Result (List ℤ) SiteFault
-table_of_strapping item rounds keys = do
+table_of_strapping item rounding keys = do
   tank ← parts_of item keys
-  judged item rounds tank (first_fault tank)
+  judged item rounding tank (first_fault tank)
 
 -- the capacity table of a strapping file
 unfoldable pub strapped_file : ℕ → List Row → List ℕ → Result (List ℤ) SiteFault
-strapped_file item rounds bytes = do
+strapped_file item rounding bytes = do
   keys ← toml_of item bytes
-  table_of_strapping item rounds keys
+  table_of_strapping item rounding keys

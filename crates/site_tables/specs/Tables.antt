@@ -4,13 +4,13 @@ use Rattle.std.specs.Ordering.{int_eq}
 use Rattle.farm_base.specs.Steps.{◌>>=◌}
 use Rattle.csv.specs.Records.{field_at}
 use Rattle.farm_csv.specs.Blanks.{without_blanks}
-use Rattle.farm_csv.specs.Records.{equal_lengths, records_of}
+use Rattle.farm_csv.specs.Records.{have_equal_lengths, records_of}
 use Rattle.farm_csv.specs.declared.fault.CsvFault.{CsvFault}
 use Rattle.farm_csv.specs.declared.fault.CsvFault.TheVariants.{Uneven, NoRow, NoMemory}
 use Rattle.farm_fixed.specs.Whole.{whole_number}
 use Rattle.strap_table.specs.Faults.{first_fault}
-use Rattle.strap_table.specs.declared.fault.TableFault.{TableFault}
-use Rattle.strap_table.specs.declared.fault.TableFault.TheVariants as rows
+use Rattle.strap_table.specs.declared.faults.TableFault.{TableFault}
+use Rattle.strap_table.specs.declared.faults.TableFault.TheVariants as rows
 use Rattle.site_keys.specs.declared.codes.TheConstants.{FIELD, TABLE, TEXT}
 use Rattle.site_keys.specs.declared.fault.SiteFault.{SiteFault}
 use Rattle.site_keys.specs.declared.fault.SiteReadFault.{SiteReadFault}
@@ -77,7 +77,7 @@ table_of_records item records = do
 -- the capacity table of a file of levels and litres
 unfoldable pub table_of_file : ℕ → List ℕ → Result (List ℤ) SiteFault
 table_of_file item bytes =
-    if equal_lengths (records_of bytes) then table_of_records item (records_of bytes) else bad TEXT item 0
+    if have_equal_lengths (records_of bytes) then table_of_records item (records_of bytes) else bad TEXT item 0
 
 -- what a fault of the records of a file is reported as
 abbrev pub fault_of : ℕ → CsvFault → SiteReadFault

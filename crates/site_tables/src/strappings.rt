@@ -23,17 +23,17 @@ use toml::Value;
 pub fn strapped_file(
     alloc: Global,
     item: u32,
-    rounds: &RoundTable,
+    rounding: &RoundTable,
     bytes: &[u8],
 ) -> Result<CapTable, SiteReadFault>
-    ensures table { MatchResult result (λ table. strapped_file item rounds.now bytes.now ≡ Ok table)
-        (λ fault. IsRefusedAs (reported fault) (strapped_file item rounds.now bytes.now)) }
+    ensures table { MatchResult result (λ table. strapped_file item rounding.now bytes.now ≡ Ok table)
+        (λ fault. IsRefusedAs (reported fault) (strapped_file item rounding.now bytes.now)) }
     ensures not_the_folders { IfErr result IsNotTheFolders }
 {
     let table = toml_of(alloc, item, bytes)?;
     table_of_strapping(
         alloc,
-        rounds,
+        rounding,
         &Keys {
             item,
             table: &table,
@@ -45,11 +45,11 @@ pub fn strapped_file(
 #[tactic(auto, unfolding(crate::specs::Strappings::table_of_strapping, crate::specs::Strappings::parts_of))]
 fn table_of_strapping(
     alloc: Global,
-    rounds: &RoundTable,
+    rounding: &RoundTable,
     keys: &Keys<'_>,
 ) -> Result<CapTable, SiteReadFault>
-    ensures table { MatchResult result (λ table. table_of_strapping keys.now.item rounds.now (view keys.now.table.now) ≡ Ok table)
-        (λ fault. IsRefusedAs (reported fault) (table_of_strapping keys.now.item rounds.now (view keys.now.table.now))) }
+    ensures table { MatchResult result (λ table. table_of_strapping keys.now.item rounding.now (view keys.now.table.now) ≡ Ok table)
+        (λ fault. IsRefusedAs (reported fault) (table_of_strapping keys.now.item rounding.now (view keys.now.table.now))) }
     ensures not_the_folders { IfErr result IsNotTheFolders }
 {
     let courses = courses_at(alloc, keys)?;
@@ -59,21 +59,21 @@ fn table_of_strapping(
         Ok(tank) => tank,
         Err(fault) => return Err(strap_refused(keys.item, fault)),
     };
-    table_of_tank(alloc, keys.item, rounds, &tank)
+    table_of_tank(alloc, keys.item, rounding, &tank)
 }
 
 // The capacity table of a strapped tank.
 fn table_of_tank(
     alloc: Global,
     item: u32,
-    rounds: &RoundTable,
+    rounding: &RoundTable,
     tank: &Strapping,
 ) -> Result<CapTable, SiteReadFault>
-    ensures table { MatchResult result (λ table. rows_read item (strapped_rows rounds.now tank.now) ≡ Ok table)
-        (λ fault. IsRefusedAs (reported fault) (rows_read item (strapped_rows rounds.now tank.now))) }
+    ensures table { MatchResult result (λ table. rows_read item (strapped_rows rounding.now tank.now) ≡ Ok table)
+        (λ fault. IsRefusedAs (reported fault) (rows_read item (strapped_rows rounding.now tank.now))) }
     ensures not_the_folders { IfErr result IsNotTheFolders }
 {
-    match tank.rows(alloc, rounds) {
+    match tank.rows(alloc, rounding) {
         Ok(rows) => Ok(table_of_rows(item, rows)?),
         Err(fault) => Err(strap_refused(item, fault)),
     }

@@ -9,8 +9,8 @@ use Rattle.farm_fixed.specs.declared.limits.TheConstants.{MOST_HEIGHT, MOST_LITR
 use Rattle.strap_courses.specs.declared.faults.TheConstants.{LEAST_HEIGHT}
 use Rattle.strap_courses.specs.declared.parts.Course.{Course}
 use Rattle.strap_courses.specs.declared.parts.Deadwood.{Deadwood}
-use Rattle.strap_courses.specs.declared.fault.StrapFault.{StrapFault}
-use Rattle.strap_courses.specs.declared.fault.StrapFault.TheVariants as variants
+use Rattle.strap_courses.specs.declared.faults.StrapFault.{StrapFault}
+use Rattle.strap_courses.specs.declared.faults.StrapFault.TheVariants as variants
 use Rattle.strap_courses.specs.Courses.{Point, StrappedTank, bottom_height, height_of, scaled_circumference}
 
 -- There are no courses; a course, a deadwood or a point of the bottom is bad; the courses are too low or too high; a row is

@@ -7,13 +7,12 @@
 
 mod bottom;
 mod deadwood;
-mod fault;
 mod faults;
 mod heights;
 mod parts;
 mod shell;
 mod strapping;
 
-pub use fault::StrapFault;
+pub use faults::StrapFault;
 pub use parts::{Course, Deadwood};
 pub use strapping::Strapping;

@@ -5,7 +5,7 @@ ghost use Rattle.std.specs.Int.RustNames.{unsigned_abs};
 ghost use Rattle.farm_base.specs.Steps.{IsRefusedAs};
 ghost use Rattle.farm_fixed.specs.Range.{IsWithin, IsVolume};
 ghost use Rattle.farm_fixed.specs.declared.limits.TheConstants.{MOST_HEIGHT};
-ghost use Rattle.strap_courses.specs.declared.fault.StrapFault.TheVariants.{NoMemory};
+ghost use Rattle.strap_courses.specs.declared.faults.StrapFault.TheVariants.{NoMemory};
 ghost use Rattle.strap_courses.specs.Courses.{bottom_height, exact_volume, height_of, last_point};
 ghost use Rattle.strap_courses.specs.Faults.{HaveFault, IsTank, first_fault, found, reported};
 ghost use Rattle.strap_courses.specs.Rows.{HaveRowFault, IsStrappedTable, row_count, rounded_litres, strapped_row, strapped_rows, wrong_row};
@@ -79,10 +79,10 @@ impl Strapping {
     /// A row is the volume of bottom and courses by the rounding of strapped rows, less each deadwood's part by its own
     /// rounding. `TooLarge` or `NotRising` at the first row that is wrong, in this order at one row. Each row is summed from
     /// the bottom anew.
-    pub fn rows(&self, alloc: Global, rounds: &RoundTable) -> Result<Vec<i64>, StrapFault>
-        ensures value { MatchResult result (λ rows. strapped_rows rounds.now self.now ≡ Ok rows.items) (λ fault. IsRefusedAs (reported fault) (strapped_rows rounds.now self.now)) }
-        ensures meaning { IfOk result (λ rows. IsStrappedTable rounds.now self.now rows.items) }
-        ensures first_wrong_row { IfErr result (λ fault. IfSome (reported fault) (HaveRowFault rounds.now self.now)) }
+    pub fn rows(&self, alloc: Global, rounding: &RoundTable) -> Result<Vec<i64>, StrapFault>
+        ensures rows { MatchResult result (λ rows. strapped_rows rounding.now self.now ≡ Ok rows.items) (λ fault. IsRefusedAs (reported fault) (strapped_rows rounding.now self.now)) }
+        ensures meaning { IfOk result (λ rows. IsStrappedTable rounding.now self.now rows.items) }
+        ensures first_wrong_row { IfErr result (λ fault. IfSome (reported fault) (HaveRowFault rounding.now self.now)) }
         ensures tank { first_fault self.now ≡ None }
     {
         let count = self.row_count();
@@ -90,7 +90,7 @@ impl Strapping {
         rows.reserve(count)?;
         let mut before = 0;
         for i in 0..count {
-            let row = self.row(rounds, i as u64);
+            let row = self.row(rounding, i as u64);
             if let Some(fault) = wrong_row(i, before, row) {
                 return Err(fault);
             }

@@ -9,8 +9,8 @@ use Rattle.farm_fixed.specs.Range.{is_within, IsVolume}
 use Rattle.farm_base.specs.Steps.{or_else}
 use Rattle.strap_table.specs.Capacity.{IsCapTable, row_at}
 use Rattle.strap_table.specs.Faults.{HaveFault, HaveTableLength, IsFirstFalling, IsFirstOutside, falling, falling_row, first_falling, first_fault, first_outside, outside, wrong_length}
-use Rattle.strap_table.specs.declared.fault.TableFault.{TableFault}
-use Rattle.strap_table.specs.declared.fault.TableFault.TheVariants.{Short, TooMany, OutOfRange, Falling}
+use Rattle.strap_table.specs.declared.faults.TableFault.{TableFault}
+use Rattle.strap_table.specs.declared.faults.TableFault.TheVariants.{Short, TooMany, OutOfRange, Falling}
 use Rattle.strap_table.proofs.Rows.{each_within, right_length}
 
 -- the row that is the first outside the range, from number n on

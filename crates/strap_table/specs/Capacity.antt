@@ -27,7 +27,11 @@ volume_at mode step rows height =
     if height % 10 == 0 then nearest_multiple mode (row_at rows (height / 10)) 1 step
     else nearest_multiple mode (tenths_between (row_at rows (height / 10)) (row_at rows (height / 10 + 1)) (pos (height % 10))) 10 step
 
+-- the height of the last row, in mm
+abbrev pub top_of : List ℤ → ℕ
+top_of rows = 10 * (length rows - 1)
+
 -- the volume at a level that isn't above the last row
 unfoldable pub table_volume : Mode → ℕ → List ℤ → ℤ → Option ℤ
 table_volume mode step rows level =
-    if nat_lt (10 * (length rows - 1)) (unsigned_abs level) then None else Some (volume_at mode step rows (unsigned_abs level))
+    if nat_lt (top_of rows) (unsigned_abs level) then None else Some (volume_at mode step rows (unsigned_abs level))

@@ -5,8 +5,8 @@ use Rattle.farm_base.specs.Steps.{or_else}
 use Rattle.farm_fixed.specs.Range.{is_within, IsVolume}
 use Rattle.farm_fixed.specs.declared.limits.TheConstants.{MOST_LITRES}
 use Rattle.strap_table.specs.declared.faults.TheConstants.{FEWEST_ROWS, MOST_ROWS}
-use Rattle.strap_table.specs.declared.fault.TableFault.{TableFault}
-use Rattle.strap_table.specs.declared.fault.TableFault.TheVariants.{Short, TooMany, OutOfRange, Falling}
+use Rattle.strap_table.specs.declared.faults.TableFault.{TableFault}
+use Rattle.strap_table.specs.declared.faults.TableFault.TheVariants.{Short, TooMany, OutOfRange, Falling}
 use Rattle.strap_table.specs.Capacity.{row_at}
 
 -- rows are as many as a table may have

@@ -1,16 +1,38 @@
-//! What is wrong with rows: the first fault, each cause looked for over the whole list.
+//! What is wrong with rows: the faults, and the search for the first, each cause looked for over the whole list.
 
 ghost use Rattle.std.specs.Prelude.{◌≡◌, ◌≤◌, length};
 ghost use Rattle.strap_table.specs.Faults.{falling_row, first_fault, first_outside};
 
-use crate::TableFault;
 use farm_fixed::MOST_LITRES;
+use thiserror::Error;
 
 /// The fewest rows of a table.
 pub const FEWEST_ROWS: usize = 2;
 
 /// The most rows of a table: one each 10 mm of the greatest height, and one at 0.
 pub const MOST_ROWS: usize = 5_001;
+
+/// A level above the last row of a capacity table.
+#[derive(Clone, Copy, Debug, PartialEq, Eq, Error)]
+#[error("the level is above the last row of the capacity table")]
+pub struct AboveTable;
+
+/// Why rows are no capacity table. The first of the causes below, in their order, is reported; rows count from 0.
+#[derive(Clone, Copy, Debug, PartialEq, Eq, Error)]
+pub enum TableFault {
+    /// There are fewer than two rows.
+    #[error("a capacity table has at least two rows")]
+    Short,
+    /// There are more than 5,001 rows.
+    #[error("a capacity table has at most 5001 rows")]
+    TooMany,
+    /// The first row whose volume isn't from 0 to 10^9 litres.
+    #[error("row {0} is outside 0 to 1000000000 litres")]
+    OutOfRange(usize),
+    /// The first row below the one before it.
+    #[error("row {0} is below the row before it")]
+    Falling(usize),
+}
 
 /// Why the rows are no capacity table, if they aren't one.
 #[tactic(auto, unfolding(crate::specs::Faults::first_fault))]

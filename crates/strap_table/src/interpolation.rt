@@ -23,14 +23,6 @@ pub fn between(row: i64, next: i64, over: i64) -> i64
     sum(below, above) as i64
 }
 
-// A volume that is known to be in range.
-fn litres(units: i128) -> Litres
-    requires { IsVolume units }
-    ensures { result ≡ units }
-{
-    Litres::new(units as i64).unwrap()
-}
-
 /// A volume in parts of a litre, `PARTS` to the litre, rounded to a step.
 pub fn volume<const PARTS: u64>(parts: i64, step: i64, mode: Mode) -> Litres
     requires some { 1 ≤ PARTS }
@@ -40,5 +32,5 @@ pub fn volume<const PARTS: u64>(parts: i64, step: i64, mode: Mode) -> Litres
     ensures value { result ≡ nearest_multiple mode parts PARTS (unsigned_abs step) }
     ensures range { IsVolume result }
 {
-    litres(nearest(parts as i128, PARTS as i128, step, mode))
+    Litres::in_range(nearest(parts as i128, PARTS as i128, step, mode))
 }

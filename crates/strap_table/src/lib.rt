@@ -4,13 +4,11 @@
 //! from 0 mm on; between two rows a volume is interpolated and rounded. docs/definitions.md states it under "Capacity table".
 #![tactic(auto)]
 
-mod fault;
 mod faults;
 mod interpolation;
 mod table;
 mod tank;
 
-pub use fault::{AboveTable, TableFault};
-pub use faults::MOST_ROWS;
+pub use faults::{AboveTable, MOST_ROWS, TableFault};
 pub use table::CapTable;
 pub use tank::{Roof, TankSpec};

@@ -4,7 +4,7 @@ ghost use Rattle.std.specs.Prelude.{◌≡◌, ◌<◌, ◌-◌, ◌*◌, length
 ghost use Rattle.std.specs.Int.RustNames.{unsigned_abs};
 ghost use Rattle.farm_fixed.specs.Range.{IsVolume};
 ghost use Rattle.farm_rounding.specs.Multiple.{IsAllowedStep};
-ghost use Rattle.strap_table.specs.Capacity.{IsCapTable, row_at, table_volume};
+ghost use Rattle.strap_table.specs.Capacity.{IsCapTable, row_at, table_volume, top_of};
 ghost use Rattle.strap_table.specs.Faults.{HaveFault, first_fault};
 
 use crate::faults::first_fault;
@@ -49,7 +49,7 @@ impl CapTable {
 
     /// The rows, in litres.
     pub fn rows(&self) -> &[i64]
-        ensures value { result.now ≡ self.now }
+        ensures rows { result.now ≡ self.now }
         ensures table { IsCapTable self.now }
     {
         &self.rows
@@ -60,7 +60,7 @@ impl CapTable {
     /// At a row it is the row; between two rows it is interpolated. Both are rounded. Takes no memory.
     pub fn at(&self, level: Mm, step: i64, mode: Mode) -> Result<Litres, AboveTable>
         requires allowed_step { IsAllowedStep step }
-        ensures value { MatchResult result (λ volume. table_volume mode (unsigned_abs step) self.now level ≡ Some volume) (λ _. table_volume mode (unsigned_abs step) self.now level ≡ None) }
+        ensures volume { MatchResult result (λ volume. table_volume mode (unsigned_abs step) self.now level ≡ Some volume) (λ _. table_volume mode (unsigned_abs step) self.now level ≡ None) }
         ensures range { IfOk result IsVolume }
     {
         let height = level.get().unsigned_abs() as usize;
@@ -77,9 +77,9 @@ impl CapTable {
         Ok(volume::<10>(tenths, step, mode))
     }
 
-    // The height of the last row, in mm.
-    fn top(&self) -> usize
-        ensures value { result ≡ 10 * (length self.now - 1) }
+    /// The height of the last row, in mm.
+    pub fn top(&self) -> usize
+        ensures top { result ≡ top_of self.now }
         ensures table { IsCapTable self.now }
     {
         10 * (self.rows.len() - 1)

@@ -9,48 +9,48 @@ ghost use Rattle.site_bytes.specs.Encoding.{mode_byte, row_bytes, text_bytes};
 
 use crate::FORMAT;
 use crate::encoding::encoded::{put, put_text};
-use farm_rounding::{Mode, ROWS, RoundTable};
+use farm_rounding::{Mode, ROUNDING_ROWS, RoundTable};
 
 /// Puts the format, the name and the rounding table.
-pub fn put_head(out: &mut Vec<u8>, name: &[u8], rounds: &RoundTable)
+pub fn put_head(out: &mut Vec<u8>, name: &[u8], rounding: &RoundTable)
     requires name { length name.now ≤ LONGEST_NAME }
-    requires rounds { length rounds.now ≡ ROWS }
-    requires room { HasRoom out.old (FORMAT ∷ text_bytes name.now ++ flat_map row_bytes rounds.now) }
-    ensures put { IsPut out.old out.new (FORMAT ∷ text_bytes name.now ++ flat_map row_bytes rounds.now) }
+    requires rounding { length rounding.now ≡ ROUNDING_ROWS }
+    requires room { HasRoom out.old (FORMAT ∷ text_bytes name.now ++ flat_map row_bytes rounding.now) }
+    ensures put { IsPut out.old out.new (FORMAT ∷ text_bytes name.now ++ flat_map row_bytes rounding.now) }
 {
     put(out, &[FORMAT]);
     put_text(out, name);
-    put_rounds(out, rounds);
+    put_rounding(out, rounding);
 }
 
 /// How many bytes the format, the name and the rounding table have.
-pub fn len_of_head(name: &[u8], rounds: &RoundTable) -> usize
+pub fn len_of_head(name: &[u8], rounding: &RoundTable) -> usize
     requires name { length name.now ≤ LONGEST_NAME }
-    requires rounds { length rounds.now ≡ ROWS }
-    ensures len { result ≡ length (FORMAT ∷ text_bytes name.now ++ flat_map row_bytes rounds.now) }
+    requires rounding { length rounding.now ≡ ROUNDING_ROWS }
+    ensures len { result ≡ length (FORMAT ∷ text_bytes name.now ++ flat_map row_bytes rounding.now) }
     ensures short { result ≤ 58 }
 {
     2 + name.len() + 24
 }
 
 // Puts the twelve rows of the rounding table.
-fn put_rounds(out: &mut Vec<u8>, rounds: &RoundTable)
-    requires rounds { length rounds.now ≡ ROWS }
-    requires room { HasRoom out.old (flat_map row_bytes rounds.now) }
-    ensures put { IsPut out.old out.new (flat_map row_bytes rounds.now) }
+fn put_rounding(out: &mut Vec<u8>, rounding: &RoundTable)
+    requires rounding { length rounding.now ≡ ROUNDING_ROWS }
+    requires room { HasRoom out.old (flat_map row_bytes rounding.now) }
+    ensures put { IsPut out.old out.new (flat_map row_bytes rounding.now) }
 {
-    for index in 0..ROWS as u8 {
-        put_row(out, rounds, index);
+    for index in 0..ROUNDING_ROWS as u8 {
+        put_row(out, rounding, index);
     }
 }
 
 // Puts a row of the rounding table, which has this many before it.
-fn put_row(out: &mut Vec<u8>, rounds: &RoundTable, index: u8)
-    requires index { index < ROWS }
-    requires room { HasRoom out.old (row_bytes (row_at rounds.now (index + 1))) }
-    ensures put { IsPut out.old out.new (row_bytes (row_at rounds.now (index + 1))) }
+fn put_row(out: &mut Vec<u8>, rounding: &RoundTable, index: u8)
+    requires index { index < ROUNDING_ROWS }
+    requires room { HasRoom out.old (row_bytes (row_at rounding.now (index + 1))) }
+    ensures put { IsPut out.old out.new (row_bytes (row_at rounding.now (index + 1))) }
 {
-    let (step, mode) = rounds.row(index + 1);
+    let (step, mode) = rounding.row(index + 1);
     put(out, &[step as u8, mode_byte(mode)]);
 }
 

@@ -3,6 +3,7 @@
 ghost use Rattle.std.specs.Prelude.{negsuc, pos};
 ghost use Rattle.std.specs.Int.{w16, w32};
 ghost use Rattle.farm_fixed.specs.Range.{IsWithin, IsVolume};
+ghost use Rattle.farm_fixed.specs.declared.limits.TheConstants.{LEAST_DENSITY, LEAST_FACTOR, LEAST_TEMPERATURE, MOST_DENSITY, MOST_FACTOR, MOST_TEMPERATURE};
 ghost use Rattle.site_bytes.specs.Encoding.{natural_bytes, signed_bytes};
 
 use crate::encoding::encoded::{Encoded, put};
@@ -11,7 +12,7 @@ use farm_fixed::{Centi, Dens, Fac5};
 impl Encoded for Dens {
     ghost bytes = { natural_bytes w16 };
 
-    ghost typed = { IsWithin (pos 4000) (pos 12000) };
+    ghost typed = { IsWithin LEAST_DENSITY MOST_DENSITY };
 
     fn put(&self, out: &mut Vec<u8>) {
         put(out, &(self.get() as u16).to_be_bytes());
@@ -21,7 +22,7 @@ impl Encoded for Dens {
 impl Encoded for Centi {
     ghost bytes = { signed_bytes w16 };
 
-    ghost typed = { IsWithin (negsuc 9999) (pos 30000) };
+    ghost typed = { IsWithin LEAST_TEMPERATURE MOST_TEMPERATURE };
 
     fn put(&self, out: &mut Vec<u8>) {
         put(out, &(self.get() as i16).to_be_bytes());
@@ -31,7 +32,7 @@ impl Encoded for Centi {
 impl Encoded for Fac5 {
     ghost bytes = { natural_bytes w32 };
 
-    ghost typed = { IsWithin (pos 50000) (pos 150000) };
+    ghost typed = { IsWithin LEAST_FACTOR MOST_FACTOR };
 
     fn put(&self, out: &mut Vec<u8>) {
         put(out, &(self.get() as u32).to_be_bytes());

@@ -3,7 +3,7 @@
 ghost use Rattle.std.specs.Prelude.{◌+◌, ◌*◌, ◌≤◌, ◌≡◌, All, IsTrue, List, ℕ, length, negsuc, pos};
 ghost use Rattle.std.specs.Int.{w64};
 ghost use Rattle.farm_fixed.specs.Range.{IsWithin};
-ghost use Rattle.farm_fixed.specs.declared.limits.TheConstants.{MOST_COEFFICIENT};
+ghost use Rattle.farm_fixed.specs.declared.limits.TheConstants.{LEAST_TEMPERATURE, MOST_COEFFICIENT, MOST_TEMPERATURE};
 ghost use Rattle.site_items.specs.Facts.{are_tanks};
 ghost use Rattle.site_items.specs.declared.tanks.TheConstants.{MOST_TANKS};
 ghost use Rattle.site_bytes.specs.Buffers.{HasRoom, IsPut};
@@ -95,7 +95,7 @@ fn put_shell(out: &mut Vec<u8>, shell: &Shell)
     requires coefficient { IsWithin (pos 0) MOST_COEFFICIENT shell.now.coefficient }
     requires room { HasRoom out.old (shell_bytes shell.now) }
     ensures put { IsPut out.old out.new (shell_bytes shell.now) }
-    ensures typed { IsWithin (negsuc 9999) (pos 30000) shell.now.reference }
+    ensures typed { IsWithin LEAST_TEMPERATURE MOST_TEMPERATURE shell.now.reference }
 {
     put(out, &[flag_byte(shell.insulated)]);
     put(out, &(shell.coefficient as u16).to_be_bytes());

@@ -8,16 +8,8 @@ use super::lists::{Piece, option_at, short_list_at};
 use super::numbers::{byte_at, byte_up_to, signed16_at, text_at, u16_at, u32_at};
 use crate::SiteBytesFault;
 use modbus_poll::{Field, GaugeMap, Gauges, LineMap, Valid};
+use site_lines::Request;
 use std::alloc::Global;
-
-// What is read of a device.
-#[derive(Clone, Copy)]
-struct Request {
-    unit: u8,
-    function: u8,
-    start: u16,
-    quantity: u8,
-}
 
 // The fields of a gauge.
 #[derive(Clone, Copy)]

@@ -3,14 +3,14 @@
 ghost use Rattle.std.specs.Prelude.{◌≡◌, ◌==◌, Ok, Err, if◌then◌else◌};
 ghost use Rattle.farm_rounding.specs.Table.{first_bad_row};
 ghost use Rattle.site_decoding.specs.ByteReaders.{Gives, byte_at, counted_at, tested_at};
-ghost use Rattle.site_decoding.specs.Decoding.{are_good, mode_of, name_at, round_at, rounds_at};
+ghost use Rattle.site_decoding.specs.Decoding.{are_good, mode_of, name_at, round_at, rounding_at};
 ghost use Rattle.site_bytes.specs.declared.TheConstants.{FORMAT};
 
 use super::numbers::{byte_at, flag_at, text_at};
 use crate::SiteBytesFault;
 use crate::SiteBytesFault::BadSite;
 use crate::sound::is_name;
-use farm_rounding::{Mode, ROWS, RoundTable};
+use farm_rounding::{Mode, ROUNDING_ROWS, RoundTable};
 use site_bytes::FORMAT;
 use site_items::Name;
 use std::alloc::Global;
@@ -39,21 +39,21 @@ pub fn name_at(alloc: Global, bytes: &[u8]) -> Result<(Name, &[u8]), SiteBytesFa
 }
 
 /// The rounding table.
-#[tactic(auto, unfolding(crate::specs::Decoding::rounds_at))]
-pub fn rounds_at(bytes: &[u8]) -> Result<(RoundTable, &[u8]), SiteBytesFault>
-    ensures reads { Gives (λ x. (x.0, x.1.now)) result (rounds_at bytes.now) }
+#[tactic(auto, unfolding(crate::specs::Decoding::rounding_at))]
+pub fn rounding_at(bytes: &[u8]) -> Result<(RoundTable, &[u8]), SiteBytesFault>
+    ensures reads { Gives (λ x. (x.0, x.1.now)) result (rounding_at bytes.now) }
 {
     let (rows, rest) = rows_at(bytes)?;
     Ok((table_of(rows)?, rest))
 }
 
 // Twelve rows of a rounding table.
-fn rows_at(bytes: &[u8]) -> Result<([(u8, Mode); ROWS], &[u8]), SiteBytesFault>
-    ensures reads { Gives (λ x. (x.0, x.1.now)) result (counted_at round_at ROWS bytes.now) }
+fn rows_at(bytes: &[u8]) -> Result<([(u8, Mode); ROUNDING_ROWS], &[u8]), SiteBytesFault>
+    ensures reads { Gives (λ x. (x.0, x.1.now)) result (counted_at round_at ROUNDING_ROWS bytes.now) }
 {
-    let mut rows = [(1, Mode::HalfAway); ROWS];
+    let mut rows = [(1, Mode::HalfAway); ROUNDING_ROWS];
     let mut rest = bytes;
-    for index in 0..ROWS {
+    for index in 0..ROUNDING_ROWS {
         let (row, after) = row_at(rest)?;
         rows[index] = row;
         rest = after;
@@ -83,7 +83,7 @@ fn mode_of(toward_zero: bool) -> Mode
 }
 
 // The rounding table of these rows, if they are one.
-fn table_of(rows: [(u8, Mode); ROWS]) -> Result<RoundTable, SiteBytesFault>
+fn table_of(rows: [(u8, Mode); ROUNDING_ROWS]) -> Result<RoundTable, SiteBytesFault>
     ensures table { result ≡ (if are_good (first_bad_row 1 rows) then Ok rows else Err SiteBytesFault.BadSite) }
 {
     match RoundTable::new(rows) {

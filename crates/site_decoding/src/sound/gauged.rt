@@ -3,20 +3,26 @@
 ghost use Rattle.std.specs.Prelude.{◌≡◌, ◌&&◌, ◌++◌, length, map, IfOk};
 ghost use Rattle.std.specs.List.{list_all};
 ghost use Rattle.farm_fixed.specs.Range.{is_within, is_between};
-ghost use Rattle.modbus_poll.specs.Maps.{is_field, is_field_or_none, is_gauge_map, is_host, is_line_map, is_valid_or_none};
+ghost use Rattle.modbus_poll.specs.declared.limits.TheConstants.{MOST_GAUGES};
+ghost use Rattle.modbus_poll.specs.Maps.{is_field, is_field_or_none, is_gauge_map, is_line_map, is_valid_or_none};
 ghost use Rattle.site_items.specs.Tanks.{tank_number};
 ghost use Rattle.site_keys.specs.Lists.{is_among};
 ghost use Rattle.site_lines.specs.Gauges.{are_distinct, are_gauged, tanks_gauged};
 ghost use Rattle.site_lines.specs.Lines.{all_gauged};
 
 use super::{is_known, is_within};
-use modbus_poll::{Field, GaugeMap, Host, LineMap, Valid};
+use farm_fixed::{LEAST_TEMPERATURE, MOST_TEMPERATURE};
+use modbus_frame::{LEAST_QUANTITY, MOST_QUANTITY, READ_HOLDING_REGISTERS, READ_INPUT_REGISTERS};
+use modbus_poll::{
+    Field, GaugeMap, HIGHEST_BIT, LineMap, MOST_DEADBAND, MOST_GAUGES, MOST_MULTIPLIER, MOST_WORDS,
+    REGISTERS, Valid,
+};
 use site_items::Tank;
-use site_keys::is_text;
+use site_lines::is_host;
 use std::alloc::{AllocError, Global};
 
 /// Whether each line is sound.
-pub fn all_line_maps(lines: &[LineMap]) -> bool
+pub fn are_sound_lines(lines: &[LineMap]) -> bool
     ensures { result ≡ list_all is_line_map lines.now }
 {
     lines.iter().all(is_line_map)
@@ -26,28 +32,21 @@ pub fn all_line_maps(lines: &[LineMap]) -> bool
 fn is_line_map(line: &LineMap) -> bool
     ensures { result ≡ is_line_map line.now }
 {
-    is_host(&line.host) && line.port >= 1 && are_gauge_maps(line.gauges.get())
+    is_host(line.host.get()) && line.port >= 1 && are_gauge_maps(line.gauges.get())
 }
 
 // Whether a line may have these gauges.
 fn are_gauge_maps(gauges: &[GaugeMap]) -> bool
-    ensures { result ≡ (is_between 1 16 (length gauges.now) && list_all is_gauge_map gauges.now) }
+    ensures { result ≡ (is_between 1 MOST_GAUGES (length gauges.now) && list_all is_gauge_map gauges.now) }
 {
-    !gauges.is_empty() && gauges.len() <= 16 && all_gauge_maps(gauges)
+    !gauges.is_empty() && gauges.len() <= MOST_GAUGES && are_sound_gauges(gauges)
 }
 
 // Whether each gauge is sound.
-fn all_gauge_maps(gauges: &[GaugeMap]) -> bool
+fn are_sound_gauges(gauges: &[GaugeMap]) -> bool
     ensures { result ≡ list_all is_gauge_map gauges.now }
 {
     gauges.iter().all(is_gauge_map)
-}
-
-// Whether a host is 1 to 64 printable bytes without a blank.
-fn is_host(host: &Host) -> bool
-    ensures { result ≡ is_host host.now }
-{
-    is_text(host.get(), 64, b'!', b'~')
 }
 
 // Whether a gauge is sound.
@@ -55,27 +54,33 @@ fn is_gauge_map(gauge: &GaugeMap) -> bool
     ensures { result ≡ is_gauge_map gauge.now }
 {
     let quantity = gauge.quantity;
-    is_between(3, 4, u32::from(gauge.function))
-        && is_between(1, 125, u32::from(quantity))
-        && u32::from(gauge.start) + u32::from(quantity) <= 65_536
+    is_between(
+        READ_HOLDING_REGISTERS as u32,
+        READ_INPUT_REGISTERS as u32,
+        u32::from(gauge.function),
+    ) && is_between(
+        LEAST_QUANTITY as u32,
+        MOST_QUANTITY as u32,
+        u32::from(quantity),
+    ) && u32::from(gauge.start) + u32::from(quantity) <= REGISTERS
         && is_field(quantity, gauge.level)
         && is_field(quantity, gauge.temperature)
         && is_field_or_none(quantity, gauge.water)
         && is_field_or_none(quantity, gauge.ambient)
-        && is_within(-10_000, 30_000, gauge.ambient_fixed)
+        && is_within(LEAST_TEMPERATURE, MOST_TEMPERATURE, gauge.ambient_fixed)
         && is_valid_or_none(quantity, gauge.valid)
-        && is_between(1, 1_000, u32::from(gauge.deadband_mm))
-        && is_between(1, 1_000, u32::from(gauge.deadband_centi))
+        && is_between(1, MOST_DEADBAND as u32, u32::from(gauge.deadband_mm))
+        && is_between(1, MOST_DEADBAND as u32, u32::from(gauge.deadband_centi))
 }
 
 // Whether a field's words lie within the registers that are read.
 fn is_field(quantity: u8, field: Field) -> bool
     ensures { result ≡ is_field quantity field }
 {
-    is_between(1, 2, u32::from(field.words))
+    is_between(1, MOST_WORDS as u32, u32::from(field.words))
         && u32::from(field.offset) + u32::from(field.words) <= u32::from(quantity)
-        && is_between(1, 1_000_000, field.mul)
-        && is_between(1, 1_000_000, field.div)
+        && is_between(1, MOST_MULTIPLIER, field.mul)
+        && is_between(1, MOST_MULTIPLIER, field.div)
 }
 
 // The same of a field that may be missing.
@@ -94,7 +99,7 @@ fn is_valid_or_none(quantity: u8, valid: Option<Valid>) -> bool
 {
     match valid {
         None => true,
-        Some(valid) => valid.offset < quantity && valid.bit <= 15,
+        Some(valid) => valid.offset < quantity && valid.bit <= HIGHEST_BIT,
     }
 }
 
@@ -130,11 +135,11 @@ fn put_tanks(gauged: &mut Vec<u16>, gauges: &[GaugeMap]) -> Result<(), AllocErro
 pub fn are_gauged(tanks: &[Tank], gauged: &[u16]) -> bool
     ensures { result ≡ are_gauged (map tank_number tanks.now) gauged.now }
 {
-    all_known(tanks, gauged) && are_distinct(gauged)
+    are_known(tanks, gauged) && are_distinct(gauged)
 }
 
 // Whether each of these is one of the site's tanks.
-fn all_known(tanks: &[Tank], gauged: &[u16]) -> bool
+fn are_known(tanks: &[Tank], gauged: &[u16]) -> bool
     ensures { result ≡ list_all (λ tank. is_among tank (map tank_number tanks.now)) gauged.now }
 {
     gauged.iter().all(|tank| is_known(*tank, tanks))

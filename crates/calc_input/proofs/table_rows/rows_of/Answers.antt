@@ -22,7 +22,7 @@ returns-in-None-clause-rows c = λ all first.
 
 pub loop-index-preserved : goal.loop-index-preserved
 loop-index-preserved c =
-    let value = to_z-of_z w64 c.get.result (search rules) ∙ c.get.ensures.value in
+    let value = to_z-of_z w64 c.get.result (search rules) ∙ c.get.ensures.units in
     let pushed : c.push.new.self.items ≡ c.loop-index.rows.items ++ c.in-Some.row ∷ [] =
     c.in_ok-push-in-Some.ensures.items ∙ ap (λ row. c.loop-index.rows.items ++ row ∷ []) value in
     record {

@@ -53,39 +53,39 @@ of_figures rounding tank table vcf reading sample tov fw factor floating answer 
 
 pub returns-in_err-tov-clause-quantities : goal.returns-in_err-tov-clause-quantities
 returns-in_err-tov-clause-quantities c =
-    let refused : Err c.in_err-tov.field-0.0 ≡ total_observed c.args.rounds.now c.args.table.now c.args.reading.now = sym c.in_err-tov.was ∙ c.total_observed.ensures.value in
+    let refused : Err c.in_err-tov.field-0.0 ≡ total_observed c.args.rounding.now c.args.table.now c.args.reading.now = sym c.in_err-tov.was ∙ c.total_observed.ensures.value in
     let refusal_is : c.from_residual.result ≡ Err c.in_err-tov.field-0.0 = search rules in
-    refusal_is ∙ of_no_total c.args.rounds.now c.args.tank.now c.args.table.now c.args.vcf.now c.args.reading.now c.args.sample.now c.in_err-tov.field-0.0 refused
+    refusal_is ∙ of_no_total c.args.rounding.now c.args.tank.now c.args.table.now c.args.vcf.now c.args.reading.now c.args.sample.now c.in_err-tov.field-0.0 refused
 
 pub returns-in_err-fw-clause-quantities : goal.returns-in_err-fw-clause-quantities
 returns-in_err-fw-clause-quantities c =
-    let tov_is : Ok c.in_ok-tov.tov ≡ total_observed c.args.rounds.now c.args.table.now c.args.reading.now = sym c.in_ok-tov.was ∙ c.total_observed.ensures.value in
-    let refused : Err c.in_err-fw.field-0.0 ≡ free_water c.args.rounds.now c.args.table.now c.args.reading.now = sym c.in_err-fw.was ∙ c.free_water.ensures.value in
+    let tov_is : Ok c.in_ok-tov.tov ≡ total_observed c.args.rounding.now c.args.table.now c.args.reading.now = sym c.in_ok-tov.was ∙ c.total_observed.ensures.value in
+    let refused : Err c.in_err-fw.field-0.0 ≡ free_water c.args.rounding.now c.args.table.now c.args.reading.now = sym c.in_err-fw.was ∙ c.free_water.ensures.value in
     let refusal_is : c.from_residual-in_err-fw.result ≡ Err c.in_err-fw.field-0.0 = search rules in
-    refusal_is ∙ of_no_water c.args.rounds.now c.args.tank.now c.args.table.now c.args.vcf.now c.args.reading.now c.args.sample.now c.in_ok-tov.tov c.in_err-fw.field-0.0 tov_is refused
+    refusal_is ∙ of_no_water c.args.rounding.now c.args.tank.now c.args.table.now c.args.vcf.now c.args.reading.now c.args.sample.now c.in_ok-tov.tov c.in_err-fw.field-0.0 tov_is refused
 
 pub returns-in_err-factor-clause-quantities : goal.returns-in_err-factor-clause-quantities
 returns-in_err-factor-clause-quantities c =
-    let tov_is : Ok c.in_ok-tov.tov ≡ total_observed c.args.rounds.now c.args.table.now c.args.reading.now = sym c.in_ok-tov.was ∙ c.total_observed.ensures.value in
-    let fw_is : Ok c.in_ok-fw.fw ≡ free_water c.args.rounds.now c.args.table.now c.args.reading.now = sym c.in_ok-fw.was ∙ c.free_water.ensures.value in
-    let refused : Err c.in_err-factor.field-0.0 ≡ correction_factor c.args.rounds.now c.args.vcf.now c.args.reading.now c.args.sample.now = sym c.in_err-factor.was ∙ c.correction_factor.ensures in
+    let tov_is : Ok c.in_ok-tov.tov ≡ total_observed c.args.rounding.now c.args.table.now c.args.reading.now = sym c.in_ok-tov.was ∙ c.total_observed.ensures.value in
+    let fw_is : Ok c.in_ok-fw.fw ≡ free_water c.args.rounding.now c.args.table.now c.args.reading.now = sym c.in_ok-fw.was ∙ c.free_water.ensures.value in
+    let refused : Err c.in_err-factor.field-0.0 ≡ correction_factor c.args.rounding.now c.args.vcf.now c.args.reading.now c.args.sample.now = sym c.in_err-factor.was ∙ c.correction_factor.ensures in
     let refusal_is : c.from_residual-in_err-factor.result ≡ Err c.in_err-factor.field-0.0 = search rules in
-    refusal_is ∙ of_no_factor c.args.rounds.now c.args.tank.now c.args.table.now c.args.vcf.now c.args.reading.now c.args.sample.now c.in_ok-tov.tov c.in_ok-fw.fw c.in_err-factor.field-0.0 tov_is fw_is refused
+    refusal_is ∙ of_no_factor c.args.rounding.now c.args.tank.now c.args.table.now c.args.vcf.now c.args.reading.now c.args.sample.now c.in_ok-tov.tov c.in_ok-fw.fw c.in_err-factor.field-0.0 tov_is fw_is refused
 
 pub returns-in_err-floating-clause-quantities : goal.returns-in_err-floating-clause-quantities
 returns-in_err-floating-clause-quantities c =
-    let tov_is : Ok c.in_ok-tov.tov ≡ total_observed c.args.rounds.now c.args.table.now c.args.reading.now = sym c.in_ok-tov.was ∙ c.total_observed.ensures.value in
-    let fw_is : Ok c.in_ok-fw.fw ≡ free_water c.args.rounds.now c.args.table.now c.args.reading.now = sym c.in_ok-fw.was ∙ c.free_water.ensures.value in
-    let factor_is : Ok c.in_ok-factor.factor ≡ correction_factor c.args.rounds.now c.args.vcf.now c.args.reading.now c.args.sample.now = sym c.in_ok-factor.was ∙ c.correction_factor.ensures in
+    let tov_is : Ok c.in_ok-tov.tov ≡ total_observed c.args.rounding.now c.args.table.now c.args.reading.now = sym c.in_ok-tov.was ∙ c.total_observed.ensures.value in
+    let fw_is : Ok c.in_ok-fw.fw ≡ free_water c.args.rounding.now c.args.table.now c.args.reading.now = sym c.in_ok-fw.was ∙ c.free_water.ensures.value in
+    let factor_is : Ok c.in_ok-factor.factor ≡ correction_factor c.args.rounding.now c.args.vcf.now c.args.reading.now c.args.sample.now = sym c.in_ok-factor.was ∙ c.correction_factor.ensures in
     let refused : Err c.in_err-floating.field-0.0 ≡ floating_mass c.args.tank.now.roof c.args.reading.now.level = sym c.in_err-floating.was ∙ c.floating_mass.ensures.value in
     let refusal_is : c.from_residual-in_err-floating.result ≡ Err c.in_err-floating.field-0.0 = search rules in
-    refusal_is ∙ of_no_floating c.args.rounds.now c.args.tank.now c.args.table.now c.args.vcf.now c.args.reading.now c.args.sample.now c.in_ok-tov.tov c.in_ok-fw.fw c.in_ok-factor.factor c.in_err-floating.field-0.0 tov_is fw_is factor_is refused
+    refusal_is ∙ of_no_floating c.args.rounding.now c.args.tank.now c.args.table.now c.args.vcf.now c.args.reading.now c.args.sample.now c.in_ok-tov.tov c.in_ok-fw.fw c.in_ok-factor.factor c.in_err-floating.field-0.0 tov_is fw_is factor_is refused
 
 pub returns-clause-quantities : goal.returns-clause-quantities
 returns-clause-quantities c =
-    let tov_is : Ok c.in_ok-tov.tov ≡ total_observed c.args.rounds.now c.args.table.now c.args.reading.now = sym c.in_ok-tov.was ∙ c.total_observed.ensures.value in
-    let fw_is : Ok c.in_ok-fw.fw ≡ free_water c.args.rounds.now c.args.table.now c.args.reading.now = sym c.in_ok-fw.was ∙ c.free_water.ensures.value in
-    let factor_is : Ok c.in_ok-factor.factor ≡ correction_factor c.args.rounds.now c.args.vcf.now c.args.reading.now c.args.sample.now = sym c.in_ok-factor.was ∙ c.correction_factor.ensures in
+    let tov_is : Ok c.in_ok-tov.tov ≡ total_observed c.args.rounding.now c.args.table.now c.args.reading.now = sym c.in_ok-tov.was ∙ c.total_observed.ensures.value in
+    let fw_is : Ok c.in_ok-fw.fw ≡ free_water c.args.rounding.now c.args.table.now c.args.reading.now = sym c.in_ok-fw.was ∙ c.free_water.ensures.value in
+    let factor_is : Ok c.in_ok-factor.factor ≡ correction_factor c.args.rounding.now c.args.vcf.now c.args.reading.now c.args.sample.now = sym c.in_ok-factor.was ∙ c.correction_factor.ensures in
     let floating_is : Ok c.in_ok-floating.floating ≡ floating_mass c.args.tank.now.roof c.args.reading.now.level = sym c.in_ok-floating.was ∙ c.floating_mass.ensures.value in
-    of_figures c.args.rounds.now c.args.tank.now c.args.table.now c.args.vcf.now c.args.reading.now c.args.sample.now c.in_ok-tov.tov c.in_ok-fw.fw c.in_ok-factor.factor c.in_ok-floating.floating c.figures.result
+    of_figures c.args.rounding.now c.args.tank.now c.args.table.now c.args.vcf.now c.args.reading.now c.args.sample.now c.in_ok-tov.tov c.in_ok-fw.fw c.in_ok-factor.factor c.in_ok-floating.floating c.figures.result
     tov_is fw_is factor_is floating_is c.figures.ensures.figures

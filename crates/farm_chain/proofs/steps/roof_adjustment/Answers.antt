@@ -1,6 +1,7 @@
 -- Answers to the open goals of `roof_adjustment`.
-use Rattle.std.proofs.Common.{◌≡◌, ◌^◌, false, List, ℤ, pos, neg_ℤ, ◌*ℤ◌, ◌≤ℤ◌, ap, ◌∙◌, arith, rules}
-use Rattle.std.proofs.lemmas.Int.{ints}
+use Rattle.std.proofs.Common.{◌≡◌, ◌^◌, false, List, ℤ, to_z, of_z, pos, neg_ℤ, ◌*ℤ◌, ◌≤ℤ◌, ap, ◌∙◌, arith, rules}
+use Rattle.std.proofs.lemmas.Int.{ints, to_z-of_z}
+use Rattle.std.specs.Int.{w128}
 use Rattle.std.specs.Int.RustNames.{unsigned_abs}
 use Rattle.std.specs.Ordering.{int_eq}
 use Rattle.farm_rounding.specs.Table.{Row, rounded}
@@ -17,12 +18,17 @@ unfolding roof_adjustment
 of_a_roof rounding floating density vcf mass observed share answer roof mass_is observed_is share_is answer_is =
     rw roof (answer_is ∙ ap neg_ℤ (share_is ∙ ap (λ m. rounded rounding ROOF_ADJUSTMENT m (unsigned_abs observed)) mass_is ∙ ap (λ d. rounded rounding ROOF_ADJUSTMENT (floating *ℤ pos (10 ^ 9)) (unsigned_abs d)) observed_is))
 
+pub in_range-requires-2 : goal.in_range-requires-2
+in_range-requires-2 c =
+    let kept : to_z w128 (of_z w128 c.negated.result) ≡ c.negated.result = to_z-of_z w128 c.negated.result (search rules) in
+    record { low = omega (arith, ints, kept); high = omega (arith, ints, kept) }
+
 pub returns-clause-value : goal.returns-clause-value
 returns-clause-value c =
-    let mass = c.product-mass.ensures.value in
-    let observed = c.product-observed.ensures.value in
-    let share = c.round.ensures.value in
-    of_a_roof c.args.rounding.now c.args.floating c.args.density c.args.vcf c.product-mass.result c.product-observed.result c.round.result c.litres-2.result
+    let mass = c.product-mass.ensures.product in
+    let observed = c.product-observed.ensures.product in
+    let share = c.round.ensures.rounded in
+    of_a_roof c.args.rounding.now c.args.floating c.args.density c.args.vcf c.product-mass.result c.product-observed.result c.round.result c.in_range-2.result
     (search rules) (search rules) (search rules) (search rules) (search rules)
 
 pub returns-clause-never_adds : goal.returns-clause-never_adds

@@ -3,6 +3,7 @@ use Rattle.std.proofs.Common.{rules, ◌≡◌, IsTrue, Some, None, Ok, List, ta
 use Rattle.std.specs.Int.{w64}
 use Rattle.std.proofs.lemmas.Int.{to_z-of_z}
 use Rattle.farm_fixed.specs.Range.{is_within}
+use Rattle.farm_fixed.specs.declared.limits.TheConstants.{LEAST_TEMPERATURE, MOST_HEIGHT, MOST_TEMPERATURE}
 use Rattle.farm_readings.specs.Readings.{AreTemperatures}
 use Rattle.farm_history.specs.declared.command.Command.{Command}
 use Rattle.farm_history.specs.Commands.{IsShortList, IsWellFormedCommand, numbers_of}
@@ -12,11 +13,11 @@ use Rattle.farm_entries.proofs.Ranges.{dip_within, gauge_within}
 use Rattle.farm_entries.proofs.gauging.gauged.Goals as goal
 
 -- a number that is the same as one of 64 bits is in range with it
-height_same : (x y : ℤ) → x ≡ y → IsTrue (is_within (pos 0) (pos 50000) y) → IsTrue (is_within (pos 0) (pos 50000) x)
+height_same : (x y : ℤ) → x ≡ y → IsTrue (is_within (pos 0) MOST_HEIGHT y) → IsTrue (is_within (pos 0) MOST_HEIGHT x)
 height_same x y is within = rw is within
 
 -- and so is a temperature
-temperature_same : (x y : ℤ) → x ≡ y → IsTrue (is_within (negsuc 9999) (pos 30000) y) → IsTrue (is_within (negsuc 9999) (pos 30000) x)
+temperature_same : (x y : ℤ) → x ≡ y → IsTrue (is_within LEAST_TEMPERATURE MOST_TEMPERATURE y) → IsTrue (is_within LEAST_TEMPERATURE MOST_TEMPERATURE x)
 temperature_same x y is within = rw is within
 
 pub height_of-requires : goal.height_of-requires
@@ -88,5 +89,5 @@ returns-in-Gauge c =
     let water : c.height_of-in-Gauge.result ≡ g.water = c.height_of-in-Gauge.ensures.height ∙ to_z-of_z w64 g.water (search rules) in
     let temperature : c.temperature_of.result ≡ g.temperature = c.temperature_of.ensures.temperature ∙ to_z-of_z w64 g.temperature (search rules) in
     let ambient : c.temperature_of-in-Gauge.result ≡ g.ambient = c.temperature_of-in-Gauge.ensures.temperature ∙ to_z-of_z w64 g.ambient (search rules) in
-    let same : c.gauge_reading.result ≡ gauge_reading c.args.rounds.now g.level g.water g.temperature g.ambient = cc in
+    let same : c.gauge_reading.result ≡ gauge_reading c.args.rounding.now g.level g.water g.temperature g.ambient = cc in
     record { gauged = rw g.is (ap (λ reading. Some (Ok reading)) same) }

@@ -39,8 +39,8 @@ with_sign_of-requires c =
     let same : unsigned_abs (to_z w128 (of_z w128 c.args.num)) ≡ unsigned_abs c.args.num = ap unsigned_abs num in
     product_small c.steps_to.result c.unsigned_abs-step.result (omega arith) (omega arith)
 
-pub returns-clause-value : goal.returns-clause-value
-returns-clause-value c =
+pub returns-clause-nearest_multiple : goal.returns-clause-nearest_multiple
+returns-clause-nearest_multiple c =
     let num = to_z-of_z w128 c.args.num c.ranges.num in
     let den = to_z-of_z w128 c.args.den c.ranges.den in
     let step = to_z-of_z w64 c.args.step c.ranges.step in
@@ -51,14 +51,14 @@ pub returns-clause-meaning : goal.returns-clause-meaning
 returns-clause-meaning c =
     let P : ℤ → Type 0 = λ r. IsNearest c.args.mode c.args.num (unsigned_abs c.args.den) (unsigned_abs c.args.step) r in
     let some_step = step_bounds (unsigned_abs c.args.step) c.requires.step.1 in
-    subst P (sym (returns-clause-value c))
+    subst P (sym (returns-clause-nearest_multiple c))
     (value_is_nearest c.args.mode c.args.num (unsigned_abs c.args.den) (unsigned_abs c.args.step) (omega (arith, ints)) (omega arith))
 
 pub returns-clause-size : goal.returns-clause-size
 returns-clause-size c =
     let P : ℤ → Type 0 = λ r. IsWithinAStep (unsigned_abs c.args.num / unsigned_abs c.args.den) (unsigned_abs c.args.step) (unsigned_abs r) in
     let some_step = step_bounds (unsigned_abs c.args.step) c.requires.step.1 in
-    subst P (sym (returns-clause-value c))
+    subst P (sym (returns-clause-nearest_multiple c))
     (value_close c.args.mode c.args.num (unsigned_abs c.args.den) (unsigned_abs c.args.step) (omega (arith, ints)) (omega arith))
 
 -- no figure is below zero where the numerator isn't
@@ -70,4 +70,4 @@ pub returns-clause-sign : goal.returns-clause-sign
 unfolding nearest_multiple
 returns-clause-sign c low =
     let P : ℤ → Type 0 = λ r. pos 0 ≤ℤ r in
-    subst P (sym (returns-clause-value c)) (sign_kept c.args.num _ low)
+    subst P (sym (returns-clause-nearest_multiple c)) (sign_kept c.args.num _ low)

@@ -9,6 +9,6 @@ use Rattle.farm_stock.proofs.book.total_of.Given as goal
 abbrev pub invariant-loop-book : goal.invariant-loop-book
 invariant-loop-book l = record {
   total : plus l.total (total_of (drop l.book-index l.books)) ≡ total_of l.books;
-  litres : unsigned_abs l.total.litres + magnitudes (λ amount. amount.litres) (drop l.book-index l.books) ≤ 10 ^ 17;
-  kg : unsigned_abs l.total.kg + magnitudes (λ amount. amount.kg) (drop l.book-index l.books) ≤ 10 ^ 17;
+  litres : unsigned_abs l.total.litres + magnitudes (λ amount. amount.litres) (drop l.book-index l.books) ≤ 10 ^ 18;
+  kg : unsigned_abs l.total.kg + magnitudes (λ amount. amount.kg) (drop l.book-index l.books) ≤ 10 ^ 18;
 }

@@ -3,8 +3,8 @@ use Rattle.farm_vcf.proofs.Blocks.{no_rows, some_rows}
 use Rattle.farm_vcf.proofs.Meanings.{answer_of_rows}
 use Rattle.farm_vcf.proofs.rows.grid_of_rows.Goals as goal
 
-pub returns-in-empty-clause-value : goal.returns-in-empty-clause-value
-returns-in-empty-clause-value c = no_rows c.args.rows.now c.in-empty.len_below
+pub returns-in-empty-clause-grid : goal.returns-in-empty-clause-grid
+returns-in-empty-clause-grid c = no_rows c.args.rows.now c.in-empty.len_below
 
 pub returns-in-len1-up-clause-meaning : goal.returns-in-len1-up-clause-meaning
 returns-in-len1-up-clause-meaning c =

@@ -9,16 +9,16 @@ loop-needed-init g c = record { within = lit≤ tt; so_far = none_has_come (g.L.
 
 pub receive_piece-requires-clause-room : goal.receive_piece-requires-clause-room
 receive_piece-requires-clause-room g c =
-    let few = needs_few c.args.expect.now (take c.loop-needed.len c.loop-needed.buffer) c.in-Need.needed c.requires.expect (sym c.in-Need.ensures.value) in
+    let few = needs_few c.args.expect.now (take c.loop-needed.len c.loop-needed.buffer) c.in-Need.needed c.requires.expect (sym c.in-Need.ensures.frame) in
     omega (arith, few.fits, length-take c.loop-needed.len c.loop-needed.buffer)
 
 pub loop-needed-preserved : goal.loop-needed-preserved
 loop-needed-preserved g c =
-    let few = needs_few c.args.expect.now (take c.loop-needed.len c.loop-needed.buffer) c.in-Need.needed c.requires.expect (sym c.in-Need.ensures.value) in
+    let few = needs_few c.args.expect.now (take c.loop-needed.len c.loop-needed.buffer) c.in-Need.needed c.requires.expect (sym c.in-Need.ensures.frame) in
     let took = c.in_ok-len-in-Need.ensures in
     record {
       within = omega (arith, few.fits, took.piece.within, length-take c.loop-needed.len c.loop-needed.buffer);
       so_far = has_come_more _ _ _ c.args.expect.now c.loop-needed.buffer c.receive_piece.new.buffer c.loop-needed.len c.in-Need.needed c.in_ok-len-in-Need.field-0
-          c.loop-needed.invariant.so_far (sym c.in-Need.ensures.value) took.piece;
+          c.loop-needed.invariant.so_far (sym c.in-Need.ensures.frame) took.piece;
       quiet = took.quiet ∙ c.loop-needed.invariant.quiet;
     }

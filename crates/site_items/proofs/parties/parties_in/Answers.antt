@@ -13,11 +13,11 @@ loop-index-preserved c =
       read =
           let here = rw c.deref.ensures.value at c.in_ok-party.ensures.party in
           rw (
-            c.in_ok-place.ensures.placed,
+            c.in_ok-put_by_number.ensures.placed,
             numbered_more party_number party_of earlier
                 c.args.tables.now c.loop-index.index c.index-tables-index.result party (omega arith) c.index-tables-index.is here,
           ) c.loop-index.invariant.read;
-      count = rw (c.in_ok-place.ensures.placed, placed_length party_number party earlier, c.loop-index.invariant.count) refl;
-      sound = rw c.in_ok-place.ensures.placed (placed_numbered party_number is_party party earlier
+      count = rw (c.in_ok-put_by_number.ensures.placed, placed_length party_number party earlier, c.loop-index.invariant.count) refl;
+      sound = rw c.in_ok-put_by_number.ensures.placed (placed_numbered party_number is_party party earlier
           c.loop-index.invariant.sound c.in_ok-party.ensures.sound fresh);
     }

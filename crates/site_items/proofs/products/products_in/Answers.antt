@@ -15,7 +15,7 @@ loop-index-preserved g c =
       read = λ files known.
           let here = rw c.deref.ensures.value at (c.in_ok-product.ensures.product files known) in
           rw (
-            c.in_ok-place.ensures.placed,
+            c.in_ok-put_by_number.ensures.placed,
             numbered_more product_number (product_of files) earlier
                 c.args.tables.now c.loop-index.index c.index-tables-index.result product (omega arith) c.index-tables-index.is here,
           ) (c.loop-index.invariant.read files (known_before (g.F.Folder.files c.loop-index.folder) (g.F.Folder.files c.product_of.new.folder) files c.in_ok-product.ensures.keeps.stays known));
@@ -23,7 +23,7 @@ loop-index-preserved g c =
           c.loop-index.invariant.stays c.in_ok-product.ensures.keeps.stays;
       unlisted = λ none. c.in_ok-product.ensures.lists (c.loop-index.invariant.unlisted none);
       quiet = omega (arith, c.loop-index.invariant.quiet, c.in_ok-product.ensures.keeps.quiet (λ is. cc));
-      count = rw (c.in_ok-place.ensures.placed, placed_length product_number product earlier, c.loop-index.invariant.count) refl;
-      sound = rw c.in_ok-place.ensures.placed (placed_numbered product_number is_product product earlier
+      count = rw (c.in_ok-put_by_number.ensures.placed, placed_length product_number product earlier, c.loop-index.invariant.count) refl;
+      sound = rw c.in_ok-put_by_number.ensures.placed (placed_numbered product_number is_product product earlier
           c.loop-index.invariant.sound c.in_ok-product.ensures.sound fresh);
     }

@@ -10,7 +10,7 @@ use Rattle.site_items.proofs.tanks.tanks_in.Given as goal
 
 abbrev pub invariant-loop-index : goal.invariant-loop-index
 invariant-loop-index g l = record {
-  read : (files : List File) → g.F.Folder.files l.folder ≡ Some files → numbered_from tank_number (tank_of files l.format l.rounds (map product_number l.products)) (l.index + 1) l.tanks.items (map view (drop l.index l.tables)) ≡ numbered_from tank_number (tank_of files l.format l.rounds (map product_number l.products)) 1 [] (map view l.tables);
+  read : (files : List File) → g.F.Folder.files l.folder ≡ Some files → numbered_from tank_number (tank_of files l.format l.rounding (map product_number l.products)) (l.index + 1) l.tanks.items (map view (drop l.index l.tables)) ≡ numbered_from tank_number (tank_of files l.format l.rounding (map product_number l.products)) 1 [] (map view l.tables);
   stays : Stays (g.F.Folder.files l.fn.folder) (g.F.Folder.files l.folder);
   unlisted : g.F.Folder.lists_no_failure l.fn.folder → g.F.Folder.lists_no_failure l.folder;
   quiet : g.F.Folder.faults l.folder ≡ g.F.Folder.faults l.fn.folder;

@@ -59,6 +59,6 @@ returns-clause-value c =
     let P : ℕ → Type 0 = λ k. bottom_volume (drop (k - 1) bottom) c.args.height ≡ bottom_volume bottom c.args.height in
     let all : c.loop-i.i ≡ length bottom = omega (arith, some, c.loop-i.auto.i-end, c.loop-i-test.false) in
     let volume = sym (at_the_last bottom c.args.height some) ∙ subst P all c.loop-i.invariant in
-    to_z-of_z w128 c.round.result (search rules) ∙ c.round.ensures.value
+    to_z-of_z w128 c.round.result (search rules) ∙ c.round.ensures.rounded
     ∙ ap (λ (litres : ℤ). rounded_litres c.args.rounding.now STRAPPED_ROW (over litres 1)) whole
     ∙ ap (λ (volume : Fraction). rounded_litres c.args.rounding.now STRAPPED_ROW volume) volume

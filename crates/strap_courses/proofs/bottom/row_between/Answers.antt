@@ -13,7 +13,7 @@ product-above-requires-clause-a c =
     let low = to_z-of_z w64 c.args.low.1 (search rules) in
     let high = to_z-of_z w64 c.args.high.1 (search rules) in
     let kept = to_z-of_z w64 c.difference.result (search rules) in
-    let gain : c.difference.result ≡ c.args.high.1 -ℤ c.args.low.1 = cc (c.difference.ensures.value) in
+    let gain : c.difference.result ≡ c.args.high.1 -ℤ c.args.low.1 = cc (c.difference.ensures.difference) in
     subst P (sym kept) (omega (arith, ints, gain, c.requires.low, c.requires.high))
 
 pub product-above-requires-clause-b : goal.product-above-requires-clause-b
@@ -22,14 +22,14 @@ product-above-requires-clause-b c =
     let height : to_z w64 c.args.height ≡ pos c.args.height = omega (arith, ints) in
     let low = to_z-of_z w64 c.get-3.result (search rules) in
     let kept = to_z-of_z w64 c.difference-over.result (search rules) in
-    let above : c.difference-over.result ≡ pos c.args.height -ℤ c.get-3.result = cc (c.difference-over.ensures.value) in
+    let above : c.difference-over.result ≡ pos c.args.height -ℤ c.get-3.result = cc (c.difference-over.ensures.difference) in
     subst P (sym kept) (omega (arith, ints, above, c.get-3.ensures.range, c.requires.height))
 
 pub returns-clause-value : goal.returns-clause-value
 returns-clause-value c =
     let height : to_z w64 c.args.height ≡ pos c.args.height = omega (arith, ints) in
     let low = to_z-of_z w64 c.get-3.result (search rules) in
-    let above_low : c.difference-over.result ≡ pos c.args.height -ℤ c.args.low.0 = cc (c.difference-over.ensures.value, c.get-3.ensures.value) in
+    let above_low : c.difference-over.result ≡ pos c.args.height -ℤ c.args.low.0 = cc (c.difference-over.ensures.difference, c.get-3.ensures.units) in
     of_two_points c.args.rounding.now STRAPPED_ROW c.args.low c.args.high c.args.height
     c.difference-rise.result c.difference-over.result c.difference.result c.product-below.result c.product-above.result c.sum.result c.from.result (to_z w128 (of_z w128 c.round.result))
     (search rules) above_low (search rules) (search rules) (search rules) (search rules) (search rules) (search rules)

@@ -22,22 +22,23 @@ without_casts mode parts step r n parts_fit step_fits few value =
     let n_is : unsigned_abs (to_z w128 n) ≡ n = omega (arith, ints) in
     cc
 
-pub litres-requires : goal.litres-requires
-litres-requires g c =
+pub in_range-requires : goal.in_range-requires
+in_range-requires g c =
     let n = g.row.PARTS in
     let P : ℤ → Type 0 = λ x. IsWithin (pos 0) (pos (10 ^ 9)) x in
-    let value = without_casts c.args.mode c.args.parts c.args.step c.nearest.result n c.ranges.parts c.ranges.step c.requires.few c.nearest.ensures.value in
+    let value = without_casts c.args.mode c.args.parts c.args.step c.nearest.result n c.ranges.parts c.ranges.step c.requires.few c.nearest.ensures.nearest_multiple in
     let fits : SFits w128 c.nearest.result = search rules in
     let kept = to_z-of_z w128 c.nearest.result fits in
-    subst P (sym (kept ∙ value)) (volume_in_range c.args.mode c.args.parts n (unsigned_abs c.args.step) c.requires.some c.requires.step.1 c.requires.parts.low c.requires.parts.high)
+    let volume = subst P (sym (kept ∙ value)) (volume_in_range c.args.mode c.args.parts n (unsigned_abs c.args.step) c.requires.some c.requires.step.1 c.requires.parts.low c.requires.parts.high) in
+    record { low = omega (arith, ints, volume.low); high = omega (arith, ints, volume.high) }
 
 pub returns-clause-value : goal.returns-clause-value
 returns-clause-value g c =
     let n = g.row.PARTS in
-    let value = without_casts c.args.mode c.args.parts c.args.step c.nearest.result n c.ranges.parts c.ranges.step c.requires.few c.nearest.ensures.value in
+    let value = without_casts c.args.mode c.args.parts c.args.step c.nearest.result n c.ranges.parts c.ranges.step c.requires.few c.nearest.ensures.nearest_multiple in
     let fits : SFits w128 c.nearest.result = search rules in
     let kept = to_z-of_z w128 c.nearest.result fits in
-    c.litres.ensures ∙ kept ∙ value
+    c.in_range.ensures.units ∙ kept ∙ value
 
 pub returns-clause-range : goal.returns-clause-range
 returns-clause-range g c =

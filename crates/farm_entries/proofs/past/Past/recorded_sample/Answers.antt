@@ -3,6 +3,7 @@ use Rattle.std.proofs.Common.{rules, ◌≡◌, IsTrue, None, pos, ℤ, sym, sub
 use Rattle.std.specs.Int.{w64}
 use Rattle.std.proofs.lemmas.Int.{to_z-of_z}
 use Rattle.farm_fixed.specs.Range.{is_within}
+use Rattle.farm_fixed.specs.declared.limits.TheConstants.{LEAST_DENSITY, MOST_DENSITY, MOST_SHARE}
 use Rattle.farm_history.specs.declared.command.Command.{Command}
 use Rattle.farm_history.specs.Fields.{first_bad_field}
 use Rattle.farm_entries.specs.Pasts.{history_of}
@@ -20,7 +21,7 @@ sample_fields-requires-clause-density c =
     let range = entry_in_range (history_of c.args.self.now.site.now c.args.self.now.entries.now) c.args.place c.in_ok-entry.entry.now c.requires.readable
     (sym c.in_ok-entry.ensures.entry) in
     let none = subst (λ (command : Command). first_bad_field command ≡ None) s.is range.fields in
-    number_same (pos 4000) (pos 12000) _ s.density (to_z-of_z w64 s.density (search rules)) (sample_within s.tank s.density s.sw none).density_within
+    number_same LEAST_DENSITY MOST_DENSITY _ s.density (to_z-of_z w64 s.density (search rules)) (sample_within s.tank s.density s.sw none).density_within
 
 pub sample_fields-requires-clause-sw : goal.sample_fields-requires-clause-sw
 sample_fields-requires-clause-sw c =
@@ -28,4 +29,4 @@ sample_fields-requires-clause-sw c =
     let range = entry_in_range (history_of c.args.self.now.site.now c.args.self.now.entries.now) c.args.place c.in_ok-entry.entry.now c.requires.readable
     (sym c.in_ok-entry.ensures.entry) in
     let none = subst (λ (command : Command). first_bad_field command ≡ None) s.is range.fields in
-    number_same (pos 0) (pos 100000) _ s.sw (to_z-of_z w64 s.sw (search rules)) (sample_within s.tank s.density s.sw none).sw_within
+    number_same (pos 0) MOST_SHARE _ s.sw (to_z-of_z w64 s.sw (search rules)) (sample_within s.tank s.density s.sw none).sw_within

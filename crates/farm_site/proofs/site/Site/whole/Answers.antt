@@ -21,7 +21,7 @@ invariant_of-result c =
     parties.parties.items parties.rest.now parties.ensures.reads tanks.tanks.items tanks.rest.now tanks_read lines.lines.items lines.rest.now lines_read in
     record {
       is_named = site.named;
-      has_rounds = site.rounding;
+      has_rounding = site.rounding;
       has_products = rw c.new.ensures.items site.products_sound.0;
       has_parties = rw c.new-2.ensures.items site.parties_sound;
       has_tanks = rw (c.new.ensures.items, c.new-3.ensures.items) site.tanks_sound.0;

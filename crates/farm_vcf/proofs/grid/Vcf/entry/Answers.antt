@@ -4,8 +4,8 @@ use Rattle.farm_vcf.proofs.Entries.{entry_means, factor_read, is_entry, no_densi
 use Rattle.farm_vcf.proofs.grid.Vcf.entry.Goals as goal
 use Rattle.farm_vcf.proofs.grid.Vcf.entry.Goals.{else-is_covered-via-then-is_covered+else-is_covered-2, else-is_covered-via-else-is_covered}
 
-pub returns-then-is_covered-2-clause-value : goal.returns-then-is_covered-2-clause-value
-returns-then-is_covered-2-clause-value c =
+pub returns-then-is_covered-2-clause-factor : goal.returns-then-is_covered-2-clause-factor
+returns-then-is_covered-2-clause-factor c =
     rw (← c.self.view_is)
     (is_entry c.args.mode _ c.args.density c.args.liquid c.index.result.now c.closest-row.result c.closest-column.result
     (rw c.as_slice-densities.ensures.value at (sym c.is_covered.ensures ∙ c.if-is_covered.true))
@@ -32,8 +32,8 @@ returns-then-is_covered-2-clause-meaning c =
     (rw c.as_slice-temperatures.ensures.value at c.closest-column.ensures.within)
     (rw c.as_slice-temperatures.ensures.value at c.index.ensures)))
 
-pub returns-else-is_covered-clause-value : goal.returns-else-is_covered-clause-value
-returns-else-is_covered-clause-value c = elim c.else-is_covered.branch [
+pub returns-else-is_covered-clause-factor : goal.returns-else-is_covered-clause-factor
+returns-else-is_covered-clause-factor c = elim c.else-is_covered.branch [
   | else-is_covered-via-then-is_covered+else-is_covered-2 w ↦
       rw (← c.self.view_is)
       (no_temperature c.args.mode _ c.args.density c.args.liquid

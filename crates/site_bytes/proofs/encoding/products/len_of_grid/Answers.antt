@@ -5,4 +5,4 @@ use Rattle.site_bytes.proofs.encoding.products.len_of_grid.Goals as goal
 
 pub returns-clause-len : goal.returns-clause-len
 returns-clause-len c =
-    omega (arith, length-grid c.args.vcf.now, ap length c.densities.ensures.value, ap length c.temperatures.ensures.value, ap length c.factors.ensures.value)
+    omega (arith, length-grid c.args.vcf.now, ap length c.densities.ensures.densities, ap length c.temperatures.ensures.temperatures, ap length c.factors.ensures.factors)

@@ -47,7 +47,7 @@ returns-clause-value c =
     c.held_between-above.ensures.value ∙ ap (λ (courses : List Course). held_between top c.args.height 0 courses) c.deref-3.ensures.value in
     let lifted : to_z w128 c.held_between-above.result ≡ pos c.held_between-above.result = omega (arith, ints, c.held_between-above.ensures.size) in
     let below = to_z-of_z w128 c.product-below.result (search rules) in
-    let num : c.sum.result ≡ c.product-below.result +ℤ pos c.held_between-above.result = cc (c.sum.ensures.value) in
+    let num : c.sum.result ≡ c.product-below.result +ℤ pos c.held_between-above.result = cc (c.sum.ensures.sum) in
     let P : StrappedTank → Type 0 = λ tank. to_z w128 (of_z w128 c.round.result) ≡ rounded_litres c.args.rounding.now STRAPPED_ROW (exact_volume tank c.args.height) in
     subst P c.self.view_is
     (of_the_shell c.args.rounding.now STRAPPED_ROW tank c.args.height top c.held_between-above.result c.whole_bottom.result c.product-below.result c.sum.result c.from.result (to_z w128 (of_z w128 c.round.result))

@@ -7,13 +7,13 @@ use Rattle.strap_table.specs.Capacity.{row_at, tenths_between}
 use Rattle.strap_table.proofs.Rows.{of_above, of_a_row, of_two_rows}
 use Rattle.strap_table.proofs.table.CapTable.at.Goals as goal
 
-pub returns-then-height-top-clause-value : goal.returns-then-height-top-clause-value
-returns-then-height-top-clause-value c =
+pub returns-then-height-top-clause-volume : goal.returns-then-height-top-clause-volume
+returns-then-height-top-clause-volume c =
     let height : c.unsigned_abs-height.result ≡ unsigned_abs c.args.level = search rules in
     of_above c.args.mode (unsigned_abs c.args.step) c.args.self.now c.args.level (omega (arith, c.if-height-top.true))
 
-pub returns-then-over-eq0-clause-value : goal.returns-then-over-eq0-clause-value
-returns-then-over-eq0-clause-value c =
+pub returns-then-over-eq0-clause-volume : goal.returns-then-over-eq0-clause-volume
+returns-then-over-eq0-clause-volume c =
     let height : c.unsigned_abs-height.result ≡ unsigned_abs c.args.level = search rules in
     let row = to_z-of_z w64 c.row.result (search rules) in
     let step = to_z-of_z w64 c.args.step c.ranges.step in
@@ -21,8 +21,8 @@ returns-then-over-eq0-clause-value c =
     cc (c.volume.ensures.value, c.row.ensures.value) in
     of_a_row c.args.mode (unsigned_abs c.args.step) c.args.self.now c.args.level c.volume.result (omega (arith, c.if-height-top.false)) (search rules) value
 
-pub returns-clause-value : goal.returns-clause-value
-returns-clause-value c =
+pub returns-clause-volume : goal.returns-clause-volume
+returns-clause-volume c =
     let height : c.unsigned_abs-height.result ≡ unsigned_abs c.args.level = search rules in
     let row = to_z-of_z w64 c.row-2.result (search rules) in
     let next = to_z-of_z w64 c.row-3.result (search rules) in

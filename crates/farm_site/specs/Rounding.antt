@@ -13,7 +13,7 @@ use Rattle.site_keys.specs.Faults.{bad, needed}
 use Rattle.site_keys.specs.Keys.{array_at, has}
 use Rattle.site_items.specs.declared.formats.Format.{Format}
 use Rattle.site_items.specs.declared.formats.Format.TheVariants.{One}
-use Rattle.farm_rounding.specs.declared.table.TheConstants.{ROWS}
+use Rattle.farm_rounding.specs.declared.table.TheConstants.{ROUNDING_ROWS}
 
 -- a step of the rounding table, as it is written
 abbrev pub step_of : List ℕ → Option ℕ
@@ -68,11 +68,11 @@ rows_after format done (value ∷ values) = do
 
 -- the twelve rows of values
 abbrev pub twelve_rows : Format → List Data → Result (List Row) SiteFault
-twelve_rows format values = if length values == ROWS then rows_after format [] values else bad FIELD 0 0
+twelve_rows format values = if length values == ROUNDING_ROWS then rows_after format [] values else bad FIELD 0 0
 
 -- the rounding table: twelve rows, or the usual ones where the list is missing
-unfoldable pub rounds_at : Format → Data → Result (List Row) SiteFault
-rounds_at format top =
+unfoldable pub rounding_at : Format → Data → Result (List Row) SiteFault
+rounding_at format top =
     if has top (codes "rounding") then (do
       values ← array_at 0 top (codes "rounding")
       twelve_rows format values) else Ok usual_rows

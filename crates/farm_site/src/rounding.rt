@@ -4,18 +4,18 @@ ghost use Rattle.std.specs.Prelude.{◌≡◌, ◌==◌, [], length, map, MatchR
 ghost use Rattle.std.specs.List.{after_first, before_first, position};
 ghost use Rattle.toml.specs.View.{view};
 ghost use Rattle.farm_rounding.specs.Table.{IsTable, is_row};
-ghost use Rattle.farm_site.specs.Rounds.{half_or_zero, mode_of, row_in, row_of_value, rounds_at, rows_after, step_of, twelve_rows};
+ghost use Rattle.farm_site.specs.Rounding.{half_or_zero, mode_of, row_in, row_of_value, rounding_at, rows_after, step_of, twelve_rows};
 
-use farm_rounding::{FACTOR_TIES, Mode, ROWS, RoundTable};
+use farm_rounding::{FACTOR_TIES, Mode, ROUNDING_ROWS, RoundTable};
 use site_items::Format;
 use site_keys::{FIELD, Keys, RANGE, SiteFault, bad};
 use toml::Value;
 
 /// How the site rounds: the twelve rows of a list, or the usual ones where the list is missing.
-#[tactic(auto, unfolding(crate::specs::Rounds::rounds_at))]
-pub fn rounds_at(format: Format, top: &Keys<'_>) -> Result<RoundTable, SiteFault>
+#[tactic(auto, unfolding(crate::specs::Rounding::rounding_at))]
+pub fn rounding_at(format: Format, top: &Keys<'_>) -> Result<RoundTable, SiteFault>
     requires { top.now.item ≡ 0 }
-    ensures rounds { result ≡ rounds_at format (view top.now.table.now) }
+    ensures rounding { result ≡ rounding_at format (view top.now.table.now) }
     ensures table { IfOk result IsTable }
 {
     if !top.has("rounding") {
@@ -26,13 +26,13 @@ pub fn rounds_at(format: Format, top: &Keys<'_>) -> Result<RoundTable, SiteFault
 
 // The rounding table of twelve values.
 fn twelve_rows(format: Format, values: &[Value]) -> Result<RoundTable, SiteFault>
-    ensures rounds { result ≡ twelve_rows format (map view values.now) }
+    ensures rounding { result ≡ twelve_rows format (map view values.now) }
     ensures table { IfOk result IsTable }
 {
-    if values.len() != ROWS {
+    if values.len() != ROUNDING_ROWS {
         return Err(bad(FIELD, 0));
     }
-    let mut rows = [(1, Mode::HalfAway); ROWS];
+    let mut rows = [(1, Mode::HalfAway); ROUNDING_ROWS];
     for (index, value) in values.iter().enumerate() {
         rows[index] = row_of_value(format, index as u8 + 1, value)?;
     }
@@ -40,7 +40,7 @@ fn twelve_rows(format: Format, values: &[Value]) -> Result<RoundTable, SiteFault
 }
 
 // Row `number` of the rounding table.
-#[tactic(auto, unfolding(crate::specs::Rounds::row_of_value))]
+#[tactic(auto, unfolding(crate::specs::Rounding::row_of_value))]
 fn row_of_value(format: Format, number: u8, value: &Value) -> Result<(u8, Mode), SiteFault>
     ensures row { result ≡ row_of_value format number (view value.now) }
     ensures allowed { IfOk result (λ row. IsTrue (is_row number row)) }
@@ -55,7 +55,7 @@ fn row_of_value(format: Format, number: u8, value: &Value) -> Result<(u8, Mode),
 }
 
 // Row `number`, written `STEP MODE`.
-#[tactic(auto, unfolding(crate::specs::Rounds::row_in))]
+#[tactic(auto, unfolding(crate::specs::Rounding::row_in))]
 fn row_in(format: Format, number: u8, text: &[u8]) -> Option<(u8, Mode)>
     ensures row { result ≡ row_in format number text.now }
     ensures allowed { IfSome result (λ row. IsTrue (is_row number row)) }

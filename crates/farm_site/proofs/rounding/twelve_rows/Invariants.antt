@@ -2,8 +2,8 @@
 use Rattle.std.proofs.Common.{◌≡◌, [], drop, take, map, length, None}
 use Rattle.toml.specs.View.{view}
 use Rattle.farm_rounding.specs.Table.{first_bad_row}
-use Rattle.farm_site.specs.Rounds.{rows_after}
-use Rattle.farm_site.proofs.rounds.twelve_rows.Given as goal
+use Rattle.farm_site.specs.Rounding.{rows_after}
+use Rattle.farm_site.proofs.rounding.twelve_rows.Given as goal
 
 abbrev pub invariant-loop-index : goal.invariant-loop-index
 invariant-loop-index l =

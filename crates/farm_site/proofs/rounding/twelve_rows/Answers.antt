@@ -2,9 +2,9 @@
 use Rattle.std.proofs.Common.{◌≡◌, ◌+◌, ◌<◌, length, Ok, ◌∙◌, arith}
 use Rattle.std.proofs.lemmas.List.{length-set}
 use Rattle.toml.specs.View.{view}
-use Rattle.farm_site.specs.Rounds.{row_of_value}
+use Rattle.farm_site.specs.Rounding.{row_of_value}
 use Rattle.farm_site.proofs.RoundingRows.{good_filled, rows_filled}
-use Rattle.farm_site.proofs.rounds.twelve_rows.Goals as goal
+use Rattle.farm_site.proofs.rounding.twelve_rows.Goals as goal
 
 pub loop-index-preserved : goal.loop-index-preserved
 loop-index-preserved c =
