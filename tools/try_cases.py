@@ -24,6 +24,9 @@ def make_folder(case, folder):
     else:
         os.makedirs(folder)
     for name, content in case.get("files", {}).items():
+        if isinstance(content, dict):
+            shutil.copyfile(os.path.join(DATA, content["file"]), os.path.join(folder, name))
+            continue
         with open(os.path.join(folder, name), "w") as file:
             file.write(content)
     for name, old, new in case.get("replace", []):
