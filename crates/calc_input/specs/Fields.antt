@@ -1,8 +1,8 @@
 -- The words of an input line as what they stand for.
-use Rattle.std.specs.Prelude.{ℕ, ◌&&◌, Bool, true, false, if◌then◌else◌, List, [], length, Option, Some, None, codes, nat_le, nat_lt, slice_index_or, ℤ, pos, negsuc}
+use Rattle.std.specs.Prelude.{ℕ, ◌&&◌, if◌then◌else◌, List, [], length, Option, Some, None, nat_le, nat_lt, slice_index_or, ℤ, pos}
 use Rattle.std.specs.Int.RustNames.{unsigned_abs}
 use Rattle.std.specs.Result.{result_ok}
-use Rattle.std.specs.Str.{bytes_eq, all_ascii_digits}
+use Rattle.std.specs.Str.{all_ascii_digits}
 use Rattle.std.specs.Str.Parse.{digits_value}
 use Rattle.farm_base.specs.Options.{◌>>=◌}
 use Rattle.farm_fixed.specs.Range.{is_within}

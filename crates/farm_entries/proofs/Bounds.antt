@@ -10,6 +10,7 @@ use Rattle.farm_stock.proofs.Amounts.{magnitude_of_sum}
 use Rattle.farm_history.specs.Conservation.{IsBoundedBook, most_held}
 use Rattle.farm_history.specs.Postings.{less, opposite}
 use Rattle.farm_history.proofs.PostingSums.{nothing}
+use Rattle.site_items.specs.declared.tanks.TheConstants.{MOST_TANKS}
 use Rattle.farm_entries.specs.Bounds.{HoldAtMost, IsAtMost, most_posted}
 
 -- an amount is within a greater bound too
@@ -43,7 +44,7 @@ held_at_most entries book bounded = record { litres = bounded.litres; kg = bound
 pub bounded_at : (entries : ℕ) (book : Amount) → IsAtMost (most_held entries) book → IsBoundedBook entries book
 bounded_at entries book small = record { litres = small.litres; kg = small.kg }
 
--- the magnitudes of books that each hold at most this much add up to at most as many times that
+-- where each book holds at most `most_posted`, the magnitudes add up to at most that times the number of books
 magnitudes_within : (unit : Amount → ℤ) (books : List Book) → All (λ book. unsigned_abs (unit book.amount) ≤ most_posted) books →
     magnitudes unit books ≤ most_posted * length books
 magnitudes_within unit [] each = omega arith
@@ -53,7 +54,7 @@ magnitudes_within unit (book ∷ books) each =
     omega (arith, first, rest)
 
 -- of as many books as a site may have tanks, the sums fit
-pub sums_fit : (books : List Book) → length books ≤ 64 → HoldAtMost most_posted books → AddUpTo (10 ^ 18) books
+pub sums_fit : (books : List Book) → length books ≤ MOST_TANKS → HoldAtMost most_posted books → AddUpTo (10 ^ 18) books
 sums_fit books few held =
     let litres = magnitudes_within (λ amount. amount.litres) books (λ index default below. (held index default below).litres) in
     let kg = magnitudes_within (λ amount. amount.kg) books (λ index default below. (held index default below).kg) in

@@ -1,5 +1,5 @@
 -- A transfer is of two tanks.
-use Rattle.std.proofs.Common.{◌≡◌, ◌≢◌, ℕ, ◌==◌, Bool, true, false, Option, Some, None, option_and_then, option_map, refl, sym, ◌∙◌, subst, arith}
+use Rattle.std.proofs.Common.{◌≡◌, ◌≢◌, ℕ, ◌==◌, false, Option, Some, None, option_and_then, option_map, refl, sym, ◌∙◌, subst, arith}
 use Rattle.std.specs.Prelude.{IfSome}
 use Rattle.std.proofs.lemmas.Bool.Decides.{nat_tests}
 use Rattle.farm_fixed.specs.declared.records.Quantities.{Quantities}
@@ -18,6 +18,7 @@ use Rattle.farm_history.specs.History.{History, entry_at}
 use Rattle.farm_history.specs.MovementRules.{broken_where, gives_one_tank, same_tank}
 use Rattle.farm_history.specs.Movements.{opened_at}
 use Rattle.farm_history.specs.Tickets.{leg_at, movement_of}
+use Rattle.farm_history.proofs.Accepted.{test_fails}
 use Rattle.farm_entries.specs.Pasts.{IsInRange, IsReadable}
 use Rattle.farm_entries.proofs.EntriesAt.{entry_in_range}
 
@@ -25,18 +26,13 @@ use Rattle.farm_entries.proofs.EntriesAt.{entry_in_range}
 abbrev pub IsOfTwoTanks : OpenMove → Type 0
 IsOfTwoTanks movement = IfSome movement.second (λ leg. movement.first.tank ≢ leg.tank)
 
--- a rule that isn't broken by a test doesn't have it pass
-test_fails : (test : Bool) → broken_where test SameTank ≡ None → test ≡ false
-test_fails true none = cc
-test_fails false none = refl
-
 -- a plan of a command that doesn't give one tank twice
 command_apart : (found : Option Plan) (plan : Plan) → found ≡ Some plan →
     option_and_then (λ plan. broken_where (gives_one_tank plan) SameTank) found ≡ None → gives_one_tank plan ≡ false
 command_apart None plan is none = cc
 command_apart (Some other) plan is none =
     let same : other ≡ plan = cc in
-    subst (λ (p : Plan). gives_one_tank p ≡ false) same (test_fails (gives_one_tank other) none)
+    subst (λ (p : Plan). gives_one_tank p ≡ false) same (test_fails (gives_one_tank other) SameTank none)
 
 -- so it is of each entry in range
 entry_apart : (entry : Entry) (plan : Plan) → IsInRange entry → plan_of entry.cmd ≡ Some plan → gives_one_tank plan ≡ false

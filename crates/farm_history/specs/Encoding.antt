@@ -6,6 +6,7 @@ use Rattle.farm_history.specs.declared.few.Few.{Few}
 use Rattle.farm_history.specs.declared.command.Command.{Command}
 use Rattle.farm_history.specs.declared.command.Command.TheVariants.{Gauge, Dip, Sample, Opening, Closing, Cancel, Reverse, Settle, Stop}
 use Rattle.farm_history.specs.declared.entry.Entry.{Entry}
+use Rattle.farm_history.specs.declared.limits.TheConstants.{LONGEST_LIST}
 use Rattle.farm_history.specs.declared.plan.Gauged.{Gauged}
 use Rattle.farm_history.specs.declared.plan.Plan.{Plan}
 use Rattle.farm_history.specs.declared.plan.Plan.TheVariants.{Outside, Transfer}
@@ -66,9 +67,9 @@ unfoldable pub entry_encoding : Entry → List ℕ
 entry_encoding entry =
     to_be_bytes w32 entry.caller ++ to_be_bytes w32 entry.account ++ to_be_bytes w64 entry.key ++ signed_bytes entry.at ++ command_bytes entry.cmd
 
--- a list is one of its type: eight numbers of 64 bits
+-- a list is one of its type: as many numbers of 64 bits as the longest has
 abbrev pub IsTypedList : Few → Type 0
-IsTypedList few = (length few.values ≡ 8) × All (FitsSigned w64) few.values
+IsTypedList few = (length few.values ≡ LONGEST_LIST) × All (FitsSigned w64) few.values
 
 -- each number of what is named is one of its type
 abbrev pub IsTypedGauged : Gauged → Type 0

@@ -1,5 +1,5 @@
 -- The numbered fields of a command, and the first that is out of range.
-use Rattle.std.specs.Prelude.{◌≢◌, ℕ, ◌&&◌, ◌||◌, ◌==◌, not, Bool, true, false, All, IsTrue, List, [], ◌∷◌, length, Option, ℤ, pos, negsuc}
+use Rattle.std.specs.Prelude.{◌≢◌, ℕ, ◌&&◌, ◌||◌, ◌==◌, not, Bool, true, false, All, IsTrue, List, [], ◌∷◌, length, Option, ℤ, pos}
 use Rattle.std.specs.List.{list_all}
 use Rattle.farm_fixed.specs.Range.{IsWithin, is_within}
 use Rattle.farm_fixed.specs.declared.limits.TheConstants.{LEAST_DENSITY, LEAST_TEMPERATURE, MOST_DENSITY, MOST_HEIGHT, MOST_SHARE, MOST_TEMPERATURE}

@@ -1,6 +1,6 @@
 -- The rules that a further command may break after a history, each as what it says by itself, and the first of them in the order of
 -- the table. Those on movements and tickets stand in MovementRules.
-use Rattle.std.specs.Prelude.{ℕ, ◌+◌, ◌-◌, ◌*◌, ◌==◌, ◌&&◌, ◌||◌, not, nat_le, Bool, true, false, if◌then◌else◌, List, length, Option, Some, None, option_and_then, option_map, Result, Ok, Err, ℤ, pos}
+use Rattle.std.specs.Prelude.{ℕ, ◌+◌, ◌-◌, ◌==◌, ◌&&◌, ◌||◌, not, nat_le, Bool, true, false, if◌then◌else◌, List, Option, Some, None, option_and_then, option_map, Result, Ok, Err, ℤ, pos}
 use Rattle.std.specs.Int.RustNames.{int_lt}
 use Rattle.std.specs.List.{list_any}
 use Rattle.farm_base.specs.Steps.{or_else}

@@ -1,4 +1,4 @@
--- Places in a list of books.
+-- Indexes in a list of books.
 use Rattle.std.proofs.Common.{◌≡◌, ◌≢◌, ◌<◌, ◌≤◌, ℕ, ℤ, true, false, List, [], ◌∷◌, get_or, set, length, Some, None, ◌==◌, zero, suc, refl, ap, sym, ◌∙◌, ◌+ℤ◌, ◌^◌, FitsSigned, arith}
 use Rattle.std.proofs.lemmas.Bool.Decides.{nat_tests}
 use Rattle.std.proofs.lemmas.Int.{ints}

@@ -1,4 +1,4 @@
--- Places in a list of books, from 0.
+-- Indexes in a list of books, from 0.
 use Rattle.std.specs.Prelude.{◌≡◌, ◌≢◌, ℕ, ◌<◌, List, length, slice_index_or}
 use Rattle.farm_stock.specs.declared.book.Book.{Book}
 

@@ -1,5 +1,5 @@
 -- The tanks and the gauge lines of a site are in the ranges that their bytes have.
-use Rattle.std.proofs.Common.{◌≡◌, ℕ, true, not, List, length, Option, Some, None, pos, negsuc, int_lt, get_or, arith, ◌≤◌}
+use Rattle.std.proofs.Common.{◌≡◌, ℕ, true, not, List, length, Option, Some, None, pos, int_lt, get_or, arith, ◌≤◌}
 use Rattle.std.specs.Prelude.{All, IfSome, nat_le}
 use Rattle.std.proofs.lemmas.Bool.{and_parts}
 use Rattle.std.proofs.lemmas.Bool.Decides.{nat_tests}
@@ -15,7 +15,7 @@ use Rattle.site_items.specs.declared.records.Tank.{Tank}
 use Rattle.site_items.specs.Facts.{are_tanks}
 use Rattle.site_items.specs.Shells.{is_roof}
 use Rattle.site_items.specs.Tanks.{is_tank}
-use Rattle.modbus_poll.specs.declared.limits.TheConstants.{MOST_GAUGES}
+use Rattle.modbus_poll.specs.declared.limits.TheConstants.{LONGEST_HOST, MOST_GAUGES}
 use Rattle.site_lines.specs.Lines.{are_lines}
 use Rattle.site_bytes.specs.Sizes.{IsGaugeInRange, IsLineInRange, IsRoofWithMass, IsTankInRange}
 
@@ -67,7 +67,7 @@ line_in_range line is =
     let host = (and_parts _ _ to_port).0 in
     let each = AllPass-from_list_all is_gauge_map line.gauges gauges in
     record {
-      host = at_most 1 64 (length line.host) (and_parts _ _ host).0;
+      host = at_most 1 LONGEST_HOST (length line.host) (and_parts _ _ host).0;
       few = at_most 1 MOST_GAUGES (length line.gauges) count;
       gauges = λ k d below. gauge_in_range (get_or line.gauges k d) (each k d below);
     }

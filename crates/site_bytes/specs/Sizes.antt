@@ -1,5 +1,5 @@
 -- How large the items of a site are: what keeps their counts and numbers within their bytes, and the most bytes that each may have.
-use Rattle.std.specs.Prelude.{ℕ, ◌+◌, ◌*◌, ◌≤◌, All, IfSome, length, pos, negsuc}
+use Rattle.std.specs.Prelude.{ℕ, ◌+◌, ◌*◌, ◌≤◌, All, IfSome, length, pos}
 use Rattle.farm_fixed.specs.Range.{IsWithin}
 use Rattle.farm_fixed.specs.declared.limits.TheConstants.{LEAST_TEMPERATURE, MOST_COEFFICIENT, MOST_ROOF_MASS, MOST_TEMPERATURE}
 use Rattle.farm_vcf.specs.declared.grid.TheConstants.{MOST_FACTORS}
@@ -9,7 +9,7 @@ use Rattle.site_items.specs.declared.names.TheConstants.{LONGEST_NAME}
 use Rattle.site_items.specs.declared.records.Party.{Party}
 use Rattle.site_items.specs.declared.records.Product.{Product}
 use Rattle.site_items.specs.declared.records.Tank.{Tank}
-use Rattle.modbus_poll.specs.declared.limits.TheConstants.{MOST_GAUGES}
+use Rattle.modbus_poll.specs.declared.limits.TheConstants.{LONGEST_HOST, MOST_GAUGES}
 use Rattle.strap_table.specs.declared.faults.TheConstants.{MOST_ROWS}
 use Rattle.strap_table.specs.declared.tank.Roof.{Roof}
 
@@ -36,7 +36,7 @@ IsGaugeInRange gauge = IsWithin LEAST_TEMPERATURE MOST_TEMPERATURE gauge.ambient
 
 -- a line has a host of at most 64 bytes and at most 16 gauges
 pub record IsLineInRange (line : LineMap) : Type 0 where
-  pub host : length line.host ≤ 64
+  pub host : length line.host ≤ LONGEST_HOST
   pub few : length line.gauges ≤ MOST_GAUGES
   pub gauges : All IsGaugeInRange line.gauges
 

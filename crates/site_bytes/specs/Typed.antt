@@ -1,6 +1,6 @@
 -- Items whose numbers are all of their types, as those of every item in the program are. What an item keeps beyond its type is in
 -- the facts of a site's items.
-use Rattle.std.specs.Prelude.{◌<◌, ◌^◌, All, IfSome, pos, negsuc}
+use Rattle.std.specs.Prelude.{◌<◌, ◌^◌, All, IfSome, pos}
 use Rattle.farm_fixed.specs.Range.{IsWithin}
 use Rattle.farm_fixed.specs.declared.limits.TheConstants.{LEAST_DENSITY, LEAST_FACTOR, LEAST_TEMPERATURE, MOST_DENSITY, MOST_FACTOR, MOST_HEIGHT, MOST_TEMPERATURE}
 use Rattle.farm_vcf.specs.Grid.{Grid, IsGrid}

@@ -1,5 +1,6 @@
 -- The readers of names, of rounding tables and of the head of a site.
 use Rattle.std.proofs.Common.{◌≡◌, ℕ, ◌-◌, ◌^◌, ◌<◌, ◌≤◌, ◌==◌, Bool, true, false, List, [], ◌∷◌, ◌++◌, length, get_or, Option, Some, None, ◌+◌, refl, sym, ap, subst, arith}
+use Rattle.std.specs.Prelude.{is_none}
 use Rattle.std.specs.Prelude.{All, IsTrue}
 use Rattle.std.specs.List.{flat_map, list_all}
 use Rattle.std.proofs.lemmas.Bool.{eqb-true}
@@ -10,11 +11,11 @@ use Rattle.farm_fixed.specs.Range.{is_between}
 use Rattle.farm_rounding.specs.declared.mode.Mode.{Mode}
 use Rattle.farm_rounding.specs.declared.mode.Mode.TheVariants.{HalfAway, TowardZero}
 use Rattle.farm_rounding.specs.Multiple.{is_step}
-use Rattle.farm_rounding.specs.Table.{IsTable, Row, first_bad_row, row_at}
+use Rattle.farm_rounding.specs.Table.{IsTable, Row, first_bad_row, row_at as row_of_table}
 use Rattle.farm_rounding.proofs.Rows.{first_bad_of, table_from_rows}
 use Rattle.site_items.specs.Names.{is_name}
 use Rattle.site_decoding.specs.ByteReaders.{made_at, flag_at}
-use Rattle.site_decoding.specs.Decoding.{are_good, head_at, mode_of, name_at, round_at, rounding_at}
+use Rattle.site_decoding.specs.Decoding.{head_at, mode_of, name_at, row_at, rounding_at}
 use Rattle.site_bytes.specs.Encoding.{flag_byte, mode_byte, row_bytes, text_bytes}
 use Rattle.site_decoding.specs.Parts.{IsHead, head_bytes}
 use Rattle.site_decoding.specs.Readers.{IsReader}
@@ -67,24 +68,24 @@ abbrev IsByteRow : Row → Type 0
 IsByteRow row = (row.0 < 2 ^ 8) × Unit {0}
 
 -- rows of a rounding table
-round_reader : IsReader IsByteRow row_bytes round_at
-unfolding round_at
-round_reader = then_reader byte_reader (λ step h. mode_reader)
+row_reader : IsReader IsByteRow row_bytes row_at
+unfolding row_at
+row_reader = then_reader byte_reader (λ step h. mode_reader)
 
 -- no row is bad
-none_bad : (bad : Option ℕ) → are_good bad ≡ true → bad ≡ None
+none_bad : (bad : Option ℕ) → is_none bad ≡ true → bad ≡ None
 none_bad None test = refl
 none_bad (Some n) test = cc
 
 -- rows without a bad one test so
-rows_good : (rows : List Row) → IsTable rows → are_good (first_bad_row 1 rows) ≡ true
+rows_good : (rows : List Row) → IsTable rows → is_none (first_bad_row 1 rows) ≡ true
 rows_good rows table = by (first_bad_row 1 rows) refl
   where
-    by : (bad : Option ℕ) → first_bad_row 1 rows ≡ bad → are_good (first_bad_row 1 rows) ≡ true
+    by : (bad : Option ℕ) → first_bad_row 1 rows ≡ bad → is_none (first_bad_row 1 rows) ≡ true
     by None e = rw e refl
     by (Some n) e =
         let first = first_bad_of rows n e in
-        let P : ℕ → Type 0 = λ number. (row_at rows number).0 ≡ 1 in
+        let P : ℕ → Type 0 = λ number. (row_of_table rows number).0 ≡ 1 in
         absurd (first.bad (record { step = table.steps n; ties = λ here. subst P (sym here) table.ties }))
 
 -- a step is of one byte
@@ -103,7 +104,7 @@ steps_small rows table k row within =
 rounding_reader : IsReader IsTable (flat_map row_bytes) rounding_at
 unfolding rounding_at
 rounding_reader =
-    reader_as (tested_reader (λ rows. are_good (first_bad_row 1 rows)) (counted_reader round_reader 12))
+    reader_as (tested_reader (λ rows. is_none (first_bad_row 1 rows)) (counted_reader row_reader 12))
     (λ rows h. table_from_rows rows h.0.0 (none_bad (first_bad_row 1 rows) h.1))
     (λ rows h. ((h.twelve, steps_small rows h), rows_good rows h))
 

@@ -1,5 +1,5 @@
 -- The readers of products and of parties.
-use Rattle.std.proofs.Common.{◌≡◌, ℕ, zero, suc, ◌*◌, ◌^◌, ◌<◌, ◌≤◌, nat_le, Bool, true, List, ◌++◌, length, get_or, refl, ℤ, pos, negsuc, mul-zero, arith}
+use Rattle.std.proofs.Common.{◌≡◌, ℕ, zero, suc, ◌*◌, ◌^◌, ◌<◌, ◌≤◌, nat_le, Bool, true, List, ◌++◌, length, get_or, refl, ℤ, mul-zero, arith}
 use Rattle.std.specs.Prelude.{All, map}
 use Rattle.std.specs.Int.{w16, w32, to_be_bytes}
 use Rattle.std.specs.List.{flat_map, list_all}

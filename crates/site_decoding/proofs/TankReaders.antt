@@ -1,5 +1,6 @@
 -- The reader of tanks.
 use Rattle.std.proofs.Common.{◌≡◌, ℕ, ◌^◌, ◌<◌, ◌&&◌, ◌==◌, nat_le, Bool, true, false, List, [], ◌∷◌, ◌++◌, length, get_or, map, Option, Some, None, refl, subst, append_assoc, ℤ, pos, negsuc, arith}
+use Rattle.std.specs.Prelude.{is_none}
 use Rattle.std.specs.Prelude.{IfSome, IsTrue}
 use Rattle.std.specs.Int.{w16, w32, w64, to_be_bytes}
 use Rattle.std.specs.Int.RustNames.{FitsSigned}
@@ -29,7 +30,7 @@ use Rattle.strap_table.specs.Capacity.{IsCapTable}
 use Rattle.strap_table.specs.Faults.{first_fault}
 use Rattle.strap_table.proofs.FirstFault.{fault_is, no_fault}
 use Rattle.strap_table.proofs.Rows.{table_from_rows}
-use Rattle.site_decoding.specs.Decoding.{amount_at, have_none, roof_at, shell_at, spec_at, table_at, tank_at, tanks_at}
+use Rattle.site_decoding.specs.Decoding.{amount_at, roof_at, shell_at, spec_at, table_at, tank_at, tanks_at}
 use Rattle.site_bytes.specs.Encoding.{amount_bytes, flag_byte, list_bytes, natural_bytes, option_bytes, roof_bytes, shell_bytes, short_list_bytes, signed_bytes, tank_bytes}
 use Rattle.site_decoding.specs.Parts.{AreTanks}
 use Rattle.site_decoding.specs.Readers.{IsReader}
@@ -111,15 +112,15 @@ spec_reader =
 -- Capacity tables and opening stocks.
 
 -- rows without a fault
-fault_none : (fault : Option TableFault) → have_none fault ≡ true → fault ≡ None
+fault_none : (fault : Option TableFault) → is_none fault ≡ true → fault ≡ None
 fault_none None test = refl
 fault_none (Some fault) test = cc
 
 -- the rows of a table test as having none
-rows_sound : (rows : List ℤ) → IsCapTable rows → have_none (first_fault rows) ≡ true
+rows_sound : (rows : List ℤ) → IsCapTable rows → is_none (first_fault rows) ≡ true
 rows_sound rows table = by (first_fault rows) refl
   where
-    by : (fault : Option TableFault) → first_fault rows ≡ fault → have_none (first_fault rows) ≡ true
+    by : (fault : Option TableFault) → first_fault rows ≡ fault → is_none (first_fault rows) ≡ true
     by None e = rw e refl
     by (Some fault) e = absurd (no_fault rows fault table (fault_is rows fault e))
 
@@ -132,7 +133,7 @@ rows_fit rows table =
 table_reader : IsReader IsCapTable (list_bytes w16 (natural_bytes w32)) table_at
 unfolding table_at
 table_reader =
-    reader_as (tested_reader (λ rows. have_none (first_fault rows)) (list_reader w16 (2 ^ 16) wide16 (natural_reader w32 (2 ^ 32) wide32)))
+    reader_as (tested_reader (λ rows. is_none (first_fault rows)) (list_reader w16 (2 ^ 16) wide16 (natural_reader w32 (2 ^ 32) wide32)))
     (λ rows h. table_from_rows rows (fault_none (first_fault rows) h.1))
     (λ rows h. (rows_fit rows h, rows_sound rows h))
 

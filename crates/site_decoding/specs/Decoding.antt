@@ -1,6 +1,6 @@
 -- Reading the items of a site from left to right. A reader gives an item and the bytes after it, and `BadSite` where bytes begin with
 -- no such item.
-use Rattle.std.specs.Prelude.{ℕ, ◌*◌, ◌==◌, ◌&&◌, ◌||◌, Bool, true, false, nat_le, List, [], ◌∷◌, length, map, Option, Some, None, ℤ, pos, negsuc}
+use Rattle.std.specs.Prelude.{ℕ, ◌*◌, ◌==◌, ◌&&◌, ◌||◌, Bool, true, false, nat_le, List, [], ◌∷◌, length, map, Option, is_none, ℤ, pos}
 use Rattle.std.specs.Int.{w16, w32, w64}
 use Rattle.std.specs.Int.RustNames.{int_lt}
 use Rattle.farm_fixed.specs.Range.{is_within}
@@ -24,7 +24,6 @@ use Rattle.site_items.specs.Names.{is_name}
 use Rattle.site_items.specs.Products.{product_number}
 use Rattle.site_items.specs.Tanks.{tank_number}
 use Rattle.site_lines.specs.Lines.{are_lines}
-use Rattle.strap_table.specs.declared.faults.TableFault.{TableFault}
 use Rattle.strap_table.specs.declared.tank.Roof.{Roof}
 use Rattle.strap_table.specs.declared.tank.TankSpec.{TankSpec}
 use Rattle.strap_table.specs.Faults.{first_fault}
@@ -45,17 +44,12 @@ mode_of false = HalfAway
 mode_of true = TowardZero
 
 -- a row of the rounding table
-unfoldable pub round_at : Reader Row
-round_at = byte_at ▸ made_at mode_of flag_at
-
--- none of the rows is a bad one
-abbrev pub are_good : Option ℕ → Bool
-are_good None = true
-are_good (Some bad) = false
+unfoldable pub row_at : Reader Row
+row_at = byte_at ▸ made_at mode_of flag_at
 
 -- the rounding table
 unfoldable pub rounding_at : Reader (List Row)
-rounding_at = tested_at (λ rows. are_good (first_bad_row 1 rows)) (counted_at round_at ROUNDING_ROWS)
+rounding_at = tested_at (λ rows. is_none (first_bad_row 1 rows)) (counted_at row_at ROUNDING_ROWS)
 
 -- the head of a site: its format, its name and its rounding table
 unfoldable pub head_at : Reader (List ℕ × List Row)
@@ -130,14 +124,9 @@ roof_at = made_at (λ f. record { mass = f.0; low = f.1.0; high = f.1.1 }) (natu
 unfoldable pub spec_at : Reader TankSpec
 spec_at = made_at (λ f. record { shell = f.0; height = f.1.0; roof = f.1.1 }) (shell_at ▸ height_at ▸ option_at roof_at)
 
--- rows have no fault of a capacity table
-abbrev pub have_none : Option TableFault → Bool
-have_none None = true
-have_none (Some fault) = false
-
 -- a capacity table
 unfoldable pub table_at : Reader (List ℤ)
-table_at = tested_at (λ rows. have_none (first_fault rows)) (list_at w16 (natural_at w32))
+table_at = tested_at (λ rows. is_none (first_fault rows)) (list_at w16 (natural_at w32))
 
 -- an opening stock
 unfoldable pub amount_at : Reader Amount

@@ -4,12 +4,11 @@ ghost use Rattle.std.specs.Prelude.{◌≡◌, map, IfErr, IfOk, IsTrue, OnOk, �
 ghost use Rattle.std.specs.List.{list_all};
 ghost use Rattle.farm_fixed.specs.Range.{is_within, is_between};
 ghost use Rattle.site_items.specs.Facts.{are_parties, are_products, are_tanks};
-ghost use Rattle.site_items.specs.Names.{is_name};
 ghost use Rattle.site_items.specs.Parties.{is_party};
 ghost use Rattle.site_items.specs.Products.{is_product, product_number};
 ghost use Rattle.site_items.specs.Shells.{is_roof, is_spec};
 ghost use Rattle.site_items.specs.Tanks.{is_opening, is_tank, tank_number};
-ghost use Rattle.site_keys.specs.Lists.{is_among, rises, rises_from};
+ghost use Rattle.site_keys.specs.Lists.{rises, rises_from};
 ghost use Rattle.site_keys.specs.declared.lists.TheConstants.{GREATEST_NUMBER};
 ghost use Rattle.site_lines.specs.Lines.{are_lines};
 
@@ -20,9 +19,9 @@ use farm_fixed::{Amount, MOST_COEFFICIENT, MOST_HEIGHT, MOST_ROOF_MASS};
 use gauged::{all_gauged, are_gauged, are_sound_lines};
 use modbus_poll::LineMap;
 use site_items::{
-    LONGEST_NAME, MOST_PARTIES, MOST_PRODUCTS, MOST_STOCK, MOST_TANKS, Name, Party, Product, Tank,
+    MOST_PARTIES, MOST_PRODUCTS, MOST_STOCK, MOST_TANKS, Party, Product, Tank, is_name,
 };
-use site_keys::{Numbered, is_text, item_numbered};
+use site_keys::{Numbered, is_among};
 use site_lines::MOST_LINES;
 use std::alloc::Global;
 use strap_table::{Roof, TankSpec};
@@ -64,13 +63,6 @@ pub fn are_lines(alloc: Global, tanks: &[Tank], lines: &[LineMap]) -> Result<boo
     }
     let gauged = all_gauged(alloc, lines)?;
     Ok(are_gauged(tanks, &gauged))
-}
-
-/// Whether this may be the name of a site, of a product or of a party.
-pub fn is_name(name: &Name) -> bool
-    ensures { result ≡ is_name name.now }
-{
-    is_text(name.get(), LONGEST_NAME, b' ', b'~')
 }
 
 // Whether the numbers of items rise.
@@ -115,7 +107,7 @@ fn are_sound_products(products: &[Product]) -> bool
 fn is_product(product: &Product) -> bool
     ensures { result ≡ is_product product.now }
 {
-    is_number(product.number) && is_name(&product.name)
+    is_number(product.number) && is_name(product.name.get())
 }
 
 // Whether each party is sound.
@@ -129,7 +121,7 @@ fn are_sound_parties(parties: &[Party]) -> bool
 fn is_party(party: &Party) -> bool
     ensures { result ≡ is_party party.now }
 {
-    is_number(party.number) && is_name(&party.name)
+    is_number(party.number) && is_name(party.name.get())
 }
 
 // Whether each tank is sound, and of one of these products.
@@ -144,16 +136,9 @@ fn is_tank(products: &[Product], tank: &Tank) -> bool
     ensures { result ≡ is_tank (map product_number products.now) tank.now }
 {
     is_number(tank.number)
-        && is_known(tank.product, products)
+        && is_among(tank.product, products)
         && is_spec(&tank.spec)
         && is_opening(tank.opening)
-}
-
-// Whether an item has this number.
-fn is_known<T: Numbered>(number: u16, items: &[T]) -> bool
-    ensures { result ≡ is_among number (map T.numbered items.now) }
-{
-    item_numbered(number, items).is_some()
 }
 
 // Whether what is fixed of a tank is in its ranges.

@@ -1,5 +1,5 @@
 -- What is fixed of a tank: its shell, its reference height and its roof.
-use Rattle.std.specs.Prelude.{ℕ, ◌&&◌, ◌||◌, Bool, true, not, if◌then◌else◌, List, codes, Option, Some, None, Result, Ok, pos, negsuc}
+use Rattle.std.specs.Prelude.{ℕ, ◌&&◌, ◌||◌, Bool, true, not, if◌then◌else◌, List, codes, Option, Some, None, Result, Ok, pos}
 use Rattle.std.specs.Int.RustNames.{int_lt}
 use Rattle.toml.specs.Data.{Data}
 use Rattle.farm_base.specs.Steps.{◌>>=◌}

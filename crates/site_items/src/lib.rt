@@ -13,7 +13,7 @@ mod shells;
 mod tanks;
 
 pub use formats::{Format, format_at};
-pub use names::{LONGEST_NAME, Name, name_at};
+pub use names::{LONGEST_NAME, Name, is_name, name_at};
 pub use parties::{MOST_PARTIES, parties_of};
 pub use products::{MOST_PRODUCTS, products_of};
 pub use records::{Party, Product, Tank};

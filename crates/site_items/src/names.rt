@@ -25,8 +25,15 @@ pub fn name_at(alloc: Global, keys: &Keys<'_>) -> Result<Name, SiteReadFault>
     ensures not_the_folders { IfErr result IsNotTheFolders }
 {
     let text = keys.text("name")?;
-    if !is_text(text.as_bytes(), LONGEST_NAME, b' ', b'~') {
+    if !is_name(text.as_bytes()) {
         return Err(bad(RANGE, keys.item).into());
     }
     Ok(Name::new(text.as_bytes().to_vec(alloc)?))
+}
+
+/// Whether a text is a name: 1 to 32 printable bytes.
+pub fn is_name(text: &[u8]) -> bool
+    ensures is_name { result ≡ is_name text.now }
+{
+    is_text(text, LONGEST_NAME, b' ', b'~')
 }

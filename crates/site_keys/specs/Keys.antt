@@ -1,5 +1,5 @@
 -- The values of a table of TOML, each by its key. A fault names the item that the table is.
-use Rattle.std.specs.Prelude.{ℕ, Bool, true, false, List, [], ◌∷◌, Option, Some, None, Result, Ok, Err, ℤ, pos, if◌then◌else◌, option_and_then}
+use Rattle.std.specs.Prelude.{ℕ, Bool, List, [], ◌∷◌, is_some, Result, Ok, Err, ℤ, pos, if◌then◌else◌, option_and_then}
 use Rattle.std.specs.Int.RustNames.{unsigned_abs}
 use Rattle.toml.specs.Data.{Data, Items, get, as_array, as_integer, as_str}
 use Rattle.farm_base.specs.Steps.{◌>>=◌}
@@ -10,11 +10,6 @@ use Rattle.farm_fixed.specs.Parsing.{quantity_of}
 use Rattle.site_keys.specs.declared.fault.SiteFault.{SiteFault}
 use Rattle.site_keys.specs.declared.codes.TheConstants.{FIELD, RANGE}
 use Rattle.site_keys.specs.Faults.{bad, needed, ranged}
-
--- there is something
-abbrev pub is_some : {A : Type 0} → Option A → Bool
-is_some None = false
-is_some (Some value) = true
 
 -- the table has the key
 abbrev pub has : Data → List ℕ → Bool

@@ -16,6 +16,7 @@ pub use fault::{SiteFault, SiteReadFault, bad, bad_at};
 pub use files::{content, toml_of};
 pub use keys::Keys;
 pub use lists::{
-    GREATEST_NUMBER, Numbered, item_numbered, list_at, own_number, put_by_number, reference,
+    GREATEST_NUMBER, Numbered, is_among, item_numbered, list_at, own_number, put_by_number,
+    reference,
 };
 pub use texts::is_text;

@@ -43,8 +43,8 @@ pub fn list_at<'a>(
     Ok(values)
 }
 
-// Whether an item has this number.
-fn is_among<T: Numbered>(number: u16, items: &[T]) -> bool
+/// Whether an item has this number.
+pub fn is_among<T: Numbered>(number: u16, items: &[T]) -> bool
     ensures among { result ≡ is_among number (map T.numbered items.now) }
 {
     for item in items {

@@ -14,7 +14,7 @@ use Rattle.site_keys.specs.Faults.{bad, ranged}
 use Rattle.site_keys.specs.Keys.{has, natural_at, natural_or, whole_at}
 use Rattle.site_keys.specs.Lists.{is_among, reference_at}
 use Rattle.site_lines.specs.declared.gauges.Request.{Request}
-use Rattle.site_lines.specs.declared.gauges.TheConstants.{USUAL_AMBIENT, USUAL_LEVELS, USUAL_TEMPERATURE}
+use Rattle.site_lines.specs.declared.gauges.TheConstants.{USUAL_AMBIENT, USUAL_DEADBAND_MM, USUAL_DEADBAND_CENTI}
 use Rattle.site_lines.specs.Fields.{field_at, field_or_none, valid_or_none}
 
 -- the ambient temperature where a gauge gives none: 15.00 C where it isn't said
@@ -53,8 +53,8 @@ is_request request =
 -- the deadbands of the levels and of the temperature, in mm and 0.01 C: 1 mm and 0.05 C where they aren't said
 unfoldable pub deadbands_at : ℕ → Data → Result (ℕ × ℕ) SiteFault
 deadbands_at item keys = do
-  levels ← natural_or USUAL_LEVELS item keys (codes "deadband_mm") 1 MOST_DEADBAND
-  temperature ← natural_or USUAL_TEMPERATURE item keys (codes "deadband_centi") 1 MOST_DEADBAND
+  levels ← natural_or USUAL_DEADBAND_MM item keys (codes "deadband_mm") 1 MOST_DEADBAND
+  temperature ← natural_or USUAL_DEADBAND_CENTI item keys (codes "deadband_centi") 1 MOST_DEADBAND
   Ok (levels, temperature)
 
 -- a gauge of a table, after gauges on these tanks

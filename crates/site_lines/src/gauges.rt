@@ -25,10 +25,10 @@ use toml::Value;
 const USUAL_AMBIENT: i64 = 1_500;
 
 // The deadband of the levels where a gauge's table doesn't say it, in mm.
-const USUAL_LEVELS: u32 = 1;
+const USUAL_DEADBAND_MM: u32 = 1;
 
 // The deadband of the temperature where a gauge's table doesn't say it, in 0.01 C.
-const USUAL_TEMPERATURE: u32 = 5;
+const USUAL_DEADBAND_CENTI: u32 = 5;
 
 /// The registers that a gauge asks of its device.
 #[derive(Clone, Copy)]
@@ -181,9 +181,9 @@ fn deadbands_at(keys: &Keys<'_>) -> Result<(u16, u16), SiteFault>
     ensures levels { IfOk result (λ deadbands. IsTrue (is_between 1 MOST_DEADBAND deadbands.0)) }
     ensures temperature { IfOk result (λ deadbands. IsTrue (is_between 1 MOST_DEADBAND deadbands.1)) }
 {
-    let levels = keys.natural_or(USUAL_LEVELS, "deadband_mm", 1, MOST_DEADBAND as u32)? as u16;
+    let levels = keys.natural_or(USUAL_DEADBAND_MM, "deadband_mm", 1, MOST_DEADBAND as u32)? as u16;
     let temperature = keys.natural_or(
-        USUAL_TEMPERATURE,
+        USUAL_DEADBAND_CENTI,
         "deadband_centi",
         1,
         MOST_DEADBAND as u32,

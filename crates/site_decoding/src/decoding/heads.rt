@@ -1,18 +1,17 @@
 //! The head of a site at the front of bytes: its format, its name and its rounding table.
 
-ghost use Rattle.std.specs.Prelude.{◌≡◌, ◌==◌, Ok, Err, if◌then◌else◌};
+ghost use Rattle.std.specs.Prelude.{◌≡◌, ◌==◌, Ok, Err, if◌then◌else◌, is_none};
 ghost use Rattle.farm_rounding.specs.Table.{first_bad_row};
 ghost use Rattle.site_decoding.specs.ByteReaders.{Gives, byte_at, counted_at, tested_at};
-ghost use Rattle.site_decoding.specs.Decoding.{are_good, mode_of, name_at, round_at, rounding_at};
+ghost use Rattle.site_decoding.specs.Decoding.{mode_of, name_at, row_at, rounding_at};
 ghost use Rattle.site_bytes.specs.declared.TheConstants.{FORMAT};
 
 use super::numbers::{byte_at, flag_at, text_at};
 use crate::SiteBytesFault;
 use crate::SiteBytesFault::BadSite;
-use crate::sound::is_name;
 use farm_rounding::{Mode, ROUNDING_ROWS, RoundTable};
 use site_bytes::FORMAT;
-use site_items::Name;
+use site_items::{Name, is_name};
 use std::alloc::Global;
 
 /// The byte of the format.
@@ -32,7 +31,7 @@ pub fn name_at(alloc: Global, bytes: &[u8]) -> Result<(Name, &[u8]), SiteBytesFa
     ensures reads { Gives (λ x. (x.0, x.1.now)) result (name_at bytes.now) }
 {
     let (name, rest) = text_at(alloc, bytes)?;
-    if !is_name(&name) {
+    if !is_name(name.get()) {
         return Err(BadSite);
     }
     Ok((name, rest))
@@ -49,7 +48,7 @@ pub fn rounding_at(bytes: &[u8]) -> Result<(RoundTable, &[u8]), SiteBytesFault>
 
 // Twelve rows of a rounding table.
 fn rows_at(bytes: &[u8]) -> Result<([(u8, Mode); ROUNDING_ROWS], &[u8]), SiteBytesFault>
-    ensures reads { Gives (λ x. (x.0, x.1.now)) result (counted_at round_at ROUNDING_ROWS bytes.now) }
+    ensures reads { Gives (λ x. (x.0, x.1.now)) result (counted_at row_at ROUNDING_ROWS bytes.now) }
 {
     let mut rows = [(1, Mode::HalfAway); ROUNDING_ROWS];
     let mut rest = bytes;
@@ -62,9 +61,9 @@ fn rows_at(bytes: &[u8]) -> Result<([(u8, Mode); ROUNDING_ROWS], &[u8]), SiteByt
 }
 
 // A row of a rounding table.
-#[tactic(auto, unfolding(crate::specs::Decoding::round_at))]
+#[tactic(auto, unfolding(crate::specs::Decoding::row_at))]
 fn row_at(bytes: &[u8]) -> Result<((u8, Mode), &[u8]), SiteBytesFault>
-    ensures reads { Gives (λ x. (x.0, x.1.now)) result (round_at bytes.now) }
+    ensures reads { Gives (λ x. (x.0, x.1.now)) result (row_at bytes.now) }
 {
     let (step, rest) = byte_at(bytes)?;
     let (toward_zero, rest) = flag_at(rest)?;
@@ -84,7 +83,7 @@ fn mode_of(toward_zero: bool) -> Mode
 
 // The rounding table of these rows, if they are one.
 fn table_of(rows: [(u8, Mode); ROUNDING_ROWS]) -> Result<RoundTable, SiteBytesFault>
-    ensures table { result ≡ (if are_good (first_bad_row 1 rows) then Ok rows else Err SiteBytesFault.BadSite) }
+    ensures table { result ≡ (if is_none (first_bad_row 1 rows) then Ok rows else Err SiteBytesFault.BadSite) }
 {
     match RoundTable::new(rows) {
         Ok(table) => Ok(table),

@@ -1,9 +1,9 @@
 //! Tanks at the front of bytes.
 
-ghost use Rattle.std.specs.Prelude.{◌≡◌, Ok, Err, if◌then◌else◌};
+ghost use Rattle.std.specs.Prelude.{◌≡◌, Ok, Err, if◌then◌else◌, is_none};
 ghost use Rattle.strap_table.specs.Faults.{first_fault};
 ghost use Rattle.site_decoding.specs.ByteReaders.{Gives};
-ghost use Rattle.site_decoding.specs.Decoding.{amount_at, have_none, shell_at, spec_at, table_at};
+ghost use Rattle.site_decoding.specs.Decoding.{amount_at, shell_at, spec_at, table_at};
 
 use super::lists::{Piece, list16_at, option_at};
 use super::numbers::{
@@ -131,7 +131,7 @@ fn table_at(alloc: Global, bytes: &[u8]) -> Result<(CapTable, &[u8]), SiteBytesF
 
 // The table of these rows, if they are one.
 fn table_of(rows: Vec<i64>) -> Result<CapTable, SiteBytesFault>
-    ensures table { result ≡ (if have_none (first_fault rows.items) then Ok rows.items else Err SiteBytesFault.BadSite) }
+    ensures table { result ≡ (if is_none (first_fault rows.items) then Ok rows.items else Err SiteBytesFault.BadSite) }
 {
     match CapTable::from_rows(rows) {
         Ok(table) => Ok(table),

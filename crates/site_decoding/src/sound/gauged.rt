@@ -10,7 +10,7 @@ ghost use Rattle.site_keys.specs.Lists.{is_among};
 ghost use Rattle.site_lines.specs.Gauges.{are_distinct, are_gauged, tanks_gauged};
 ghost use Rattle.site_lines.specs.Lines.{all_gauged};
 
-use super::{is_known, is_within};
+use super::is_within;
 use farm_fixed::{LEAST_TEMPERATURE, MOST_TEMPERATURE};
 use modbus_frame::{LEAST_QUANTITY, MOST_QUANTITY, READ_HOLDING_REGISTERS, READ_INPUT_REGISTERS};
 use modbus_poll::{
@@ -18,6 +18,7 @@ use modbus_poll::{
     REGISTERS, Valid,
 };
 use site_items::Tank;
+use site_keys::is_among;
 use site_lines::is_host;
 use std::alloc::{AllocError, Global};
 
@@ -142,7 +143,7 @@ pub fn are_gauged(tanks: &[Tank], gauged: &[u16]) -> bool
 fn are_known(tanks: &[Tank], gauged: &[u16]) -> bool
     ensures { result ≡ list_all (λ tank. is_among tank (map tank_number tanks.now)) gauged.now }
 {
-    gauged.iter().all(|tank| is_known(*tank, tanks))
+    gauged.iter().all(|tank| is_among(*tank, tanks))
 }
 
 // Whether no number stands twice.

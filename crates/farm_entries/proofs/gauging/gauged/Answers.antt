@@ -1,5 +1,5 @@
 -- Answers to the open goals of `gauged`.
-use Rattle.std.proofs.Common.{rules, ◌≡◌, IsTrue, Some, None, Ok, List, take, length-take, ap, ◌∙◌, pos, negsuc, ℤ, sym, subst, arith}
+use Rattle.std.proofs.Common.{rules, ◌≡◌, IsTrue, Some, None, Ok, List, take, length-take, ap, ◌∙◌, pos, ℤ, sym, subst, arith}
 use Rattle.std.specs.Int.{w64}
 use Rattle.std.proofs.lemmas.Int.{to_z-of_z}
 use Rattle.farm_fixed.specs.Range.{is_within}

@@ -2,11 +2,12 @@
 use Rattle.std.proofs.Common.{◌≤◌, ◌^◌, List, length, take, length-take, sym, subst, arith}
 use Rattle.farm_stock.specs.Sums.{AddUpTo}
 use Rattle.farm_stock.specs.declared.book.Book.{Book}
+use Rattle.site_items.specs.declared.tanks.TheConstants.{MOST_TANKS}
 use Rattle.farm_entries.proofs.Bounds.{sums_fit}
 use Rattle.farm_entries.proofs.ledger.Ledger.total.Goals as goal
 
 pub total_of-requires : goal.total_of-requires
 total_of-requires c =
-    let few : length (take c.self.inside.count c.self.inside.books) ≤ 64 =
+    let few : length (take c.self.inside.count c.self.inside.books) ≤ MOST_TANKS =
     omega (arith, length-take c.self.inside.count c.self.inside.books, c.self.invariant) in
-    record { sums = subst (λ (books : List Book). length books ≤ 64 → AddUpTo (10 ^ 18) books) (sym c.self.view_is) (λ fits. sums_fit c.args.self.now fits c.requires.books) few }
+    record { sums = subst (λ (books : List Book). length books ≤ MOST_TANKS → AddUpTo (10 ^ 18) books) (sym c.self.view_is) (λ fits. sums_fit c.args.self.now fits c.requires.books) few }
