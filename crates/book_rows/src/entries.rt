@@ -202,7 +202,7 @@ fn bad_place_with(entry: &[u8], offset: usize, byte: u8) -> Option<usize> {
 }
 
 // The same of an entry and one byte more.
-fn bad_place_of_longer(entry: &[u8]) -> Option<usize> {
+fn bad_offset_of_longer(entry: &[u8]) -> Option<usize> {
     let mut longer = [0; 64];
     if let Some(front) = longer.get_mut(..entry.len()) {
         front.copy_from_slice(entry);
@@ -218,7 +218,7 @@ fn check_first_bytes<R: Print>(checks: &mut Checks<'_, R>, entry: &[u8]) {
 }
 
 #[test]
-fn a_bad_byte_is_refused_at_its_place(rt: HostRuntime) -> Result<(), Fail> {
+fn a_bad_byte_is_refused_at_its_offset(rt: HostRuntime) -> Result<(), Fail> {
     let mut checks = Checks::new(&rt);
     let cases: [(&[u8], usize, u8, usize); 20] = [
         (&STOP, 24, 0, 24),
@@ -262,9 +262,9 @@ fn a_bad_byte_is_refused_at_its_place(rt: HostRuntime) -> Result<(), Fail> {
         SETTLE.as_slice(),
     ] {
         check_first_bytes(&mut checks, entry);
-        checks.same(bad_place_of_longer(entry), Some(entry.len()));
+        checks.same(bad_offset_of_longer(entry), Some(entry.len()));
     }
-    checks.same(bad_place_of_longer(&DIP), Some(63));
+    checks.same(bad_offset_of_longer(&DIP), Some(63));
     Ok(checks.end()?)
 }
 

@@ -89,6 +89,7 @@ fn add_files<F: Folder>(
     Ok(())
 }
 
+// Adds a file at the end.
 fn add_file(
     files: &mut Vec<NamedFile>,
     alloc: Global,

@@ -39,6 +39,7 @@ fn main(rt: HostRuntime) -> anyhow::Result<()> {
     Ok(())
 }
 
+// The arguments after the program's name.
 fn arguments(rt: &(impl Env + AllocGlobal)) -> io::Result<Vec<String>> {
     Ok(env::args(rt)?.skip(1).collect(rt.alloc())?)
 }
@@ -91,6 +92,7 @@ fn cases_of(alloc: Global, table: &Table) -> Result<&[Value], CaseFault> {
     Keys::of(alloc, table, &["case"], &[])?.list("case")
 }
 
+// Runs the cases of a file, and prints each that differs, and then how many there are.
 fn run_cases<F: Folder>(
     rt: &impl Print,
     alloc: Global,

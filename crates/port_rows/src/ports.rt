@@ -154,6 +154,7 @@ fn first_four<F: Folder>(folder: &mut F, alloc: Global, name: &str) -> Result<Ve
     folder.read(alloc, name, 4)
 }
 
+// A file of a name and bytes.
 fn file(alloc: Global, name: &str, bytes: &[u8]) -> Result<(String, Vec<u8>), AllocError> {
     Ok((String::from_str(alloc, name)?, bytes.to_vec(alloc)?))
 }

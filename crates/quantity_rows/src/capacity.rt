@@ -49,6 +49,7 @@ fn a_half_litre_goes_by_the_mode(rt: HostRuntime) -> Result<(), Fail> {
     Ok(checks.end()?)
 }
 
+// Why rows are no table, if they aren't one.
 fn fault_of(alloc: Global, rows: &[i64]) -> Result<Option<TableFault>, AllocError> {
     Ok(CapTable::from_rows(rows.to_vec(alloc)?).err())
 }

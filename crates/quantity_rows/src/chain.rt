@@ -41,6 +41,7 @@ fn figures_of(tov: i64, fw: i64, roof: i64) -> Result<Result<Quantities, ChainRu
     ))
 }
 
+// The ten figures in their order, in units.
 fn in_order(q: Quantities) -> [i64; 10] {
     [
         q.tov.get(),

@@ -1,36 +1,22 @@
 //! The factor at the nearest listed density and temperature, by lists and by a file, and texts that are no file.
 
-use farm_fixed::{Centi, Dens, Fac5, OutOfRange};
+use farm_fixed::{Centi, Dens, OutOfRange, Quantity, Unit};
 use farm_rounding::Mode;
 use farm_vcf::{Vcf, VcfFault};
 use row_checks::{Checks, shared};
 use std::alloc::Global;
 use std::test::Fail;
 
-fn list_of_densities(alloc: Global, values: &[i64]) -> Result<Vec<Dens>, Fail> {
+// The quantities of these numbers of units.
+fn list_of<U: Unit>(alloc: Global, values: &[i64]) -> Result<Vec<Quantity<U>>, Fail> {
     let mut list = Vec::new(alloc);
     for value in values {
-        list.push(Dens::new(*value)?)?;
+        list.push(Quantity::new(*value)?)?;
     }
     Ok(list)
 }
 
-fn list_of_temperatures(alloc: Global, values: &[i64]) -> Result<Vec<Centi>, Fail> {
-    let mut list = Vec::new(alloc);
-    for value in values {
-        list.push(Centi::new(*value)?)?;
-    }
-    Ok(list)
-}
-
-fn list_of_factors(alloc: Global, values: &[i64]) -> Result<Vec<Fac5>, Fail> {
-    let mut list = Vec::new(alloc);
-    for value in values {
-        list.push(Fac5::new(*value)?)?;
-    }
-    Ok(list)
-}
-
+// The grid of these lists, in units.
 fn grid_of(
     alloc: Global,
     densities: &[i64],
@@ -38,9 +24,9 @@ fn grid_of(
     factors: &[i64],
 ) -> Result<Vcf, Fail> {
     Ok(Vcf::from_grid(
-        list_of_densities(alloc, densities)?,
-        list_of_temperatures(alloc, temperatures)?,
-        list_of_factors(alloc, factors)?,
+        list_of(alloc, densities)?,
+        list_of(alloc, temperatures)?,
+        list_of(alloc, factors)?,
     )?)
 }
 
@@ -87,6 +73,7 @@ fn the_nearest_listed_factor(rt: HostRuntime) -> Result<(), Fail> {
 const GRID: &[u8] =
     b"density,temperature,factor\n840.0,15.00,1.00000\n840.0,20.00,0.99570\n840.0,25.00,0.99140\n850.0,15.00,1.00000\n850.0,20.00,0.99580\n850.0,25.00,0.99150\n860.0,15.00,1.00000\n860.0,20.00,0.99590\n860.0,25.00,0.99160\n";
 
+// Two grids list the same.
 fn check_same_lists<R: Print>(checks: &mut Checks<'_, R>, read: &Vcf, listed: &Vcf) {
     checks.same(read.densities(), listed.densities());
     checks.same(read.temperatures(), listed.temperatures());

@@ -10,10 +10,12 @@ use row_checks::{Checks, shared};
 use std::alloc::Global;
 use std::test::Fail;
 
+// The number of units that a text is read as.
 fn read_units<U: Unit>(text: &str) -> Result<i64, ReadFault> {
     Quantity::<U>::read(text.as_bytes()).map(|quantity| quantity.get())
 }
 
+// The text of a number of units; no bytes where it is out of range.
 fn text_of<U: Unit>(alloc: Global, units: i64) -> Result<Vec<u8>, NoMemory> {
     let mut text = Vec::new(alloc);
     if let Ok(quantity) = Quantity::<U>::new(units) {

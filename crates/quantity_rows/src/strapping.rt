@@ -10,6 +10,7 @@ use strap_courses::{Course, Deadwood, StrapFault, Strapping};
 // Height, both circumferences, both deductions, plate and paint: the last six in 0.1 mm.
 type Figures = [i64; 7];
 
+// A course of its figures.
 fn course(figures: Figures) -> Result<Course, OutOfRange> {
     let [height, lower, upper, lower_off, upper_off, plate, paint] = figures;
     Ok(Course {
@@ -32,6 +33,7 @@ fn deadwood((low, high, litres): (i64, i64, i64)) -> Result<Deadwood, OutOfRange
     })
 }
 
+// Courses of their figures.
 fn courses_of(alloc: Global, figures: &[Figures]) -> Result<Vec<Course>, Fail> {
     let mut courses = Vec::new(alloc);
     for one in figures {
@@ -40,6 +42,7 @@ fn courses_of(alloc: Global, figures: &[Figures]) -> Result<Vec<Course>, Fail> {
     Ok(courses)
 }
 
+// Deadwoods of their figures.
 fn deadwoods_of(alloc: Global, figures: &[(i64, i64, i64)]) -> Result<Vec<Deadwood>, Fail> {
     let mut deadwoods = Vec::new(alloc);
     for one in figures {
@@ -59,6 +62,7 @@ fn bottom_of(alloc: Global, points: &[(i64, i64)]) -> Result<Vec<(Mm, i64)>, Fai
 
 const FLAT: &[(i64, i64)] = &[(0, 0)];
 
+// A strapped tank of the figures of its parts.
 fn tank_of(
     alloc: Global,
     courses: &[Figures],
@@ -151,6 +155,7 @@ fn each_deadwood_is_rounded_by_itself(rt: HostRuntime) -> Result<(), Fail> {
     Ok(checks.end()?)
 }
 
+// Why a tank of one course, with a heel at 0 mm and a deadwood that takes these litres, has no rows, if it has none.
 fn rows_fault(alloc: Global, heel: i64, taken: i64) -> Result<Option<StrapFault>, Fail> {
     let usual = RoundTable::usual();
     Ok(rows_of(alloc, 0, &[(200, 700, taken)], &[(0, heel)], &usual)?.err())

@@ -78,6 +78,7 @@ fn check_products<R: Print>(checks: &mut Checks<'_, R>, products: &[Product]) {
     }
 }
 
+// The parties, by rising number.
 fn check_parties<R: Print>(checks: &mut Checks<'_, R>, parties: &[Party]) {
     let wanted = [(7, "Carrier"), (8, "Owner")];
     checks.same(parties.len(), wanted.len());

@@ -25,6 +25,7 @@ fn edited(alloc: Global, name: &str, old: &str, new: &str) -> Result<Files, Fail
     Ok(Files::new(alloc, files, Vec::new(alloc))?)
 }
 
+// The bytes of a text with one replaced by another, where it first stands.
 fn replaced(alloc: Global, bytes: &[u8], old: &str, new: &str) -> Result<Vec<u8>, Fail> {
     let text = std::str::from_utf8(bytes).ok().ok_or("no text")?;
     Ok(text.replacen(alloc, old, new, 1)?.into_bytes())
