@@ -23,11 +23,15 @@ calc_text bytes = text_of_figures (answer_of bytes)
 abbrev pub calc_of : List ℕ → Option (Result (List ℕ) Refused)
 calc_of bytes = Some (calc_text bytes)
 
--- the tables of a site that was described, or the fault; neither where a file isn't there
+-- the text of a site that was described, or the fault; neither where a file isn't there
+abbrev pub text_or_fault : (Described → List ℕ) → Result Described Refusal → Option (Result (List ℕ) SiteFault)
+text_or_fault text (Ok site) = Some (Ok (text site))
+text_or_fault text (Err (Faulty fault)) = Some (Err fault)
+text_or_fault text (Err (Missing name)) = None
+
+-- the tables of a site that was described
 abbrev pub issued_of : Result Described Refusal → Option (Result (List ℕ) SiteFault)
-issued_of (Ok site) = Some (Ok (issued_text site.tanks))
-issued_of (Err (Faulty fault)) = Some (Err fault)
-issued_of (Err (Missing name)) = None
+issued_of answer = text_or_fault (λ site. issued_text site.tanks) answer
 
 -- what `table` answers on the files of a folder
 abbrev pub table_of : List File → Option (Result (List ℕ) SiteFault)

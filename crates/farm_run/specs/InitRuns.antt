@@ -1,5 +1,5 @@
 -- What a run of `init` does.
-use Rattle.std.specs.Prelude.{◌≡◌, ◌≢◌, ◌⊎◌, ℕ, List, [], ◌∷◌, Option, Some, None, Result, Ok, Err}
+use Rattle.std.specs.Prelude.{◌≡◌, ◌≢◌, ◌⊎◌, ℕ, List, [], ◌∷◌, Option, Result, Ok}
 use Rattle.farm_base.specs.Counts.{Count, HasRisen, IsQuiet, count_of}
 use Rattle.farm_base.specs.Known.{Adds, Stays, WhereKnown}
 use Rattle.farm_desk.specs.Asking.{IsCrashSafe}
@@ -12,17 +12,16 @@ use Rattle.farm_journal.specs.declared.faults.CreateFault.{CreateFault}
 use Rattle.farm_journal.specs.declared.faults.CreateFault.TheVariants.{NotEmpty, DiskFault, NoMemory}
 use Rattle.farm_ports.specs.Folders.{File}
 use Rattle.site_keys.specs.declared.fault.SiteFault.{SiteFault}
-use Rattle.site_keys.specs.Faults.{Refusal, Faulty, Missing}
+use Rattle.site_keys.specs.Faults.{Refusal}
 use Rattle.farm_site.specs.Described.{Described, site_of_files}
 use Rattle.farm_run.specs.declared.limits.TheConstants.{BOOK_LIMIT}
+use Rattle.farm_run.specs.Answers.{text_or_fault}
 use Rattle.farm_run.specs.Runs.{LacksMemory, OneAnswerRun, Output, Says}
 use Rattle.farm_run.specs.Texts.{disk_failed_line, no_memory, not_empty_line, port_fault, site_refused_text}
 
--- what reading a site alone answers: nothing, or its first fault; neither where a file isn't there
+-- what reading a site alone answers: no text, or its first fault
 abbrev pub site_answer : Result Described Refusal → Option (Result (List ℕ) SiteFault)
-site_answer (Ok site) = Some (Ok [])
-site_answer (Err (Faulty fault)) = Some (Err fault)
-site_answer (Err (Missing name)) = None
+site_answer answer = text_or_fault (λ site. []) answer
 
 -- the same of the files of a folder
 abbrev pub site_answer_of : List File → Option (Result (List ℕ) SiteFault)
