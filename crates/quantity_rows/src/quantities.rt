@@ -136,6 +136,46 @@ fn a_temperature_below_zero_keeps_its_minus(rt: HostRuntime) -> Result<(), Fail>
     Ok(checks.end()?)
 }
 
+// A range ends at these two numbers of units: both texts are read, and those of one unit beyond, the first and the last, aren't.
+fn check_ends<U: Unit, R: Print>(
+    checks: &mut Checks<'_, R>,
+    [below, least, most, above]: [&str; 4],
+    (lowest, greatest): (i64, i64),
+) {
+    checks.same_at(below, read_units::<U>(below), Err(ReadFault::OutOfRange));
+    checks.same_at(least, read_units::<U>(least), Ok(lowest));
+    checks.same_at(most, read_units::<U>(most), Ok(greatest));
+    checks.same_at(above, read_units::<U>(above), Err(ReadFault::OutOfRange));
+}
+
+// Definitions cite the constants of these ends, so no proof would refuse another number there.
+#[test]
+fn each_range_has_its_ends(rt: HostRuntime) -> Result<(), Fail> {
+    let mut checks = Checks::new(&rt);
+    let heights = ["-1", "0", "50000", "50001"];
+    check_ends::<Millimetre, _>(&mut checks, heights, (0, 50_000));
+    let tenths = ["-0.1", "0.0", "500000.0", "500000.1"];
+    check_ends::<TenthMillimetre, _>(&mut checks, tenths, (0, 5_000_000));
+    let temperatures = ["-100.01", "-100.00", "300.00", "300.01"];
+    check_ends::<HundredthDegree, _>(&mut checks, temperatures, (-10_000, 30_000));
+    let densities = ["399.9", "400.0", "1200.0", "1200.1"];
+    check_ends::<TenthKilogramPerCubicMetre, _>(&mut checks, densities, (4_000, 12_000));
+    let factors = ["0.49999", "0.50000", "1.50000", "1.50001"];
+    check_ends::<HundredThousandth, _>(&mut checks, factors, (50_000, 150_000));
+    let shares = ["-0.001", "0.000", "100.000", "100.001"];
+    check_ends::<ThousandthPercent, _>(&mut checks, shares, (0, 100_000));
+    let wholes = [
+        "-100000000000000001",
+        "-100000000000000000",
+        "100000000000000000",
+        "100000000000000001",
+    ];
+    let ends = (-100_000_000_000_000_000, 100_000_000_000_000_000);
+    check_ends::<Litre, _>(&mut checks, wholes, ends);
+    check_ends::<Kilogram, _>(&mut checks, wholes, ends);
+    Ok(checks.end()?)
+}
+
 #[test]
 fn each_unit_reads_what_it_writes(rt: HostRuntime) -> Result<(), Fail> {
     let mut checks = Checks::new(&rt);
