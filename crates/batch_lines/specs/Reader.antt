@@ -26,9 +26,9 @@ abbrev pub kept : List ℕ → Option (List ℕ)
 kept line = if nat_lt LONGEST_LINE (length line) then None else Some line
 
 -- a reader has read this of a line
-pub record Holds (reading : ReaderState) (line : List ℕ) : Type 0 where
-  pub line_is : reading.line ≡ kept line
-  pub length_is : reading.length ≡ length line
+pub record Holds (reader : ReaderState) (line : List ℕ) : Type 0 where
+  pub line_is : reader.line ≡ kept line
+  pub length_is : reader.length ≡ length line
 
 -- what a reader has read of a line became longer by a text
 abbrev pub Extends : ReaderState → ReaderState → List ℕ → Type 0

@@ -8,14 +8,14 @@ use Rattle.csv.specs.declared.error.ErrorKind.TheVariants as kind
 use Rattle.csv.specs.declared.parser.State.{State}
 use Rattle.csv.specs.declared.reader.Reader.{Reader}
 use Rattle.csv.proofs.ReadFacts.{rows-end, rows-more}
-use Rattle.farm_csv.specs.Reader.{IsReading, bytes_left, fault_of, have_length, is_even_left, left_from, left_of}
+use Rattle.farm_csv.specs.Reader.{IsAtRecord, bytes_left, fault_of, have_length, is_even_left, left_from, left_of}
 use Rattle.farm_csv.specs.Records.{have_equal_lengths}
 use Rattle.farm_csv.specs.Rows.{IsFaultOfLengths}
 use Rattle.farm_csv.proofs.NextRecords.{first_of, none_of}
 
 -- a record was taken, and a reader has those after it left
 pub record Taken (old new : Reader (Bor (List ℕ))) (fields : List (List ℕ)) : Type 0 where
-  pub reading : IsReading new
+  pub at_record : IsAtRecord new
   pub record_is : left_of old ≡ fields ∷ left_of new
   pub even : is_even_left old ≡ is_even_left new
 
@@ -35,18 +35,18 @@ even_on (Some size) new f more kept is =
     rw (kept, eq-eqb (length f) size same) refl
 
 -- what a read that found a record did
-pub taken : (old new : Reader (Bor (List ℕ))) (f : List (List ℕ)) → IsReading old → is_flexible new ≡ is_flexible old → took_first new ≡ true → ReadRecord (λ text. Some text.now) old new true f → Taken old new f
+pub taken : (old new : Reader (Bor (List ℕ))) (f : List (List ℕ)) → IsAtRecord old → is_flexible new ≡ is_flexible old → took_first new ≡ true → ReadRecord (λ text. Some text.now) old new true f → Taken old new f
 unfolding Reached
-taken old new f reading flexible first read =
-    let more = rows-more (λ (text : Bor (List ℕ)). Some text.now) old new f default_config old.state reading.bytes reading.bytes [] reading.rules reading.unread (refl, refl) read in
-    let left = taken_from old.state new.state (bytes_left old) (bytes_left new) reading.bytes more.0 more.2.0 f reading.unread more.1 reading.between more.2.1 more.2.2 more.2.3.0 more.2.3.1 in
-    let lengths = read.5 refl reading.one_length in
+taken old new f at_record flexible first read =
+    let more = rows-more (λ (text : Bor (List ℕ)). Some text.now) old new f default_config old.state at_record.bytes at_record.bytes [] at_record.rules at_record.unread (refl, refl) read in
+    let left = taken_from old.state new.state (bytes_left old) (bytes_left new) at_record.bytes more.0 more.2.0 f at_record.unread more.1 at_record.between more.2.1 more.2.2 more.2.3.0 more.2.3.1 in
+    let lengths = read.5 refl at_record.one_length in
     record {
-      reading = record {
-        whole_fields = read.3 ∙ reading.whole_fields;
+      at_record = record {
+        whole_fields = read.3 ∙ at_record.whole_fields;
         ready = inl first;
-        rules = read.2 ∙ reading.rules;
-        one_length = flexible ∙ reading.one_length;
+        rules = read.2 ∙ at_record.rules;
+        one_length = flexible ∙ at_record.one_length;
         between = left.1;
         bytes = more.0;
         unread = more.1;
@@ -68,10 +68,10 @@ none_left_from s before y due unread none =
     rw (unread, all) (refl, even_none due)
 
 -- a read that found no record: none was left
-pub none_taken : (old new : Reader (Bor (List ℕ))) (f : List (List ℕ)) → IsReading old → ReadRecord (λ text. Some text.now) old new false f → (left_of old ≡ []) × (is_even_left old ≡ true)
-none_taken old new f reading read =
-    none_left_from old.state (bytes_left old) reading.bytes old.expected reading.unread
-    (rows-end (λ (text : Bor (List ℕ)). Some text.now) old new f default_config reading.bytes reading.rules reading.unread read)
+pub none_taken : (old new : Reader (Bor (List ℕ))) (f : List (List ℕ)) → IsAtRecord old → ReadRecord (λ text. Some text.now) old new false f → (left_of old ≡ []) × (is_even_left old ≡ true)
+none_taken old new f at_record read =
+    none_left_from old.state (bytes_left old) at_record.bytes old.expected at_record.unread
+    (rows-end (λ (text : Bor (List ℕ)). Some text.now) old new f default_config at_record.bytes at_record.rules at_record.unread read)
 
 -- a read that found a record found the next one of the text
 next_of : (s : State) (y : List ℕ) (after : Option (List ℕ)) (fields : List (List ℕ)) (s2 : State) → ReadsNext default_config s (Some y) after true fields s2 →
@@ -92,12 +92,12 @@ uneven_from s before y p due size len f unread calm e is expects other counted =
     rw (unread, first.0, expects, ne_eqb (length p.0) size differs) refl
 
 -- unequal lengths are reported only of records that have them
-pub fault_is : (old new : Reader (Bor (List ℕ))) (why : ErrorKind) → IsReading old → ExplainsRead (λ text. Some text.now) old new false why → IsFaultOfLengths (is_even_left old) (fault_of why)
-fault_is old new (kind.UnequalLengths place expected len) reading why =
-    let next = next_of old.state reading.bytes _ why.3 new.state (rw (reading.rules, reading.unread) at why.4) in
-    uneven_from old.state (bytes_left old) reading.bytes next.0 old.expected expected len why.3 reading.unread reading.between next.1 next.2 why.1 why.2 why.5
-fault_is old new (kind.Io e) reading why = tt
-fault_is old new (kind.Utf8 place err) reading why = tt
-fault_is old new kind.OutOfMemory reading why = tt
-fault_is old new (kind.Serialize what) reading why = tt
-fault_is old new (kind.Deserialize place err) reading why = tt
+pub fault_is : (old new : Reader (Bor (List ℕ))) (why : ErrorKind) → IsAtRecord old → ExplainsRead (λ text. Some text.now) old new false why → IsFaultOfLengths (is_even_left old) (fault_of why)
+fault_is old new (kind.UnequalLengths place expected len) at_record why =
+    let next = next_of old.state at_record.bytes _ why.3 new.state (rw (at_record.rules, at_record.unread) at why.4) in
+    uneven_from old.state (bytes_left old) at_record.bytes next.0 old.expected expected len why.3 at_record.unread at_record.between next.1 next.2 why.1 why.2 why.5
+fault_is old new (kind.Io e) at_record why = tt
+fault_is old new (kind.Utf8 place err) at_record why = tt
+fault_is old new kind.OutOfMemory at_record why = tt
+fault_is old new (kind.Serialize what) at_record why = tt
+fault_is old new (kind.Deserialize place err) at_record why = tt

@@ -34,9 +34,9 @@ have_length (Some size) records = have_this_length size records
 abbrev pub is_even_left : Reader (Bor (List ℕ)) → Bool
 is_even_left reader = have_length (expected_len reader) (left_of reader)
 
--- A reader reads by the defaults, each record from its start and whole: it gives the next record, a header like the others,
+-- A reader that reads by the defaults stands at the start of a record, and reads each whole: it gives the next record, a header like the others,
 -- refuses another length, and has not failed.
-pub record IsReading (reader : Reader (Bor (List ℕ))) : Type 0 where
+pub record IsAtRecord (reader : Reader (Bor (List ℕ))) : Type 0 where
   pub whole_fields : reader_trim reader ≡ trim.None
   pub ready : Ready reader
   pub rules : reader_config reader ≡ default_config

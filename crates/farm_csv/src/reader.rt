@@ -3,7 +3,7 @@
 ghost use Rattle.std.specs.Prelude.{◌≡◌, ◌∷◌, [], true, false, IfErr, IfOk, OnOk};
 ghost use Rattle.csv.specs.Reading.{error_kind};
 ghost use Rattle.csv.specs.Records.{fields_of};
-ghost use Rattle.farm_csv.specs.Reader.{IsReading, fault_of, is_even_left, left_of};
+ghost use Rattle.farm_csv.specs.Reader.{IsAtRecord, fault_of, is_even_left, left_of};
 ghost use Rattle.farm_csv.specs.Records.{have_equal_lengths, records_of};
 ghost use Rattle.farm_csv.specs.Rows.{IsFaultOfLengths};
 
@@ -13,7 +13,7 @@ use std::alloc::Global;
 
 /// A reader that stands before the first record of a text.
 pub fn reader_of(alloc: Global, text: &[u8]) -> Reader<&[u8]>
-    ensures reading { IsReading result }
+    ensures at_record { IsAtRecord result }
     ensures left { left_of result ≡ records_of text.now }
     ensures even { is_even_left result ≡ have_equal_lengths (records_of text.now) }
 {
@@ -24,8 +24,8 @@ pub fn reader_of(alloc: Global, text: &[u8]) -> Reader<&[u8]>
 
 /// Reads the next record into `fields`, and says whether there was one.
 pub fn next(reader: &mut Reader<&[u8]>, fields: &mut ByteRecord) -> Result<bool, CsvFault>
-    requires reading { IsReading reader.old }
-    ensures reading { IfOk result (λ found. found ≡ true → IsReading reader.new) }
+    requires at_record { IsAtRecord reader.old }
+    ensures at_record { IfOk result (λ found. found ≡ true → IsAtRecord reader.new) }
     ensures record { IfOk result (λ found. found ≡ true → left_of reader.old ≡ fields_of fields.new ∷ left_of reader.new) }
     ensures even { IfOk result (λ found. found ≡ true → is_even_left reader.old ≡ is_even_left reader.new) }
     ensures end { IfOk result (λ found. found ≡ false → left_of reader.old ≡ []) }
@@ -40,7 +40,7 @@ pub fn next(reader: &mut Reader<&[u8]>, fields: &mut ByteRecord) -> Result<bool,
 
 /// Reads on to the end of the text, to see whether a record has another number of fields than the first.
 pub fn read_on(reader: &mut Reader<&[u8]>, fields: &mut ByteRecord) -> Result<(), CsvFault>
-    requires reading { IsReading reader.old }
+    requires at_record { IsAtRecord reader.old }
     ensures even { OnOk result (is_even_left reader.old ≡ true) }
     ensures fault { IfErr result (IsFaultOfLengths (is_even_left reader.old)) }
 {

@@ -2,7 +2,7 @@
 
 ghost use Rattle.std.specs.Prelude.{◌≡◌, ◌<◌, ◌^◌, ℕ, Err, List, length, MatchResult, Option};
 ghost use Rattle.csv.specs.Records.{fields_of};
-ghost use Rattle.farm_csv.specs.Reader.{IsReading, is_even_left, left_of};
+ghost use Rattle.farm_csv.specs.Reader.{IsAtRecord, is_even_left, left_of};
 ghost use Rattle.farm_csv.specs.Records.{have_equal_lengths, records_of};
 ghost use Rattle.farm_csv.specs.Rows.{AreRows, IsFaultOfRows, IsFirstNoRow, below_header};
 ghost use Rattle.farm_csv.specs.declared.fault.CsvFault.TheVariants.{NoRow};
@@ -50,7 +50,7 @@ fn rows_left<R: RowOf>(
     reader: &mut Reader<&[u8]>,
     fields: &mut ByteRecord,
 ) -> Result<Vec<R::Row>, CsvFault>
-    requires reading { IsReading reader.old }
+    requires at_record { IsAtRecord reader.old }
     requires countable { length (left_of reader.old) < 2 ^ 63 }
     ensures { MatchResult result (λ rows. AreRows R.read (is_even_left reader.old) (left_of reader.old) rows.items)
         (IsFaultOfRows R.read (is_even_left reader.old) (left_of reader.old)) }

@@ -36,7 +36,7 @@ pub const MOST_SHARE: i64 = 100_000;
 /// The most litres of a row of a capacity table, of an observed volume, and of a deadwood either way.
 pub const MOST_LITRES: i64 = 1_000_000_000;
 
-/// The most litres of net standard volume, and kilograms of mass, that a calculation answers.
+/// A bound on the litres of net standard volume, and on the kilograms of mass, that a calculation answers.
 pub const MOST_NET: u64 = 3_000_000_000;
 
 /// The most kilograms of a floating roof.

@@ -1,6 +1,6 @@
 //! A whole number of units, and its text.
 
-ghost use Rattle.std.specs.Prelude.{◌≡◌, ◌+◌, ◌<◌, ◌≤◌, ℕ, ℤ, None, Ok, OnErr, length, vec_capacity, vec_len};
+ghost use Rattle.std.specs.Prelude.{◌≡◌, ◌+◌, ◌<◌, ℕ, ℤ, Ok, OnErr, length, vec_capacity, vec_len};
 ghost use Rattle.std.specs.Result.{OkIff};
 ghost use Rattle.farm_base.specs.Appended.{Appends};
 ghost use Rattle.farm_fixed.specs.Range.{IsWithin, IsSmall};

@@ -1,5 +1,5 @@
 -- A stock to which the postings of a history are posted has the books and the total of the history.
-use Rattle.std.proofs.Common.{◌≡◌, ℕ, ◌==◌, Bool, true, false, All, if◌then◌else◌, List, [], ◌∷◌, map, Option, Some, None, IsSome, option_map, refl, ap, sym, ◌∙◌}
+use Rattle.std.proofs.Common.{◌≡◌, ℕ, ◌==◌, Bool, true, false, All, if◌then◌else◌, List, [], ◌∷◌, Option, Some, None, IsSome, option_map, refl, ap, sym, ◌∙◌}
 use Rattle.std.proofs.lemmas.List.Elements.{All-cons, All-nil}
 use Rattle.farm_fixed.specs.declared.records.Amount.{Amount}
 use Rattle.farm_site.specs.Described.{tank_numbered}

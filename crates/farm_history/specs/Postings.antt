@@ -1,5 +1,5 @@
 -- The postings of a history: what its entries add to the books of tanks, in whole litres of net standard volume and whole kilograms.
-use Rattle.std.specs.Prelude.{ℕ, zero, suc, ◌+◌, ◌-◌, List, [], ◌∷◌, ◌++◌, map, Option, Some, None, option_and_then, option_map, ℤ, neg_ℤ, ◌-ℤ◌}
+use Rattle.std.specs.Prelude.{ℕ, zero, suc, ◌+◌, ◌-◌, List, [], ◌∷◌, ◌++◌, map, Option, Some, None, option_and_then, option_map, neg_ℤ, ◌-ℤ◌}
 use Rattle.farm_fixed.specs.declared.records.Amount.{Amount}
 use Rattle.farm_fixed.specs.declared.records.Quantities.{Quantities}
 use Rattle.farm_stock.specs.Books.{plus}

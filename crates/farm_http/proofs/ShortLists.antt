@@ -1,8 +1,8 @@
 -- The numbers of a list's items, read one after another into eight places.
-use Rattle.std.proofs.Common.{◌≡◌, ℕ, ◌+◌, ◌-◌, ◌<◌, ◌≤◌, List, [], ◌∷◌, ◌++◌, length, map, take, drop, get_or, replicate, Option, Some, None, option_and_then, option_map, refl, sym, ap, ◌∙◌, add-one, append_assoc, drop-cons, arith, ℤ, pos}
+use Rattle.std.proofs.Common.{◌≡◌, ℕ, ◌+◌, ◌-◌, ◌<◌, ◌≤◌, List, [], ◌∷◌, ◌++◌, length, map, take, drop, get_or, replicate, Option, Some, None, option_and_then, option_map, refl, sym, ap, ◌∙◌, append_assoc, arith, ℤ, pos}
 use Rattle.std.proofs.Math.ListN.{set, get_or-map}
 use Rattle.std.proofs.Math.Seq.{drop-length}
-use Rattle.std.proofs.lemmas.List.{append-nil, drop-replicate, drop-set-lt, length-set, length-take-le, take-append-drop, take_more_set}
+use Rattle.std.proofs.lemmas.List.{append-nil, drop-replicate, drop_more, drop-set-lt, length-set, length-take-le, take-append-drop, take_more_set}
 use Rattle.farm_base.proofs.BoolTests.{le-ltb, lt-ltb}
 use Rattle.serde_json.specs.Data.{Data}
 use Rattle.serde_json.specs.View.{items_of, view}
@@ -42,20 +42,16 @@ read_first first x rest is = rw is refl
 read_never : (first : Option ℤ) (rest : Option (List ℤ)) → first ≡ None → option_and_then (λ number. option_map (λ numbers. number ∷ numbers) rest) first ≡ None
 read_never first rest is = rw is refl
 
--- the item at n is the first of those from n
-drop_next : {A : Type 0} (xs : List A) (n : ℕ) (d : A) → n < length xs → drop n xs ≡ get_or xs n d ∷ drop (n + 1) xs
-drop_next xs n d h = rw add-one (drop-cons xs n d h)
-
 -- lists that are the same from n are so from n + 1
 same_after : (xs ys : List ℤ) (n : ℕ) → n < length xs → n < length ys → drop n xs ≡ drop n ys → drop (n + 1) xs ≡ drop (n + 1) ys
 same_after xs ys n inside within is =
-    let left : drop n xs ≡ get_or xs n (pos 0) ∷ drop (n + 1) xs = drop_next xs n (pos 0) inside in
-    let right : drop n ys ≡ get_or ys n (pos 0) ∷ drop (n + 1) ys = drop_next ys n (pos 0) within in
+    let left : drop n xs ≡ get_or xs n (pos 0) ∷ drop (n + 1) xs = drop_more xs n (pos 0) inside in
+    let right : drop n ys ≡ get_or ys n (pos 0) ∷ drop (n + 1) ys = drop_more ys n (pos 0) within in
     cc
 
 -- the items from one that is known
 items_from : (items : List Data) (n : ℕ) (value : Data) → n < length items → get_or items n value ≡ value → drop n items ≡ value ∷ drop (n + 1) items
-items_from items n value within found = drop_next items n value within ∙ ap (λ (d : Data). d ∷ drop (n + 1) items) found
+items_from items n value within found = drop_more items n value within ∙ ap (λ (d : Data). d ∷ drop (n + 1) items) found
 
 -- one more item is a number
 pub filled_next : (items : List Data) (n : ℕ) (values : List ℤ) (value : Data) (x : ℤ) → IsFilled items n values → n < length items → n < 8 →

@@ -1,7 +1,7 @@
 //! The objects of tickets.
 
 ghost use Rattle.std.specs.Prelude.{◌≡◌, IfOk, OnOk};
-ghost use Rattle.serde_json.specs.Data.{object, string};
+ghost use Rattle.serde_json.specs.Data.{string};
 ghost use Rattle.serde_json.specs.View.{members_view, view};
 ghost use Rattle.farm_http.specs.Tickets.{figures_value, moved_value, side_value, sides_value, way_word, with_moved, with_observed, with_side, with_standard, with_ticket};
 

@@ -13,9 +13,9 @@ pub mod Fronts
 pub mod Known
 pub mod Windows
 pub mod Records
-pub mod Reading
+pub mod RecoverySteps
 pub mod Taking
 pub mod Refusing
 pub mod Recovered
 pub mod Comparing
-pub mod OneReading
+pub mod OneMeaning

@@ -7,8 +7,8 @@ use Rattle.farm_journal.specs.Recovery.{Accepts, IsDamagedAt, IsNotJournal, IsRe
 use Rattle.farm_journal.specs.Standing.{IsAnImage, JournalState, Stands}
 
 -- bytes are a journal of one header and one list of bodies at most
-abbrev pub OneReading : Type 0
-OneReading = (header other_header : List ℕ) (bodies other_bodies : List (List ℕ)) (bytes : List ℕ) →
+abbrev pub OneMeaning : Type 0
+OneMeaning = (header other_header : List ℕ) (bodies other_bodies : List (List ℕ)) (bytes : List ℕ) →
     IsJournalOf header bodies bytes → IsJournalOf other_header other_bodies bytes →
     (header ≡ other_header) × (bodies ≡ other_bodies)
 

@@ -59,12 +59,16 @@ abbrev pub IsAnImage : List ℕ → List (List ℕ) → Option (List ℕ) → Li
 IsAnImage header bodies None bytes = IsJournalOf header bodies bytes
 IsAnImage header bodies (Some body) bytes = IsEither header bodies body bytes
 
+-- a bound on the bytes of a record with the gate after it
+abbrev pub most_record : ℕ
+most_record = 2 ^ 25
+
 -- the gates stand at offsets that such a number of bodies can reach, and there is a next one only where there may be one body more
 pub record IsWithinOffsets (gate count : ℕ) (next_gate : Option ℕ) : Type 0 where
   pub counted : count ≤ MAX_BODIES
-  pub reached : gate ≤ (count + 1) * 2 ^ 25
+  pub reached : gate ≤ (count + 1) * most_record
   pub next_counted : IfSome next_gate (λ next. count < MAX_BODIES)
-  pub next_reached : IfSome next_gate (λ next. next ≤ (count + 2) * 2 ^ 25)
+  pub next_reached : IfSome next_gate (λ next. next ≤ (count + 2) * most_record)
 
 -- the disk of a journal that was made or recovered, or the one that is given back with a refusal
 abbrev pub disk_left : {D F : Type 0} → Result (JournalState D) (D × F) → D

@@ -1,6 +1,6 @@
 //! A link over a TCP connection of the system.
 
-ghost use Rattle.std.specs.Prelude.{◌≡◌, ◌<◌, ◌≤◌, ◌∷◌, [], false, is_ok, length, IfOk, IsErr, None, OnOk};
+ghost use Rattle.std.specs.Prelude.{◌≡◌, ◌<◌, ◌≤◌, ◌∷◌, [], false, is_ok, IfOk, IsErr, None, OnOk};
 ghost use Rattle.farm_base.specs.Counts.{HasCause, Rose};
 ghost use Rattle.farm_ports.specs.Links.{AddsCalls, Connects, Receives, Sends};
 

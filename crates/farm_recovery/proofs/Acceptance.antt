@@ -1,5 +1,5 @@
 -- Which bytes are accepted next: those of a site first, and then those of an entry that may come next.
-use Rattle.std.proofs.Common.{◌≡◌, ◌∙◌, ℕ, ℤ, Bool, true, false, ◌&&◌, List, [], Some, Result, Ok, Err, ◌≤ℤ◌, IsTrue, is_ok, refl, sym, ap, arith}
+use Rattle.std.proofs.Common.{◌≡◌, ◌∙◌, ℕ, ℤ, true, ◌&&◌, List, [], Some, Result, Ok, Err, ◌≤ℤ◌, IsTrue, is_ok, refl, sym, ap, arith}
 use Rattle.std.specs.Int.RustNames.{int_le}
 use Rattle.std.proofs.lemmas.Bool.{and_parts}
 use Rattle.std.proofs.lemmas.Int.{ints}

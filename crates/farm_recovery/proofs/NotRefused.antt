@@ -10,7 +10,7 @@ use Rattle.farm_history.specs.Encoding.{IsTyped}
 use Rattle.farm_history.specs.History.{History}
 use Rattle.farm_history.specs.Verdicts.{IsNext}
 use Rattle.farm_journal.specs.Recovery.{Accepts, AreAccepted, IsRecordDamaged, after_signature, counted_in}
-use Rattle.farm_journal.proofs.OneReading.{whole_is_not_refused}
+use Rattle.farm_journal.proofs.OneMeaning.{whole_is_not_refused}
 use Rattle.farm_site.specs.Encoding.{site_encoding}
 use Rattle.farm_site.proofs.BytesRead.{PartsAreRead}
 use Rattle.farm_recovery.specs.Accepting.{taken_of}

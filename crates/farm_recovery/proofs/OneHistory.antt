@@ -3,7 +3,7 @@ use Rattle.std.proofs.Common.{◌≡◌, ◌∙◌, ℕ, List, [], ◌∷◌, �
 use Rattle.farm_history.specs.declared.entry.Entry.{Entry}
 use Rattle.farm_history.specs.Encoding.{entry_encoding}
 use Rattle.farm_history.specs.History.{History}
-use Rattle.farm_journal.proofs.OneReading.{one_reading}
+use Rattle.farm_journal.proofs.OneMeaning.{one_meaning}
 use Rattle.farm_site.specs.Decoding.{whole_site}
 use Rattle.farm_site.specs.Encoding.{site_encoding}
 use Rattle.farm_site.proofs.BytesRead.{PartsAreRead}
@@ -27,7 +27,7 @@ same_history laws limit first second is other sites entries =
 pub one_history : PartsAreRead → OneHistory
 one_history laws limit first second bytes is other =
     let same =
-    one_reading (site_encoding first.site) (site_encoding second.site) (entry_encodings first) (entry_encodings second) bytes is.journal other.journal in
+    one_meaning (site_encoding first.site) (site_encoding second.site) (entry_encodings first) (entry_encodings second) bytes is.journal other.journal in
     same_history laws limit first second is.recordable other.recordable same.0 same.1
 
 -- where bytes stand among the bytes of entries: those of the entries before them, and of an entry

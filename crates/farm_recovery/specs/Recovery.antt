@@ -41,7 +41,7 @@ pub record IsDamagedAfter (limit : ℕ) (history : History) (bytes : List ℕ) :
   pub recordable : IsRecordable limit history
   pub damaged : IsEntryDamaged limit history (drop (length (counting_of history)) bytes)
 
--- the entries before a damaged one
+-- a journal is damaged at the entry of a place: it begins as that of the history of the entries before it, and what is due next is damaged
 pub record IsDamagedAtEntry (limit : ℕ) (place : ℕ) (bytes : List ℕ) : Type 0 where
   pub history : History
   pub place_is : place ≡ last_place history + 1

@@ -89,7 +89,7 @@ impl<const LIMIT: usize> Taker for Recovering<LIMIT> {
 
     fn body(&mut self, _place: u32, bytes: &[u8]) -> Taken {
         match &mut self.book {
-            None => Taken::NoMemory,
+            None => unreachable!(),
             Some(book) => entered(book, bytes),
         }
     }

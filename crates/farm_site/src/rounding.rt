@@ -1,10 +1,10 @@
 //! How a site rounds: the rounding table of a site file.
 
-ghost use Rattle.std.specs.Prelude.{◌≡◌, ◌==◌, [], length, map, MatchResult, Ok, IfOk, IfSome, IsTrue};
+ghost use Rattle.std.specs.Prelude.{◌≡◌, ◌==◌, [], map, Ok, IfOk, IfSome, IsTrue};
 ghost use Rattle.std.specs.List.{after_first, before_first, position};
 ghost use Rattle.toml.specs.View.{view};
 ghost use Rattle.farm_rounding.specs.Table.{IsTable, is_row};
-ghost use Rattle.farm_site.specs.Rounding.{half_or_zero, mode_of, row_in, row_of_value, rounding_at, rows_after, step_of, twelve_rows};
+ghost use Rattle.farm_site.specs.Rounding.{half_or_zero, mode_of, row_in, row_of_value, rounding_at, step_of, twelve_rows};
 
 use farm_rounding::{FACTOR_TIES, Mode, ROUNDING_ROWS, RoundTable};
 use site_items::Format;

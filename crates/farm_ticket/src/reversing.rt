@@ -1,6 +1,6 @@
 //! Tickets that reverse another.
 
-ghost use Rattle.std.specs.Prelude.{◌≡◌, option_map, neg_ℤ};
+ghost use Rattle.std.specs.Prelude.{◌≡◌, neg_ℤ};
 ghost use Rattle.farm_ticket.specs.Amounts.{AddsUp};
 ghost use Rattle.farm_ticket.specs.Reversing.{AddUp, SidesAddUp, reversal, reversed_side};
 

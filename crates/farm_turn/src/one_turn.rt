@@ -1,7 +1,6 @@
 //! The steps of one turn, at a seat of the table.
 
 ghost use Rattle.std.specs.Prelude.{◌≡◌, ℕ, ◌+◌, ◌-◌, ◌^◌, ◌<◌, ◌≤◌, true, false, None, Some, IsSome, [], ◌∷◌, length};
-ghost use mathlib.Core.List.{IsPrefix};
 ghost use Rattle.farm_turn.specs.Chronicles.{features, GrowsBy};
 ghost use Rattle.farm_turn.specs.Views.{one};
 ghost use Rattle.farm_turn.specs.Steps.{took, counted, gave, Precedes, Takes};

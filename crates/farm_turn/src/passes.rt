@@ -1,6 +1,6 @@
 //! A pass: with it one caller takes its turns.
 
-ghost use Rattle.std.specs.Prelude.{◌≡◌, ◌≤◌, false, None, Some, [], ◌∷◌};
+ghost use Rattle.std.specs.Prelude.{◌≡◌, ◌≤◌, false, [], ◌∷◌};
 ghost use Rattle.farm_turn.specs.Views.{one, left_of};
 ghost use Rattle.farm_turn.specs.Sharing.{only};
 

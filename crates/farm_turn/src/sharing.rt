@@ -1,6 +1,6 @@
 //! The turn: one value that many callers share.
 
-ghost use Rattle.std.specs.Prelude.{◌≡◌, ◌+◌, ◌<◌, ◌≤◌, None, Some, IsSome, IsOk, IfOk, IfErr, IfSome, IfNone, false, OnOk, OnErr, All, sum_by, [], ◌∷◌, map};
+ghost use Rattle.std.specs.Prelude.{◌≡◌, ◌+◌, ◌<◌, ◌≤◌, None, Some, IsSome, IsOk, IfOk, IfErr, IfSome, IfNone, false, OnOk, OnErr, All, sum_by, [], ◌∷◌};
 ghost use Rattle.farm_turn.specs.Chronicles.{features};
 ghost use Rattle.farm_turn.specs.Views.{number_limit, first_known, left_of, IsLeastLeft, enrolled, without_least, split_off, numbers_of, together};
 ghost use Rattle.farm_turn.specs.Sharing.{Turned, KeepsNumbers, IsClosed, IsSized};

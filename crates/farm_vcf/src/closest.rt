@@ -1,9 +1,9 @@
 //! The nearest of listed quantities, by a binary search.
 
-ghost use Rattle.std.specs.Prelude.{◌≡◌, ◌≤◌, ◌<◌, ◌↔◌, ◌-◌, ◌^◌, length, IsTrue, ◌-ℤ◌, ◌≤ℤ◌};
-ghost use Rattle.std.specs.Int.RustNames.{unsigned_abs, int_lt};
+ghost use Rattle.std.specs.Prelude.{◌≡◌, ◌<◌, ◌↔◌, ◌-◌, length, IsTrue};
+ghost use Rattle.std.specs.Int.RustNames.{unsigned_abs};
 ghost use Rattle.farm_fixed.specs.Range.{distance};
-ghost use Rattle.farm_vcf.specs.Closest.{IsCovered, IsFirstNotBelow, Rises, closest, is_covered, is_taken_over, listed_at, wins_tie};
+ghost use Rattle.farm_vcf.specs.Closest.{IsCovered, IsFirstNotBelow, Rises, closest, is_covered, is_taken_over, wins_tie};
 
 use farm_fixed::{Quantity, Unit};
 use farm_rounding::Mode;

@@ -1,6 +1,6 @@
 //! A grid of factors, and the entry of a density and a temperature.
 
-ghost use Rattle.std.specs.Prelude.{◌≡◌, ◌≤◌, ◌*◌, ◌&&◌, ◌==◌, nat_le, IfSome, MatchResult, None, Ok, Some, IsTrue, length};
+ghost use Rattle.std.specs.Prelude.{◌≡◌, ◌*◌, ◌&&◌, ◌==◌, IfSome, MatchResult, None, Ok, Some};
 ghost use Rattle.std.specs.Result.{OkIff};
 ghost use Rattle.farm_base.specs.Steps.{IsRefusedAs};
 ghost use Rattle.farm_vcf.specs.Faults.{reported};

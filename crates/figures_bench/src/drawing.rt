@@ -39,7 +39,7 @@ impl Draws {
         requires few { count ≤ 1000000001 }
         ensures { IsWithin (pos 0) (pos (10 ^ 9)) result }
     {
-        Litres::new(self.below(count)).unwrap()
+        Litres::in_range(i128::from(self.below(count)))
     }
 }
 

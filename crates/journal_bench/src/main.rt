@@ -1,5 +1,5 @@
-//! Recovers the journal in the file of its word over the program's own disk, with a taker that says Go to each body, and prints how many
-//! bodies it has: what bench/ times beside C.
+//! Recovers the journal in the file that its argument names, over the program's own disk and with a taker of bodies of zeros, and
+//! prints how many bodies it has: what bench/ times beside C.
 #![tactic(auto)]
 
 mod zeros;

@@ -1,6 +1,6 @@
 //! A taker of bodies that are all alike, so that it needs no memory for them.
 
-ghost use Rattle.std.specs.Prelude.{◌≡◌, [], length};
+ghost use Rattle.std.specs.Prelude.{◌≡◌, []};
 ghost use Rattle.journal_bench.specs.Zeros.{accepted, taken_of};
 
 use farm_journal::{MAX_BODIES, Taken, Taker};

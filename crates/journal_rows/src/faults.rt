@@ -26,7 +26,7 @@ fn put_in_vain(journal: &mut Journal<MemDisk>, body: &[u8]) -> Result<(), Fail>
     journal.reserve(body.len())?;
     match journal.put_body(body) {
         Err(DiskFault) => Ok(()),
-        Ok(()) => Err(CreateFault::NotEmpty.into()),
+        Ok(()) => Err("the put didn't fail".into()),
     }
 }
 
@@ -63,10 +63,10 @@ fn keep_at_last(journal: &mut Journal<MemDisk>, body: &[u8]) -> Result<(), Fail>
     journal.reserve(body.len())?;
     journal.put_body(body)?;
     if journal.open_gate().is_ok() {
-        return Err(CreateFault::NotEmpty.into());
+        return Err("the gate opened too early".into());
     }
     if journal.open_gate().is_ok() {
-        return Err(CreateFault::NotEmpty.into());
+        return Err("the gate opened too early".into());
     }
     journal.open_gate()?;
     Ok(())

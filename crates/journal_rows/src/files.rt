@@ -133,11 +133,12 @@ fn reopened<D: Disk + Drop>(alloc: Global, disk: D) -> Result<Journal<D>, Fail>
     ensures one { IfOk result (λ journal. journal.count ≡ 1) }
 {
     let mut listing = Listing::new(alloc);
-    let Ok(journal) = Journal::recover(alloc, disk, &mut listing) else {
-        return Err(RecoverFault::NotJournal.into());
+    let journal = match Journal::recover(alloc, disk, &mut listing) {
+        Ok(journal) => journal,
+        Err((_, fault)) => return Err(fault.into()),
     };
     if listing.taken().len() != 2 {
-        return Err(RecoverFault::NotJournal.into());
+        return Err("the journal hasn't one body".into());
     }
     Ok(journal)
 }

@@ -1,7 +1,7 @@
 //! A taker that keeps what it takes.
 
-ghost use Rattle.std.specs.Prelude.{◌≡◌, ◌≢◌, ◌≤◌, [], length};
-ghost use Rattle.farm_journal.specs.Recovery.{IsJudged, TakesNext};
+ghost use Rattle.std.specs.Prelude.{◌≡◌, ◌≢◌, []};
+ghost use Rattle.farm_journal.specs.Recovery.{TakesNext};
 ghost use Rattle.farm_journal.specs.declared.limits.TheConstants.{MAX_BODIES};
 ghost use Rattle.farm_journal.specs.declared.taker.Taken.TheVariants.{Go};
 ghost use Rattle.journal_rows.specs.Listing.{accepted};

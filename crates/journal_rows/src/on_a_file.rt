@@ -2,7 +2,7 @@
 
 use crate::files::{ONE, TWO, bytes_of, gone_on, keep};
 use farm_disk::FileDisk;
-use farm_journal::{CreateFault, Journal};
+use farm_journal::Journal;
 use row_checks::Checks;
 use std::fs;
 use std::test::Fail;
@@ -14,10 +14,10 @@ fn over<'a>(rt: &'a HostRuntime, path: &str) -> Result<FileDisk<&'a HostRuntime>
 
 // Makes a journal with the body `one` in the file at a path.
 fn begin(rt: &HostRuntime, path: &str) -> Result<(), Fail> {
-    let Ok(mut journal) = Journal::create(rt.alloc(), over(rt, path)?, b"site") else {
-        return Err(CreateFault::DiskFault.into());
-    };
-    keep(&mut journal, b"one")
+    match Journal::create(rt.alloc(), over(rt, path)?, b"site") {
+        Ok(mut journal) => keep(&mut journal, b"one"),
+        Err((_, fault)) => Err(fault.into()),
+    }
 }
 
 #[test]

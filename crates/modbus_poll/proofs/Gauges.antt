@@ -1,5 +1,5 @@
 -- What holds of a gauge that a site may have.
-use Rattle.std.proofs.Common.{◌≡◌, ℕ, ◌+◌, ◌<◌, ◌≤◌, true, false, Bool, ◌&&◌, nat_le, nat_lt, Option, Some, None, negsuc, pos, List, length, get_or, refl, arith}
+use Rattle.std.proofs.Common.{◌≡◌, ℕ, ◌+◌, ◌<◌, ◌≤◌, true, false, Bool, ◌&&◌, nat_le, nat_lt, Option, Some, None, List, length, get_or, refl, arith}
 use Rattle.std.specs.Prelude.{IfSome}
 use Rattle.std.specs.List.{list_all}
 use Rattle.std.proofs.lemmas.Bool.{and_parts, leb-true}
@@ -29,9 +29,9 @@ pub record IsGauge (gauge : GaugeMap) : Type 0 where
 -- a field's factors are in range
 scaled : (quantity : ℕ) (field : Field) → is_field quantity field ≡ true → IsScaled field
 scaled quantity field is =
-    let index : Bool = is_between 1 2 field.words && nat_le (field.offset + field.words) quantity in
-    let a = and_parts (index && is_between 1 1000000 field.mul) (is_between 1 1000000 field.div) is in
-    let b = and_parts index (is_between 1 1000000 field.mul) a.0 in
+    let fits : Bool = is_between 1 2 field.words && nat_le (field.offset + field.words) quantity in
+    let a = and_parts (fits && is_between 1 1000000 field.mul) (is_between 1 1000000 field.div) is in
+    let b = and_parts fits (is_between 1 1000000 field.mul) a.0 in
     let mul = and_parts (nat_le 1 field.mul) (nat_le field.mul 1000000) b.1 in
     let div = and_parts (nat_le 1 field.div) (nat_le field.div 1000000) a.1 in
     record { mul = leb-true field.mul 1000000 mul.1; div_least = leb-true 1 field.div div.0; div_most = leb-true field.div 1000000 div.1 }

@@ -1,5 +1,5 @@
 -- Whether a reading differs enough from the last submitted to be submitted.
-use Rattle.std.specs.Prelude.{◌≡◌, ◌⊎◌, ℕ, ◌≤◌, ◌||◌, nat_le, Bool, true, Option, Some, None, ℤ}
+use Rattle.std.specs.Prelude.{◌≡◌, ◌⊎◌, ◌≤◌, ◌||◌, nat_le, Bool, true, Option, Some, None}
 use Rattle.farm_fixed.specs.Range.{distance}
 use Rattle.modbus_poll.specs.declared.map.GaugeMap.{GaugeMap}
 use Rattle.modbus_poll.specs.declared.raw.Raw.{Raw}

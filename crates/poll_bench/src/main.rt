@@ -1,4 +1,4 @@
-//! Polls a gauge of a device on 127.0.0.1 as often as it is asked to, with the words PORT POLLS, and prints how many polls gave a
+//! Polls a gauge of a device on 127.0.0.1 as often as it is asked to, with the arguments PORT POLLS, and prints how many polls gave a
 //! reading: what bench/ times beside libmodbus.
 #![tactic(auto)]
 
@@ -14,7 +14,7 @@ use std::rt::Env;
 use std::time::Clock;
 use std::{env, io};
 
-// It polls at most so often.
+// The most polls of one run.
 const MOST_POLLS: u32 = 1_000_000;
 
 // The first register, as it is.
@@ -68,7 +68,7 @@ fn polled<R: Net + Clock + Drop>(rt: R, mut poller: Poller, polls: u32) -> u32 {
     polls
 }
 
-// The numbers among the words after the program's name.
+// The numbers among the arguments.
 fn numbers(rt: &(impl Env + AllocGlobal)) -> io::Result<Vec<u32>> {
     let mut numbers = Vec::new(rt.alloc());
     for word in env::args(rt)?.skip(1) {

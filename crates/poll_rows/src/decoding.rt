@@ -79,14 +79,15 @@ fn a_bit_says_whether_a_reading_is_valid(rt: HostRuntime) -> Result<(), Fail> {
         (0, 15, false),
     ];
     for (offset, bit, valid) in cases {
-        if offset < 3 && bit < 16 {
-            let want = if valid {
-                Polled::Value(0, READING)
-            } else {
-                Polled::NotValid(0)
-            };
-            checks.same_at(offset, answer_of(rt.alloc(), with_bit(offset, bit))?, want);
+        if offset >= 3 || bit >= 16 {
+            return Err("no such bit".into());
         }
+        let want = if valid {
+            Polled::Value(0, READING)
+        } else {
+            Polled::NotValid(0)
+        };
+        checks.same_at(offset, answer_of(rt.alloc(), with_bit(offset, bit))?, want);
     }
     Ok(checks.end()?)
 }

@@ -1,6 +1,6 @@
 //! The frames of Modbus TCP, byte by byte.
 
-ghost use Rattle.std.specs.Prelude.{◌≡◌, ◌≤◌, IfSome};
+ghost use Rattle.std.specs.Prelude.{◌≤◌, IfSome};
 ghost use Rattle.modbus_frame.specs.Frames.{IsCut};
 ghost use Rattle.modbus_frame.specs.Requests.{IsExpect};
 

@@ -41,7 +41,7 @@ fn a_wire_gives_its_responses(rt: HostRuntime) -> Result<(), Fail> {
     Ok(checks.end()?)
 }
 
-// The device takes a connection, reads a request, answers, and closes the connection.
+// The device takes a connection, answers, reads a request, and closes the connection.
 fn answer_one(device: &TcpListener, request: &mut [u8]) -> io::Result<usize> {
     let (mut stream, _) = device.accept()?;
     stream.write(b"level")?;

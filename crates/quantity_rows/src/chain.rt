@@ -84,7 +84,7 @@ fn observed_volumes_with_and_without_a_roof(rt: HostRuntime) -> Result<(), Fail>
 }
 
 #[test]
-fn refusals_in_order(rt: HostRuntime) -> Result<(), Fail> {
+fn water_above_level_comes_before_a_negative_volume(rt: HostRuntime) -> Result<(), Fail> {
     let mut checks = Checks::new(&rt);
     let cases = [
         (40_000, 45_000, 0, ChainRule::WaterAboveLevel),

@@ -46,7 +46,7 @@ const FACTORS: &[i64] = &[
 ];
 
 #[test]
-fn the_nearest_listed_factor(rt: HostRuntime) -> Result<(), Fail> {
+fn the_nearest_listed_factor_is_taken(rt: HostRuntime) -> Result<(), Fail> {
     let mut checks = Checks::new(&rt);
     let grid = shared(grid_of(rt.alloc(), DENSITIES, TEMPERATURES, FACTORS)?);
     let cases = [
@@ -131,7 +131,7 @@ fn a_file_is_read(rt: HostRuntime) -> Result<(), Fail> {
 }
 
 #[test]
-fn texts_that_are_no_file(rt: HostRuntime) -> Result<(), Fail> {
+fn a_text_that_is_no_factor_file_is_refused(rt: HostRuntime) -> Result<(), Fail> {
     let mut checks = Checks::new(&rt);
     let cases: [(&[u8], VcfFault); 4] = [
         (b"", VcfFault::NotGrid(1)),

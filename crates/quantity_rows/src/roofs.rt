@@ -88,7 +88,7 @@ fn a_roof_floats_above_its_zone(rt: HostRuntime) -> Result<(), Fail> {
 }
 
 #[test]
-fn refusals_of_a_reading_in_order(rt: HostRuntime) -> Result<(), Fail> {
+fn the_first_refusal_of_a_reading_is_answered(rt: HostRuntime) -> Result<(), Fail> {
     let mut checks = Checks::new(&rt);
     let cases = [
         (1_991, 1_992, 9_000, ChainRule::AboveTable),

@@ -212,7 +212,7 @@ fn faults_are_reported_in_their_order(rt: HostRuntime) -> Result<(), Fail> {
 }
 
 #[test]
-fn limits_of_a_tank(rt: HostRuntime) -> Result<(), Fail> {
+fn values_next_to_the_limits_of_a_strapped_tank(rt: HostRuntime) -> Result<(), Fail> {
     let mut checks = Checks::new(&rt);
     let cases = [
         ([4, 5], 1, Some(StrapFault::TooTall)),

@@ -1,7 +1,7 @@
 //! Callers that append to a shared log, each in a thread.
 
 ghost use Rattle.std.specs.Prelude.{◌≡◌, ◌+◌, ◌<◌, ◌≤◌, ℕ, None, IsSome, All, IfOk, sum_by, length, slice_index_or};
-ghost use Rattle.farm_turn.specs.Views.{number_limit, left_of, numbers_of};
+ghost use Rattle.farm_turn.specs.Views.{left_of, numbers_of};
 ghost use Rattle.shared_log.specs.Callers.{IsCaller, Appends};
 
 use crate::log::{Append, Log};

@@ -1,6 +1,6 @@
 //! A log that many callers append to by turns: how many entries each of them appended, and how many caller numbers a pass has left.
 //!
-//! With the words CALLERS TURNS ROUNDS it only lets CALLERS callers, each in a thread, take TURNS turns with ROUNDS rounds of work each.
+//! With the arguments CALLERS TURNS ROUNDS it only lets CALLERS callers, each in a thread, take TURNS turns with ROUNDS rounds of work each.
 #![tactic(auto)]
 
 mod callers;
@@ -56,7 +56,7 @@ fn print_looks<R: Wait + Print + AllocGlobal>(rt: &R) -> io::Result<()> {
     }
 }
 
-// The numbers among the words after the program's name.
+// The numbers among the arguments.
 fn numbers(rt: &(impl Env + AllocGlobal)) -> io::Result<Vec<u32>> {
     let mut numbers = Vec::new(rt.alloc());
     for word in env::args(rt)?.skip(1) {

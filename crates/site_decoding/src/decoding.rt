@@ -1,7 +1,6 @@
 //! The parts of a site at the front of bytes: its head, its products, its parties, its tanks and its gauge lines. Each call answers
 //! the part and the bytes after it, `BadSite` exactly where the bytes begin with no such part.
 
-ghost use Rattle.std.specs.Prelude.{◌≡◌};
 ghost use Rattle.site_decoding.specs.ByteReaders.{Gives};
 ghost use Rattle.site_decoding.specs.Decoding.{head_at, lines_at, parties_at, products_at, tanks_at};
 

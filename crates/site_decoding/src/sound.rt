@@ -1,6 +1,6 @@
 //! Whether the items that were read may stand in a site.
 
-ghost use Rattle.std.specs.Prelude.{◌≡◌, map, IfErr, IfOk, IsTrue, OnOk, ◌++◌};
+ghost use Rattle.std.specs.Prelude.{◌≡◌, map, IfErr, IfOk};
 ghost use Rattle.std.specs.List.{list_all};
 ghost use Rattle.farm_fixed.specs.Range.{is_within, is_between};
 ghost use Rattle.site_items.specs.Facts.{are_parties, are_products, are_tanks};

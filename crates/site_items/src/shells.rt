@@ -23,7 +23,7 @@ pub fn spec_at(format: Format, keys: &Keys<'_>) -> Result<TankSpec, SiteFault>
     let roof = roof_at(format, keys)?;
     Ok(TankSpec {
         shell,
-        height: Mm::new(height).unwrap(),
+        height: Mm::in_range(i128::from(height)),
         roof,
     })
 }
@@ -90,8 +90,8 @@ fn floating_at(keys: &Keys<'_>) -> Result<Roof, SiteFault>
         return Err(bad(RANGE, keys.item));
     }
     Ok(Roof {
-        mass: Kg::new(mass).unwrap(),
-        low: Mm::new(low).unwrap(),
-        high: Mm::new(high).unwrap(),
+        mass: Kg::in_range(i128::from(mass)),
+        low: Mm::in_range(i128::from(low)),
+        high: Mm::in_range(i128::from(high)),
     })
 }

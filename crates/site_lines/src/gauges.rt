@@ -1,6 +1,6 @@
 //! The gauges of a line: what is asked of the device, and which registers are a tank's level and temperatures.
 
-ghost use Rattle.std.specs.Prelude.{◌≡◌, ◌+◌, ◌++◌, [], nat_le, length, map, codes, MatchResult, IfOk, Ok, IsTrue, IsFalse, IfErr};
+ghost use Rattle.std.specs.Prelude.{◌≡◌, ◌+◌, ◌++◌, [], nat_le, length, map, MatchResult, IfOk, Ok, IsTrue, IsFalse, IfErr};
 ghost use Rattle.std.specs.List.{list_all};
 ghost use Rattle.toml.specs.View.{view};
 ghost use Rattle.farm_fixed.specs.Range.{is_within, is_between};

@@ -65,7 +65,7 @@ fn check_top<R: Print>(checks: &mut Checks<'_, R>, site: &Site) {
     check_rounding(checks, &site.rounding, &rounding);
 }
 
-// Products and parties stand in rising order of number.
+// The products, in rising order of number.
 fn check_products<R: Print>(checks: &mut Checks<'_, R>, products: &[Product]) {
     let wanted = [(11, "Kerosene", 1), (12, "Gas oil", 9)];
     checks.same(products.len(), wanted.len());

@@ -139,7 +139,7 @@ fn bottom_at(alloc: Global, keys: &Keys<'_>) -> Result<Vec<(Mm, i64)>, SiteReadF
     ensures not_the_folders { IfErr result IsNotTheFolders }
 {
     if !keys.has("bottom") {
-        return Ok(vec![in alloc; (Mm::new(0).unwrap(), 0)]?);
+        return Ok(vec![in alloc; (Mm::in_range(0), 0)]?);
     }
     let values = keys.array("bottom")?;
     points_of(alloc, keys.item, values)
@@ -198,7 +198,7 @@ fn length_or_none(keys: &Keys<'_>, key: &str) -> Result<Deci, SiteFault>
     ensures length { result ≡ length_or_none keys.now.item (view keys.now.table.now) key.now }
 {
     if !keys.has(key) {
-        return Ok(Deci::new(0).unwrap());
+        return Ok(Deci::in_range(0));
     }
     length_at(keys, key)
 }
@@ -217,7 +217,7 @@ fn height_at(keys: &Keys<'_>, key: &str) -> Result<Mm, SiteFault>
     ensures height { result ≡ height_at keys.now.item (view keys.now.table.now) key.now }
 {
     let height = keys.whole(key, 0, MOST_HEIGHT)?;
-    Ok(Mm::new(height).unwrap())
+    Ok(Mm::in_range(i128::from(height)))
 }
 
 // A point of a bottom.

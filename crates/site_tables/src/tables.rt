@@ -1,6 +1,6 @@
 //! Capacity tables of a site.
 
-ghost use Rattle.std.specs.Prelude.{◌≡◌, ◌≤◌, ◌+◌, ◌*◌, ◌-◌, ◌^◌, length, pos, MatchResult, Ok, IfErr};
+ghost use Rattle.std.specs.Prelude.{◌≡◌, ◌*◌, ◌-◌, pos, MatchResult, Ok, IfErr};
 ghost use Rattle.std.specs.Ordering.{int_eq};
 ghost use Rattle.csv.specs.Records.{fields_of};
 ghost use Rattle.farm_base.specs.Steps.{IsRefusedAs};

@@ -1,7 +1,6 @@
 //! What is wrong with parts: the faults, and the search for the first, each cause looked for over its whole list.
 
 ghost use Rattle.std.specs.Prelude.{◌≡◌, Some};
-ghost use Rattle.strap_courses.specs.declared.faults.StrapFault.TheVariants.{NoMemory};
 ghost use Rattle.strap_courses.specs.declared.faults.StrapFault.TheVariants as variants;
 ghost use Rattle.strap_courses.specs.Faults.{bad_course, bad_deadwood, bad_point, deducts_too_much, first_fault, follows, found, is_bad_course, is_bad_deadwood, is_bottom_volume, wrong_height};
 
@@ -72,7 +71,7 @@ pub fn first_fault(
     bottom: &[(Mm, i64)],
 ) -> Option<StrapFault>
     ensures first { first_fault (record { courses = courses.now; deadwoods = deadwoods.now; bottom = bottom.now }) ≡ found result }
-    ensures takes_no_memory { ¬ (result ≡ Some NoMemory) }
+    ensures takes_no_memory { ¬ (result ≡ Some variants.NoMemory) }
 {
     if courses.is_empty() {
         return Some(StrapFault::NoCourse);
@@ -169,7 +168,7 @@ fn is_bottom_volume(point: (Mm, i64)) -> bool
 // The fault of courses of this height over a bottom of that.
 fn wrong_height(top: u64, height: u128) -> Option<StrapFault>
     ensures first { wrong_height top height ≡ found result }
-    ensures takes_no_memory { ¬ (result ≡ Some NoMemory) }
+    ensures takes_no_memory { ¬ (result ≡ Some variants.NoMemory) }
 {
     if height < LEAST_HEIGHT || height > MOST_HEIGHT as u128 || height < u128::from(top) {
         return Some(StrapFault::TooTall);

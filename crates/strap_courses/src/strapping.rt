@@ -3,10 +3,10 @@
 ghost use Rattle.std.specs.Prelude.{◌≡◌, ◌≤◌, ◌+◌, ◌*◌, ◌^◌, IfErr, IfOk, IfSome, MatchResult, None, Err, Ok, Some};
 ghost use Rattle.std.specs.Int.RustNames.{unsigned_abs};
 ghost use Rattle.farm_base.specs.Steps.{IsRefusedAs};
-ghost use Rattle.farm_fixed.specs.Range.{IsWithin, IsVolume};
+ghost use Rattle.farm_fixed.specs.Range.{IsVolume};
 ghost use Rattle.farm_fixed.specs.declared.limits.TheConstants.{MOST_HEIGHT};
 ghost use Rattle.strap_courses.specs.declared.faults.StrapFault.TheVariants.{NoMemory};
-ghost use Rattle.strap_courses.specs.Courses.{bottom_height, exact_volume, height_of, last_point};
+ghost use Rattle.strap_courses.specs.Courses.{bottom_height, exact_volume};
 ghost use Rattle.strap_courses.specs.Faults.{HaveFault, IsTank, first_fault, found, reported};
 ghost use Rattle.strap_courses.specs.Rows.{HaveRowFault, IsStrappedTable, row_count, rounded_litres, strapped_row, strapped_rows, wrong_row};
 

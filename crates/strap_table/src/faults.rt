@@ -1,4 +1,5 @@
-//! What is wrong with rows: the faults, and the search for the first, each cause looked for over the whole list.
+//! What is wrong with rows or a level: the faults, and the search for the first of the rows, each cause looked for over the
+//! whole list.
 
 ghost use Rattle.std.specs.Prelude.{◌≡◌, ◌≤◌, length};
 ghost use Rattle.strap_table.specs.Faults.{falling_row, first_fault, first_outside};

@@ -9,6 +9,6 @@ mod interpolation;
 mod table;
 mod tank;
 
-pub use faults::{AboveTable, MOST_ROWS, TableFault};
+pub use faults::{AboveTable, FEWEST_ROWS, MOST_ROWS, TableFault};
 pub use table::CapTable;
 pub use tank::{Roof, TankSpec};

@@ -1,6 +1,5 @@
 //! Plans, and what is named for a tank, at the front of bytes.
 
-ghost use Rattle.std.specs.Prelude.{◌≡◌};
 ghost use Rattle.farm_history.specs.Decoding.{Gives, gauged_at, outside_at, plan_at, second_at, transfer_at};
 
 use super::numbers::{u16_at, u32_at};

@@ -1,6 +1,6 @@
 //! Items that have bytes, and the bytes of lists of them. A buffer has the room before they are put, so that no put fails.
 
-ghost use Rattle.std.specs.Prelude.{◌+◌, ◌*◌, ◌<◌, ◌≤◌, ◌^◌, ◌≡◌, ℕ, List, ◌∷◌, length, All, IfSome};
+ghost use Rattle.std.specs.Prelude.{◌+◌, ◌*◌, ◌<◌, ◌≤◌, ◌^◌, ◌≡◌, ℕ, List, length, All, IfSome};
 ghost use Rattle.std.specs.Int.{w16, w32};
 ghost use Rattle.std.specs.List.{flat_map};
 ghost use Rattle.site_bytes.specs.Buffers.{HasRoom, IsPut};

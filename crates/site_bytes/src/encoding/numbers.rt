@@ -1,6 +1,5 @@
 //! Numbers of lists: densities, temperatures and factors of a product, and the rows of a capacity table.
 
-ghost use Rattle.std.specs.Prelude.{negsuc, pos};
 ghost use Rattle.std.specs.Int.{w16, w32};
 ghost use Rattle.farm_fixed.specs.Range.{IsWithin, IsVolume};
 ghost use Rattle.farm_fixed.specs.declared.limits.TheConstants.{LEAST_DENSITY, LEAST_FACTOR, LEAST_TEMPERATURE, MOST_DENSITY, MOST_FACTOR, MOST_TEMPERATURE};

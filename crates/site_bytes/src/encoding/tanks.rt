@@ -1,6 +1,6 @@
 //! The bytes of tanks, each with its capacity table.
 
-ghost use Rattle.std.specs.Prelude.{◌+◌, ◌*◌, ◌≤◌, ◌≡◌, All, IsTrue, List, ℕ, length, negsuc, pos};
+ghost use Rattle.std.specs.Prelude.{◌+◌, ◌*◌, ◌≤◌, ◌≡◌, All, IsTrue, List, ℕ, length, pos};
 ghost use Rattle.std.specs.Int.{w64};
 ghost use Rattle.farm_fixed.specs.Range.{IsWithin};
 ghost use Rattle.farm_fixed.specs.declared.limits.TheConstants.{LEAST_TEMPERATURE, MOST_COEFFICIENT, MOST_TEMPERATURE};

@@ -1,6 +1,5 @@
 //! Gauge lines at the front of bytes.
 
-ghost use Rattle.std.specs.Prelude.{◌≡◌};
 ghost use Rattle.site_decoding.specs.ByteReaders.{Gives};
 ghost use Rattle.site_decoding.specs.Decoding.{fields_at, flags_at, request_at};
 

@@ -96,7 +96,7 @@ impl Piece for Roof {
     #[tactic(auto, unfolding(crate::specs::Decoding::roof_at, crate::specs::ByteReaders::natural_at))]
     fn read_at(_: Global, bytes: &[u8]) -> Result<(Roof, &[u8]), SiteBytesFault> {
         let (mass, rest) = u32_at(bytes)?;
-        let mass = Kg::new(i64::from(mass)).unwrap();
+        let mass = Kg::in_range(i128::from(mass));
         let (low, rest) = match height_at(rest) {
             Ok(read) => read,
             Err(fault) => return Err(fault),

@@ -18,7 +18,7 @@ loop-rows-preserved g c =
     let record_is = next.record c.if-branch.true in
     let is : g.R.RowOf.read (length c.loop-rows.rows.items) (fields_of c.next.new.fields) ≡ Some c.in-Some.row = search rules in
     record {
-      reading = next.reading c.if-branch.true;
+      at_record = next.at_record c.if-branch.true;
       even = sym (next.even c.if-branch.true) ∙ inv.even;
       rows = rows_on g.R.RowOf.read c.loop-rows.rows.items c.push.new.self.items (left_of c.loop-rows.reader) (left_of c.next.new.reader) (fields_of c.next.new.fields) c.in-Some.row record_is is c.in_ok-push-in-Some.ensures.items ∙ inv.rows;
       all = count_on c.loop-rows.rows.items c.push.new.self.items (left_of c.loop-rows.reader) (left_of c.next.new.reader) (fields_of c.next.new.fields) c.in-Some.row record_is c.in_ok-push-in-Some.ensures.items ∙ inv.all;

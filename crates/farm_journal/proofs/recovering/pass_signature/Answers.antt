@@ -5,7 +5,7 @@ use Rattle.farm_base.specs.Known.{WhereKnown}
 use Rattle.farm_disk.specs.Images.{present}
 use Rattle.farm_journal.specs.Layout.{signature}
 use Rattle.farm_journal.specs.Recovery.{IsNotJournal}
-use Rattle.farm_journal.proofs.Reading.{has_signature_seen, looked_true, no_signature_seen}
+use Rattle.farm_journal.proofs.RecoverySteps.{has_signature_seen, looked_true, no_signature_seen}
 use Rattle.farm_journal.proofs.recovering.pass_signature.Goals as goal
 
 pub returns-then-not-starts_with-clause-refused : goal.returns-then-not-starts_with-clause-refused

@@ -3,7 +3,7 @@ use Rattle.std.proofs.Common.{◌≡◌, ◌⊎◌, ⊎_elim, ℕ, List, [], ◌
 use Rattle.std.specs.Bool.{IsFalse, IsTrue}
 use Rattle.std.specs.List.{All}
 use Rattle.farm_journal.specs.Layout.{IsClosed, IsJournalOf, IsShort, counted, counting, open_records, opening, signature}
-use Rattle.farm_journal.specs.Laws.{OneDamage, OneReading, WholeIsNotRefused}
+use Rattle.farm_journal.specs.Laws.{OneDamage, OneMeaning, WholeIsNotRefused}
 use Rattle.farm_journal.specs.Recovery.{Accepts, AreAccepted, IsDamagedAfter, IsDamagedAt, IsHeaderDamaged, IsNotJournal, IsRecordDamaged}
 use Rattle.farm_journal.specs.Windows.{BeginsWith}
 use Rattle.farm_journal.proofs.Comparing.{IsLonger, closed_not_next, compare, counted_same, counting_begins, damaged_not_next, next_accepted, next_is, next_short, whole_of}
@@ -40,8 +40,8 @@ not_damaged accepts header other bodies others bytes same is damaged short accep
     (next_is header bodies others bytes is (subst (λ header. BeginsWith (counting header others) bytes) (sym same) begins)) damaged
 
 -- bytes are a journal of one header and one list of bodies at most
-pub one_reading : OneReading
-one_reading header other bodies others bytes is other_is =
+pub one_meaning : OneMeaning
+one_meaning header other bodies others bytes is other_is =
     let both = compared header other bodies others bytes is.short_header other_is.short_header is.short_bodies other_is.short_bodies
     is.begins other_is.begins in (
       both.0,
