@@ -4,6 +4,7 @@ ghost use Rattle.std.specs.Prelude.{◌≡◌, pos, ◌≤ℤ◌};
 ghost use Rattle.farm_history.specs.Commands.{IsShortList, IsWellFormedCommand};
 ghost use Rattle.farm_history.specs.History.{IsWellFormed, last_moment};
 
+use crate::commands::{none, one, two};
 use farm_base::NoMemory;
 use farm_book::Book;
 use farm_history::{Command, Entry, Few, Query, Reply, Rule, Verdict};
@@ -11,36 +12,6 @@ use row_checks::{Checks, shared};
 use row_site::row_site;
 use std::alloc::Global;
 use std::test::Fail;
-
-// A list of two numbers, and zeros.
-fn two(first: i64, second: i64) -> Few
-    ensures { IsShortList result }
-{
-    Few {
-        count: 2,
-        values: [first, second, 0, 0, 0, 0, 0, 0],
-    }
-}
-
-// A list of one number, and zeros.
-fn one(number: i64) -> Few
-    ensures { IsShortList result }
-{
-    Few {
-        count: 1,
-        values: [number, 0, 0, 0, 0, 0, 0, 0],
-    }
-}
-
-// A list of no numbers.
-fn none() -> Few
-    ensures { IsShortList result }
-{
-    Few {
-        count: 0,
-        values: [0; 8],
-    }
-}
 
 // A gauge of a tank at these numbers.
 fn gauge(tank: u16, level: i64, water: i64, temperature: i64, ambient: i64) -> Command

@@ -1,13 +1,14 @@
-//! The bytes of entries one by one, and the places of bad bytes.
+//! Entries as bytes one by one, and the offsets of bad bytes.
 
 ghost use Rattle.farm_history.specs.Commands.{IsWellFormedCommand};
 ghost use Rattle.farm_history.specs.History.{IsMoment, IsWellFormed};
 
-use crate::test_entries::{
+use crate::commands::{gauged, none, one, two};
+use crate::entry_bytes::{
     CANCEL, CLOSING, CLOSING_OF_TWO, DIP, GAUGE, LAST, RECEIPT, REVERSE, SAMPLE, SETTLE, STOP,
     TRANSFER,
 };
-use farm_history::{BadEntry, Command, Entry, Few, Gauged, LAST_MOMENT, Plan};
+use farm_history::{BadEntry, Command, Entry, LAST_MOMENT, Plan};
 use farm_ticket::Way;
 use row_checks::{Checks, shared};
 use std::alloc::Global;
@@ -44,13 +45,8 @@ fn check_bytes<R: Print>(
     Ok(())
 }
 
-// A reading and a sample that are named.
-fn gauged(reading: u32, sample: u32) -> Gauged {
-    Gauged { reading, sample }
-}
-
-// The place of the first bad byte.
-fn bad_place(bytes: &[u8]) -> Option<usize> {
+// The offset of the first bad byte.
+fn bad_offset(bytes: &[u8]) -> Option<usize> {
     match Entry::read(bytes) {
         Ok(_) => None,
         Err(bad) => Some(bad.0),
@@ -86,18 +82,9 @@ fn entries_have_their_bytes(rt: HostRuntime) -> Result<(), Fail> {
     let dip = Command::Dip {
         tank: 102,
         outage: false,
-        tapes: Few {
-            count: 2,
-            values: [5_000, 5_000, 0, 0, 0, 0, 0, 0],
-        },
-        water: Few {
-            count: 0,
-            values: [0; 8],
-        },
-        temperatures: Few {
-            count: 1,
-            values: [1_500, 0, 0, 0, 0, 0, 0, 0],
-        },
+        tapes: two(5_000, 5_000),
+        water: none(),
+        temperatures: one(1_500),
         ambient: -50,
     };
     check_bytes(&mut checks, alloc, entry(1, moment, dip), &DIP)?;
@@ -189,16 +176,16 @@ fn a_settlement_has_its_bytes(rt: HostRuntime) -> Result<(), Fail> {
     Ok(checks.end()?)
 }
 
-// The place of the first bad byte of an entry with another byte at an offset.
-fn bad_place_with(entry: &[u8], offset: usize, byte: u8) -> Option<usize> {
+// The offset of the first bad byte of an entry with another byte at an offset.
+fn bad_offset_with(entry: &[u8], offset: usize, byte: u8) -> Option<usize> {
     let mut bytes = [0; 64];
-    for (place, own) in bytes.iter_mut().zip(entry) {
-        *place = *own;
+    for (copy, own) in bytes.iter_mut().zip(entry) {
+        *copy = *own;
     }
-    if let Some(place) = bytes.get_mut(offset) {
-        *place = byte;
+    if let Some(own) = bytes.get_mut(offset) {
+        *own = byte;
     }
-    bad_place(&bytes[..entry.len().min(64)])
+    bad_offset(&bytes[..entry.len().min(64)])
 }
 
 // The same of an entry and one byte more.
@@ -207,13 +194,13 @@ fn bad_offset_of_longer(entry: &[u8]) -> Option<usize> {
     if let Some(front) = longer.get_mut(..entry.len()) {
         front.copy_from_slice(entry);
     }
-    bad_place(&longer[..(entry.len() + 1).min(64)])
+    bad_offset(&longer[..(entry.len() + 1).min(64)])
 }
 
 // The first bytes of an entry are bad where they end.
 fn check_first_bytes<R: Print>(checks: &mut Checks<'_, R>, entry: &[u8]) {
     for length in 0..entry.len() {
-        checks.same_at(length, bad_place(&entry[..length]), Some(length));
+        checks.same_at(length, bad_offset(&entry[..length]), Some(length));
     }
 }
 
@@ -247,8 +234,8 @@ fn a_bad_byte_is_refused_at_its_offset(rt: HostRuntime) -> Result<(), Fail> {
         (&DIP, 46, 9, 46),
     ];
     for (whole, offset, byte, want) in cases {
-        checks.same(bad_place(whole), None);
-        checks.same_at(offset, bad_place_with(whole, offset, byte), Some(want));
+        checks.same(bad_offset(whole), None);
+        checks.same_at(offset, bad_offset_with(whole, offset, byte), Some(want));
     }
     check_first_bytes(&mut checks, &STOP);
     check_first_bytes(&mut checks, &DIP);

@@ -5,7 +5,11 @@
 #[cfg(test)]
 mod book;
 #[cfg(test)]
+mod commands;
+#[cfg(test)]
 mod entries;
+#[cfg(test)]
+mod entry_bytes;
 #[cfg(test)]
 mod movements;
 #[cfg(test)]
@@ -14,7 +18,5 @@ mod pieces;
 mod requests;
 #[cfg(test)]
 mod stocks;
-#[cfg(test)]
-mod test_entries;
 #[cfg(test)]
 mod tickets;

@@ -3,7 +3,8 @@
 ghost use Rattle.std.specs.Prelude.{◌≡◌, IfOk, IsNone, None};
 ghost use Rattle.farm_movement.specs.Closing.{ticket_of};
 
-use farm_fixed::{Fac5, Kg, Litres, Quantities};
+use crate::tickets::figures;
+use farm_fixed::Quantities;
 use farm_movement::{Leg, OpenMove};
 use farm_ticket::{Moved, Side, Ticket, Way};
 use row_checks::{Checks, shared};
@@ -24,21 +25,8 @@ fn ticket_of(
 }
 
 // The figures of a tank with no free water, roof or sediment and water, at the factor 1.
-fn figures(litres: i64, kg: i64) -> Result<Quantities, Fail> {
-    let [volume, none] = [Litres::new(litres)?, Litres::new(0)?];
-    let one = Fac5::new(100_000)?;
-    Ok(Quantities {
-        tov: volume,
-        fw: none,
-        ctsh: one,
-        vcf: one,
-        fra: none,
-        gov: volume,
-        gsv: volume,
-        nsv: volume,
-        swv: none,
-        mass: Kg::new(kg)?,
-    })
+fn figures_of(litres: i64, kg: i64) -> Result<Quantities, Fail> {
+    figures([litres, 100_000, 100_000, litres, litres, kg])
 }
 
 // A leg that was opened on the reading at place 1.
@@ -81,7 +69,7 @@ fn a_receipt_is_closed_with_its_ticket_unless_the_tank_has_less(
     rt: HostRuntime,
 ) -> Result<(), Fail> {
     let mut checks = Checks::new(&rt);
-    let opening = figures(8_000_000, 6_800_000)?;
+    let opening = figures_of(8_000_000, 6_800_000)?;
     let receipt = OpenMove::new(3, 7, shared(leg(101, Way::Inward, opening)), None);
     let cases = [
         (8_925_463, 7_586_644, Some((925_463, 786_644))),
@@ -89,7 +77,7 @@ fn a_receipt_is_closed_with_its_ticket_unless_the_tank_has_less(
         (7_999_999, 6_800_001, None),
     ];
     for (litres, kg, want) in cases {
-        let closing = figures(litres, kg)?;
+        let closing = figures_of(litres, kg)?;
         let answer = ticket_of(receipt, 5, 1, closing);
         let want = match want {
             Some((nsv, mass)) => Ok(received(&opening, &closing, nsv, mass)),
@@ -103,13 +91,13 @@ fn a_receipt_is_closed_with_its_ticket_unless_the_tank_has_less(
 #[test]
 fn both_sides_of_a_transfer_go_their_way(rt: HostRuntime) -> Result<(), Fail> {
     let mut checks = Checks::new(&rt);
-    let [less, more] = [figures(1_000, 850)?, figures(2_000, 1_700)?];
+    let [less, more] = [figures_of(1_000, 850)?, figures_of(2_000, 1_700)?];
     let legs = (leg(101, Way::Outward, more), leg(102, Way::Inward, less));
     let transfer = OpenMove::new(4, 7, legs.0, Some(legs.1));
     let closed = shared(transfer.close(11, 2, less, Some(more)));
     checks.same(closed.map(|closed| closed.tanks()), Ok((101, Some(102))));
     checks.same(
-        transfer.close(11, 2, more, Some(figures(999, 849)?)),
+        transfer.close(11, 2, more, Some(figures_of(999, 849)?)),
         Err(transfer),
     );
     checks.same(shared(transfer.cancel(12)).tanks(), transfer.tanks());

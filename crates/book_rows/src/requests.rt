@@ -1,6 +1,7 @@
 //! Lines of a batch as requests, lines that aren't, and the bodies of answers.
 
-use farm_history::{Ask, Command, Few, Gauged, Plan, Query, Reply, Rule};
+use crate::commands::{gauged, none, two};
+use farm_history::{Ask, Command, Few, Plan, Query, Reply, Rule};
 use farm_http::{LineAsked, Page, body, line};
 use farm_ticket::Way;
 use row_checks::{Checks, shared};
@@ -52,23 +53,12 @@ fn each_command_is_read(rt: HostRuntime) -> Result<(), Fail> {
             count: 8,
             values: [1, 2, 3, 4, 5, 6, 7, 8],
         },
-        water: Few {
-            count: 0,
-            values: [0; 8],
-        },
-        temperatures: Few {
-            count: 2,
-            values: [-15, 20, 0, 0, 0, 0, 0, 0],
-        },
+        water: none(),
+        temperatures: two(-15, 20),
         ambient: 7,
     });
     checks.same(line(alloc, dip.as_bytes()), want);
     Ok(checks.end()?)
-}
-
-// A reading and a sample that are named.
-fn gauged(reading: u32, sample: u32) -> Gauged {
-    Gauged { reading, sample }
 }
 
 #[test]

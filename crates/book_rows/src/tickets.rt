@@ -30,8 +30,8 @@ fn lines_of(alloc: Global, tickets: &[Ticket]) -> Result<Vec<u8>, Fail> {
     Ok(out)
 }
 
-// The figures of a tank with no free water, roof or sediment and water: TOV, CTSH, VCF, GOV, NSV, mass.
-fn figures(of: [i64; 6]) -> Result<Quantities, Fail> {
+/// The figures of a tank with no free water, roof or sediment and water: TOV, CTSH, VCF, GOV, NSV, mass.
+pub fn figures(of: [i64; 6]) -> Result<Quantities, Fail> {
     let [tov, ctsh, vcf, gov, nsv, mass] = of;
     let none = Litres::new(0)?;
     Ok(Quantities {

@@ -11,7 +11,8 @@ use Rattle.calc_input.specs.declared.refusal.Refused.{Refused}
 use Rattle.calc_input.specs.declared.refusal.Cause.TheVariants.{Form}
 use Rattle.calc_input.specs.Lines.{lines_of}
 use Rattle.calc_input.specs.Forms.{as_table, as_volumes, begins_table, form_of, table_input_of, volumes_input_of}
-use Rattle.calc_input.specs.Answer.{answer_of, answer_of_form, earlier_line, figures_of_form, figures_or_refused, last_line, limit, line_of_offset, over_line, refused_at}
+use Rattle.calc_input.specs.declared.answer.TheConstants.{MOST_INPUT_BYTES}
+use Rattle.calc_input.specs.Answer.{answer_of, answer_of_form, earlier_line, figures_of_form, figures_or_refused, last_line, line_of_offset, over_line, refused_at}
 use Rattle.calc_input.specs.RefusedLine.{AreInForm, IsDueIn, IsDueInTable, IsDueInVolumes, IsInForm, IsRefusal, IsRefusedLine, OneRefusedLine}
 use Rattle.calc_input.proofs.Judging.{Judges}
 use Rattle.calc_input.proofs.VolumesForm.{volumes_judged}
@@ -37,16 +38,16 @@ form_judged lines = by (begins_table lines)
     by false = as_volumes_judged lines (volumes_input_of lines) (volumes_judged lines)
 
 -- An input within the limit.
-in_form_within : (bytes : List ℕ) (number : ℕ) → length bytes ≤ limit → IsDueIn (begins_table (lines_of bytes)) (lines_of bytes) number → IsInForm bytes number
+in_form_within : (bytes : List ℕ) (number : ℕ) → length bytes ≤ MOST_INPUT_BYTES → IsDueIn (begins_table (lines_of bytes)) (lines_of bytes) number → IsInForm bytes number
 in_form_within bytes number short due =
-    let whole : take limit bytes ≡ bytes = take_all limit bytes short in
+    let whole : take MOST_INPUT_BYTES bytes ≡ bytes = take_all MOST_INPUT_BYTES bytes short in
     let P : List ℕ → Type 0 = λ front. IsDueIn (begins_table (lines_of front)) (lines_of front) number in
     record { within = λ over. absurd (omega (arith, over, short)); due = subst P (sym whole) due }
 
 -- a line of such an input that is in form is due there
-due_within : (bytes : List ℕ) (number : ℕ) → length bytes ≤ limit → IsInForm bytes number → IsDueIn (begins_table (lines_of bytes)) (lines_of bytes) number
+due_within : (bytes : List ℕ) (number : ℕ) → length bytes ≤ MOST_INPUT_BYTES → IsInForm bytes number → IsDueIn (begins_table (lines_of bytes)) (lines_of bytes) number
 due_within bytes number short line =
-    let whole : take limit bytes ≡ bytes = take_all limit bytes short in
+    let whole : take MOST_INPUT_BYTES bytes ≡ bytes = take_all MOST_INPUT_BYTES bytes short in
     let P : List ℕ → Type 0 = λ front. IsDueIn (begins_table (lines_of front)) (lines_of front) number in
     subst P whole line.due
 
@@ -61,7 +62,7 @@ of_figures bytes line (Ok figures) due = due
 of_figures bytes line (Err rule) due = due
 
 -- a form says that every line is in form, and a fault that its line is the first that is not
-of_form : (bytes : List ℕ) → length bytes ≤ limit → (answer : Result Input ℕ) → Judges (IsDueIn (begins_table (lines_of bytes)) (lines_of bytes)) answer → SaysOfLines bytes (answer_of_form answer)
+of_form : (bytes : List ℕ) → length bytes ≤ MOST_INPUT_BYTES → (answer : Result Input ℕ) → Judges (IsDueIn (begins_table (lines_of bytes)) (lines_of bytes)) answer → SaysOfLines bytes (answer_of_form answer)
 of_form bytes short (Ok form) judged =
     of_figures bytes (last_line form) (figures_of_form form) (λ number from_one. in_form_within bytes number short (judged number from_one))
 of_form bytes short (Err number) judged = record {
@@ -71,19 +72,19 @@ of_form bytes short (Err number) judged = record {
 }
 
 -- An input over the limit: the line of the first byte over it, or an earlier one that isn't due.
-of_over : (bytes : List ℕ) → limit < length bytes → (answer : Result Input ℕ) → Judges (IsDueIn (begins_table (lines_of (take limit bytes))) (lines_of (take limit bytes))) answer →
-    IsRefusedLine bytes (earlier_line (line_of_offset limit bytes) answer)
+of_over : (bytes : List ℕ) → MOST_INPUT_BYTES < length bytes → (answer : Result Input ℕ) → Judges (IsDueIn (begins_table (lines_of (take MOST_INPUT_BYTES bytes))) (lines_of (take MOST_INPUT_BYTES bytes))) answer →
+    IsRefusedLine bytes (earlier_line (line_of_offset MOST_INPUT_BYTES bytes) answer)
 of_over bytes over (Ok form) judged = record {
   from_one = omega arith;
   before = λ earlier from_one less. record { within = λ _. less; due = judged earlier from_one };
   here = λ line. absurd (omega (arith, line.within over));
 }
-of_over bytes over (Err number) judged = by (nat_lt number (line_of_offset limit bytes)) refl
+of_over bytes over (Err number) judged = by (nat_lt number (line_of_offset MOST_INPUT_BYTES bytes)) refl
   where
-    by : (b : Bool) → nat_lt number (line_of_offset limit bytes) ≡ b → IsRefusedLine bytes (min number (line_of_offset limit bytes))
+    by : (b : Bool) → nat_lt number (line_of_offset MOST_INPUT_BYTES bytes) ≡ b → IsRefusedLine bytes (min number (line_of_offset MOST_INPUT_BYTES bytes))
     by true e =
-        let less : number < line_of_offset limit bytes = grind (arith, nat_tests) in
-        let least : min number (line_of_offset limit bytes) ≡ number = omega arith in
+        let less : number < line_of_offset MOST_INPUT_BYTES bytes = grind (arith, nat_tests) in
+        let least : min number (line_of_offset MOST_INPUT_BYTES bytes) ≡ number = omega arith in
         let P : ℕ → Type 0 = λ n. IsRefusedLine bytes n in
         subst P (sym least) (record {
           from_one = judged.from_one;
@@ -91,8 +92,8 @@ of_over bytes over (Err number) judged = by (nat_lt number (line_of_offset limit
           here = λ line. judged.here line.due;
         })
     by false e =
-        let more : line_of_offset limit bytes ≤ number = grind (arith, nat_tests) in
-        let least : min number (line_of_offset limit bytes) ≡ line_of_offset limit bytes = omega arith in
+        let more : line_of_offset MOST_INPUT_BYTES bytes ≤ number = grind (arith, nat_tests) in
+        let least : min number (line_of_offset MOST_INPUT_BYTES bytes) ≡ line_of_offset MOST_INPUT_BYTES bytes = omega arith in
         let P : ℕ → Type 0 = λ n. IsRefusedLine bytes n in
         subst P (sym least) (record {
           from_one = omega arith;
@@ -103,12 +104,12 @@ of_over bytes over (Err number) judged = by (nat_lt number (line_of_offset limit
 -- so says the answer of every input, also of one above the limit
 says_of_lines : (bytes : List ℕ) → SaysOfLines bytes (answer_of bytes)
 unfolding answer_of over_line
-says_of_lines bytes = by (nat_lt limit (length bytes)) refl
+says_of_lines bytes = by (nat_lt MOST_INPUT_BYTES (length bytes)) refl
   where
-    by : (b : Bool) → nat_lt limit (length bytes) ≡ b →
+    by : (b : Bool) → nat_lt MOST_INPUT_BYTES (length bytes) ≡ b →
         SaysOfLines bytes (cond b (Err (refused_at (over_line bytes) Form)) (answer_of_form (form_of (lines_of bytes))))
-    by true e = let over : limit < length bytes = grind (arith, nat_tests) in of_over bytes over (form_of (lines_of (take limit bytes))) (form_judged (lines_of (take limit bytes)))
-    by false e = let short : length bytes ≤ limit = grind (arith, nat_tests) in of_form bytes short (form_of (lines_of bytes)) (form_judged (lines_of bytes))
+    by true e = let over : MOST_INPUT_BYTES < length bytes = grind (arith, nat_tests) in of_over bytes over (form_of (lines_of (take MOST_INPUT_BYTES bytes))) (form_judged (lines_of (take MOST_INPUT_BYTES bytes)))
+    by false e = let short : length bytes ≤ MOST_INPUT_BYTES = grind (arith, nat_tests) in of_form bytes short (form_of (lines_of bytes)) (form_judged (lines_of bytes))
 
 -- an input that has figures has each line in form
 pub figures_in_form : (bytes : List ℕ) (figures : Quantities) → answer_of bytes ≡ Ok figures → AreInForm bytes

@@ -3,7 +3,7 @@ use Rattle.std.specs.Prelude.{ℕ, ◌+◌, Bool, if◌then◌else◌, List, [],
 use Rattle.std.specs.Str.{bytes_eq}
 use Rattle.farm_base.specs.Steps.{◌>>=◌, or_fault}
 use Rattle.farm_vcf.specs.declared.grid.TheConstants.{MOST_FACTORS}
-use Rattle.strap_table.specs.declared.faults.TheConstants.{MOST_ROWS}
+use Rattle.strap_table.specs.declared.faults.TheConstants.{FEWEST_ROWS, MOST_ROWS}
 use Rattle.calc_input.specs.declared.volumes_line.Volumes.{Volumes}
 use Rattle.calc_input.specs.declared.forms.TableInput.{TableInput}
 use Rattle.calc_input.specs.declared.forms.Input.{Input}
@@ -24,7 +24,7 @@ refused_line (Line number) = Some number
 
 -- the number of volumes that the first line gives
 abbrev pub volume_count : List (List ℕ) → Option ℕ
-volume_count lines = counted (codes "table") 2 MOST_ROWS (words_of (line_at lines 0))
+volume_count lines = counted (codes "table") FEWEST_ROWS MOST_ROWS (words_of (line_at lines 0))
 
 -- the number of factors that the line after the volumes gives
 abbrev pub factor_count : ℕ → List (List ℕ) → Option ℕ

@@ -1,7 +1,6 @@
 //! From the bytes of an input to its ten figures, or to the refusal.
 
 ghost use Rattle.std.specs.Prelude.{◌≡◌, ◌≤◌, length, pos, Ok, Err, IfOk, IfSome, MatchResult};
-ghost use Rattle.farm_base.specs.Steps.{IsRefusedAs};
 ghost use Rattle.farm_fixed.specs.Range.{IsWithin};
 ghost use Rattle.farm_rounding.specs.Table.{usual_rows};
 ghost use Rattle.farm_chain.specs.Reading.{IsFloatingRoof, calculated_quantities};
@@ -10,7 +9,7 @@ ghost use Rattle.calc_input.specs.declared.answer.Unanswered.TheVariants as vari
 ghost use Rattle.calc_input.specs.VolumesLine.{IsCalculable};
 ghost use Rattle.calc_input.specs.LevelsLine.{IsGauged};
 ghost use Rattle.calc_input.specs.Forms.{CanBeCalculated};
-ghost use Rattle.calc_input.specs.Answer.{FrontDecides, answer_of, figures_of_form, figures_of_volumes, figures_or_refused, last_line, limit, over_line, roof_on, tank_of};
+ghost use Rattle.calc_input.specs.Answer.{FrontDecides, answer_of, figures_of_form, figures_of_volumes, figures_or_refused, last_line, over_line, roof_on, tank_of};
 ghost use Rattle.calc_input.specs.RefusedLine.{AreInForm, IsRefusal, OneRefusedLine};
 
 use crate::fault::FormFault;
@@ -19,14 +18,15 @@ use crate::levels_line::Levels;
 use crate::lines::line_feeds;
 use crate::volumes_line::Volumes;
 use crate::{Cause, Refused};
+use farm_base::NoMemory;
 use farm_chain::{figures, quantities};
-use farm_fixed::{ChainRule, MOST_COEFFICIENT, Mm, NoMemory, Quantities};
+use farm_fixed::{ChainRule, MOST_COEFFICIENT, Mm, Quantities};
 use farm_rounding::RoundTable;
 use std::alloc::{AllocError, Global};
 use strap_table::{Roof, TankSpec};
 
 /// An input has at most this many bytes.
-pub const LIMIT: usize = 1_048_576;
+pub const MOST_INPUT_BYTES: usize = 1_048_576;
 
 /// Why there are no figures.
 #[derive(Clone, Copy, Debug, PartialEq, Eq)]
@@ -78,7 +78,7 @@ fn answer_of(alloc: Global, bytes: &[u8]) -> Result<Quantities, Unanswered>
     ensures figures { IfOk result (λ figures. answer_of bytes.now ≡ Ok figures) }
     ensures refused { (why : Refused) → result ≡ Err (Unanswered.Refused why) → answer_of bytes.now ≡ Err why }
 {
-    if bytes.len() > LIMIT {
+    if bytes.len() > MOST_INPUT_BYTES {
         let line = over_line(alloc, bytes)?;
         return Err(refused_at(line, Cause::Form));
     }
@@ -114,10 +114,10 @@ fn last_line(input: &Input) -> usize
 // Where an input over the limit is refused: at the line of the first byte over it, or at one before that is out of form.
 #[tactic(auto, unfolding(crate::specs::Answer::over_line))]
 fn over_line(alloc: Global, bytes: &[u8]) -> Result<usize, Unanswered>
-    requires { limit ≤ length bytes.now }
+    requires { MOST_INPUT_BYTES ≤ length bytes.now }
     ensures { MatchResult result (λ line. line ≡ over_line bytes.now) (λ fault. fault ≡ variants.NoMemory) }
 {
-    let front = &bytes[..LIMIT];
+    let front = &bytes[..MOST_INPUT_BYTES];
     let over = line_feeds(front) + 1;
     match Input::of_bytes(alloc, front) {
         Ok(_) => Ok(over),
@@ -164,7 +164,7 @@ fn tank_of(levels: &Levels) -> TankSpec
 {
     TankSpec {
         shell: levels.shell,
-        height: Mm::new(0).unwrap(),
+        height: Mm::in_range(0),
         roof: roof_on(levels.roof),
     }
 }

@@ -3,17 +3,18 @@
 ghost use Rattle.std.specs.Prelude.{◌≡◌, ℕ, ◌+◌, ◌<◌, ◌≤◌, List, drop, length, IfOk, MatchResult, Some, None, Ok, true, false};
 ghost use Rattle.farm_base.specs.Steps.{IsRefusedAs};
 ghost use Rattle.farm_vcf.specs.declared.grid.TheConstants.{MOST_FACTORS};
+ghost use Rattle.strap_table.specs.declared.faults.TheConstants.{MOST_ROWS};
 ghost use Rattle.calc_input.specs.FactorRows.{grid_from, grown_line, listed_of};
 ghost use Rattle.calc_input.specs.Forms.{refused_line};
 
 use crate::fault::FormFault;
 use crate::lines::{Lines, first_field};
-use farm_fixed::NoMemory;
+use farm_base::NoMemory;
 use farm_vcf::{Growing, Listed, Vcf, row_of_fields};
 use std::alloc::Global;
 
-/// The grid of the next `count` lines, after the first `first` ones.
-pub fn grid_from(
+// The grid of the next `count` lines, after the first `first` ones.
+pub(crate) fn grid_from(
     alloc: Global,
     count: usize,
     first: usize,
@@ -21,7 +22,7 @@ pub fn grid_from(
 ) -> Result<Vcf, FormFault>
     requires some { 0 < count }
     requires count { count ≤ MOST_FACTORS }
-    requires first { first ≤ 5003 }
+    requires first { first ≤ MOST_ROWS + 2 }
     ensures grid { (all : List (List ℕ)) → lines.old ≡ drop first all → MatchResult result (λ grid. grid_from count first all ≡ Ok grid)
         (λ fault. IsRefusedAs (refused_line fault) (grid_from count first all)) }
     ensures rest { IfOk result (λ _. lines.new ≡ drop count lines.old) }
@@ -31,7 +32,7 @@ pub fn grid_from(
     };
     let mut growing = Growing::begin(alloc, row, count)?;
     for index in 1..count {
-        if !goes_on(&mut growing, lines.due())? {
+        if !push_line(&mut growing, lines.due())? {
             return Err(FormFault::Line(first + index + 1));
         }
     }
@@ -41,8 +42,8 @@ pub fn grid_from(
     }
 }
 
-// Takes the row that a line is, and says whether it is one that goes on with the rows before.
-fn goes_on(growing: &mut Growing, line: &[u8]) -> Result<bool, NoMemory>
+// Takes the row that a line is. False where it is none, or doesn't go on with the rows before.
+fn push_line(growing: &mut Growing, line: &[u8]) -> Result<bool, NoMemory>
     ensures on { result ≡ Ok true → grown_line growing.old (listed_of line.now) ≡ Some growing.new }
     ensures off { result ≡ Ok false → grown_line growing.old (listed_of line.now) ≡ None }
     ensures counted { result ≡ Ok true → length growing.new.factors ≡ length growing.old.factors + 1 }

@@ -3,7 +3,7 @@
 ghost use Rattle.std.specs.Prelude.{◌≡◌};
 ghost use Rattle.calc_input.specs.declared.fault.FormFault.TheVariants as variants;
 
-use farm_fixed::NoMemory;
+use farm_base::NoMemory;
 use std::alloc::{AllocError, AllocFailed};
 
 /// Why there is no form to calculate with.

@@ -16,7 +16,7 @@ use crate::table_rows::{counted, rows_of};
 use crate::volumes_line::Volumes;
 use farm_vcf::{MOST_FACTORS, Vcf};
 use std::alloc::{AllocError, Global};
-use strap_table::{CapTable, MOST_ROWS};
+use strap_table::{CapTable, FEWEST_ROWS, MOST_ROWS};
 
 /// The form `table`: levels of a tank, with its capacity table and its factors.
 #[derive(Debug, Drop)]
@@ -41,9 +41,9 @@ pub enum Input {
 }
 
 impl Input {
-    /// The form of an input, by the name that its first line begins with, or the first line that isn't in form.
+    // The form of an input, by the name that its first line begins with, or the first line that isn't in form.
     #[tactic(auto, unfolding(crate::specs::Forms::form_of))]
-    pub fn of_bytes(alloc: Global, bytes: &[u8]) -> Result<Input, FormFault>
+    pub(crate) fn of_bytes(alloc: Global, bytes: &[u8]) -> Result<Input, FormFault>
         ensures form { MatchResult result (λ form. form_of (lines_of bytes.now) ≡ Ok form)
             (λ fault. IsRefusedAs (refused_line fault) (form_of (lines_of bytes.now))) }
         ensures ranges { IfOk result CanBeCalculated }
@@ -52,7 +52,7 @@ impl Input {
         if begins_table(alloc, bytes)? {
             Ok(Input::Table(TableInput::of_lines(alloc, &mut lines)?))
         } else {
-            Ok(Input::Observed(volumes_of(alloc, &mut lines)?))
+            Ok(Input::Observed(volumes_input_of(alloc, &mut lines)?))
         }
     }
 }
@@ -65,7 +65,14 @@ impl TableInput {
             (λ fault. IsRefusedAs (refused_line fault) (table_input_of lines.old)) }
         ensures ranges { IfOk result (λ input. IsGauged input.levels) }
     {
-        let count = count_due(alloc, lines.due(), 1, b"table", 2, MOST_ROWS as u128)?;
+        let count = count_due(
+            alloc,
+            lines.due(),
+            1,
+            b"table",
+            FEWEST_ROWS as u128,
+            MOST_ROWS as u128,
+        )?;
         let table = table_of(alloc, count, lines)?;
         let many = count_due(
             alloc,
@@ -103,7 +110,7 @@ fn begins_table(alloc: Global, bytes: &[u8]) -> Result<bool, AllocError>
 
 // What the one line of observed volumes says, or the first line that isn't in form.
 #[tactic(auto, unfolding(crate::specs::Forms::volumes_input_of))]
-fn volumes_of(alloc: Global, lines: &mut Lines<'_>) -> Result<Volumes, FormFault>
+fn volumes_input_of(alloc: Global, lines: &mut Lines<'_>) -> Result<Volumes, FormFault>
     ensures form { MatchResult result (λ volumes. volumes_input_of lines.old ≡ Ok volumes)
         (λ fault. IsRefusedAs (refused_line fault) (volumes_input_of lines.old)) }
     ensures ranges { IfOk result IsCalculable }
@@ -142,7 +149,7 @@ fn count_due(
 
 // The capacity table of `count` lines after the first.
 fn table_of(alloc: Global, count: usize, lines: &mut Lines<'_>) -> Result<CapTable, FormFault>
-    requires least { 2 ≤ count }
+    requires least { FEWEST_ROWS ≤ count }
     requires most { count ≤ MOST_ROWS }
     ensures rows { (all : List (List ℕ)) → lines.old ≡ drop 1 all → MatchResult result (λ table. rows_from count 1 (pos 0) all ≡ Ok table)
         (λ fault. IsRefusedAs (refused_line fault) (rows_from count 1 (pos 0) all)) }
@@ -167,7 +174,7 @@ fn levels_due(alloc: Global, line: &[u8], number: usize) -> Result<Levels, FormF
 
 // The number of the first line that isn't blank, after the line with the number `last`.
 fn first_used(lines: &mut Lines<'_>, last: usize) -> Option<usize>
-    requires last { last ≤ 200000 }
+    requires last { last ≤ MOST_ROWS + MOST_FACTORS + 3 }
     requires few { length lines.old ≤ 2 ^ 63 }
     ensures { result ≡ first_used (last + 1) lines.old }
 {

@@ -23,9 +23,9 @@ pub struct Levels {
 }
 
 impl Levels {
-    /// What the words of a line say, `None` where they aren't in the form.
+    // What the words of a line say, `None` where they aren't in the form.
     #[tactic(auto, unfolding(crate::specs::LevelsLine::levels_of))]
-    pub fn of_words(words: &[&[u8]]) -> Option<Levels>
+    pub(crate) fn of_words(words: &[&[u8]]) -> Option<Levels>
         ensures value { result ≡ levels_of (map (λ word. word.now) words.now) }
         ensures ranges { IfSome result IsGauged }
     {

@@ -16,5 +16,5 @@ mod refusal;
 mod table_rows;
 mod volumes_line;
 
-pub use answer::{LIMIT, Unanswered, figures_of_input, laws};
+pub use answer::{MOST_INPUT_BYTES, Unanswered, figures_of_input, laws};
 pub use refusal::{Cause, Refused};

@@ -28,15 +28,15 @@ impl<'a> Model for Lines<'a> {
 }
 
 impl<'a> Lines<'a> {
-    /// The lines of an input.
-    pub fn new(bytes: &'a [u8]) -> Lines<'a>
+    // The lines of an input.
+    pub(crate) fn new(bytes: &'a [u8]) -> Lines<'a>
         ensures { result ≡ lines_of bytes.now }
     {
         Lines { rest: Some(bytes) }
     }
 
-    /// The next line; an empty one where no line is left.
-    pub fn due(&mut self) -> &'a [u8]
+    // The next line; an empty one where no line is left.
+    pub(crate) fn due(&mut self) -> &'a [u8]
         ensures line { result.now ≡ line_at self.old 0 }
         ensures rest { self.new ≡ drop 1 self.old }
         ensures few { length self.new ≤ 2 ^ 63 }
@@ -44,8 +44,8 @@ impl<'a> Lines<'a> {
         self.next().unwrap_or(&[])
     }
 
-    /// The next line; `None` where no line is left.
-    pub fn next(&mut self) -> Option<&'a [u8]>
+    // The next line; `None` where no line is left.
+    pub(crate) fn next(&mut self) -> Option<&'a [u8]>
         ensures line { MatchOption result (self.old ≡ []) (λ line. self.old ≡ line.now ∷ self.new) }
         ensures rest { self.new ≡ drop 1 self.old }
         ensures few { length self.new ≤ 2 ^ 63 }
@@ -56,9 +56,9 @@ impl<'a> Lines<'a> {
     }
 }
 
-/// The words of a line, separated by one or more blanks.
+// The words of a line, separated by one or more blanks.
 #[tactic(auto, unfolding(crate::specs::Lines::words_of))]
-pub fn words_of(alloc: Global, line: &[u8]) -> Result<Vec<&[u8]>, AllocError>
+pub(crate) fn words_of(alloc: Global, line: &[u8]) -> Result<Vec<&[u8]>, AllocError>
     ensures { IfOk result (λ words. map (λ word. word.now) words.items ≡ words_of line.now) }
 {
     line.split(|byte| is_blank(*byte))
@@ -66,9 +66,9 @@ pub fn words_of(alloc: Global, line: &[u8]) -> Result<Vec<&[u8]>, AllocError>
         .collect(alloc)
 }
 
-/// What stands before the first comma and what stands after it; `None` where there is no comma. Fields are short, so that a
-/// search byte by byte is the quicker one.
-pub fn first_field(bytes: &[u8]) -> Option<(&[u8], &[u8])>
+// What stands before the first comma and what stands after it; `None` where there is no comma. Fields are short, so that a
+// search byte by byte is the quicker one.
+pub(crate) fn first_field(bytes: &[u8]) -> Option<(&[u8], &[u8])>
     ensures parts { MatchOption result (parts_at 44 bytes.now ≡ bytes.now ∷ []) (λ parts. parts_at 44 bytes.now ≡ parts.0.now ∷ parts_at 44 parts.1.now) }
     ensures shorter { IfSome result (λ parts. length parts.1.now < length bytes.now) }
 {
@@ -114,8 +114,8 @@ fn line_feed(bytes: &[u8]) -> Option<usize>
     memchr(b'\n', bytes)
 }
 
-/// The number of line feeds.
-pub fn line_feeds(bytes: &[u8]) -> usize
+// The number of line feeds.
+pub(crate) fn line_feeds(bytes: &[u8]) -> usize
     ensures count { result ≡ count_by (λ byte. byte == 10) bytes.now }
     ensures within { result ≤ length bytes.now }
 {
@@ -132,8 +132,8 @@ fn without_return(line: &[u8]) -> &[u8]
     }
 }
 
-/// Whether a line has blanks alone.
-pub fn is_blank_line(line: &[u8]) -> bool
+// Whether a line has blanks alone.
+pub(crate) fn is_blank_line(line: &[u8]) -> bool
     ensures { result ≡ is_blank_line line.now }
 {
     for byte in line {

@@ -15,8 +15,8 @@ use farm_base::is_blank;
 use farm_fixed::Litres;
 use std::alloc::Global;
 
-/// A count in a range, after its name.
-pub fn counted(words: &[&[u8]], name: &[u8], least: u128, most: u128) -> Option<u128>
+// A count in a range, after its name.
+pub(crate) fn counted(words: &[&[u8]], name: &[u8], least: u128, most: u128) -> Option<u128>
     ensures value { result ≡ counted name.now least most (map (λ word. word.now) words.now) }
     ensures least { IfSome result (λ count. least ≤ count) }
     ensures most { IfSome result (λ count. count ≤ most) }
@@ -34,15 +34,19 @@ pub fn counted(words: &[&[u8]], name: &[u8], least: u128, most: u128) -> Option<
     Some(count)
 }
 
-/// The volumes of a capacity table: this many lines after the first.
-pub fn rows_of(alloc: Global, count: usize, lines: &mut Lines<'_>) -> Result<Vec<i64>, FormFault>
+// The volumes of a capacity table: this many lines after the first.
+pub(crate) fn rows_of(
+    alloc: Global,
+    count: usize,
+    lines: &mut Lines<'_>,
+) -> Result<Vec<i64>, FormFault>
     requires { count ≤ MOST_ROWS }
     ensures rows { (all : List (List ℕ)) → lines.old ≡ drop 1 all → MatchResult result (λ rows. rows_from count 1 (pos 0) all ≡ Ok rows.items)
         (λ fault. IsRefusedAs (refused_line fault) (rows_from count 1 (pos 0) all)) }
     ensures rest { IfOk result (λ _. lines.new ≡ drop count lines.old) }
 {
     let mut rows = Vec::with_capacity(alloc, count)?;
-    let mut before = Litres::new(0).unwrap();
+    let mut before = Litres::in_range(0);
     for index in 0..count {
         match row_of(before, lines.due()) {
             Some(row) => {

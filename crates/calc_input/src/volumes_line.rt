@@ -30,9 +30,9 @@ pub struct Volumes {
 }
 
 impl Volumes {
-    /// What the words of a line say, `None` where they aren't in the form.
+    // What the words of a line say, `None` where they aren't in the form.
     #[tactic(auto, unfolding(crate::specs::VolumesLine::volumes_of))]
-    pub fn of_words(words: &[&[u8]]) -> Option<Volumes>
+    pub(crate) fn of_words(words: &[&[u8]]) -> Option<Volumes>
         ensures value { result ≡ volumes_of (map (λ word. word.now) words.now) }
         ensures ranges { IfSome result IsCalculable }
     {

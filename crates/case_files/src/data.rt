@@ -5,20 +5,23 @@ use farm_ports::{Folder, PortFault};
 use std::alloc::Global;
 use toml::Table;
 
-// A file of the folder of the cases has at most this many bytes that are read.
+// A file of the folder of the cases has at most this many bytes.
 const LONGEST_FILE: usize = 16_777_216;
 
 /// The bytes of a file.
 pub fn read_file<F: Folder>(alloc: Global, data: &mut F, name: &str) -> Result<Vec<u8>, CaseFault> {
-    match data.read(alloc, name, LONGEST_FILE) {
+    match data.read(alloc, name, LONGEST_FILE + 1) {
+        Ok(bytes) if bytes.len() > LONGEST_FILE => {
+            Err(CaseFault::TooLong(String::from_str(alloc, name)?))
+        }
         Ok(bytes) => Ok(bytes),
         Err(PortFault::Failed) => Err(CaseFault::Unread(String::from_str(alloc, name)?)),
-        Err(PortFault::NoMemory) => Err(CaseFault::Memory),
+        Err(PortFault::NoMemory) => Err(CaseFault::NoMemory),
     }
 }
 
 /// The table that a TOML file is.
 pub fn read_table<F: Folder>(alloc: Global, data: &mut F, name: &str) -> Result<Table, CaseFault> {
     let bytes = read_file(alloc, data, name)?;
-    toml::table_from_slice(alloc, &bytes).map_err(CaseFault::Form)
+    Ok(toml::table_from_slice(alloc, &bytes)?)
 }

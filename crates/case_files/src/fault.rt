@@ -10,6 +10,9 @@ pub enum CaseFault {
     /// A file of the folder of the cases can't be read.
     #[error("the file {0} can't be read")]
     Unread(String),
+    /// A file of the folder of the cases is too long.
+    #[error("the file {0} has more than 16777216 bytes")]
+    TooLong(String),
     /// The file isn't TOML.
     #[error("{0}")]
     Form(toml::de::Error),
@@ -31,25 +34,35 @@ pub enum CaseFault {
     /// A text to be replaced doesn't stand once in its file.
     #[error("the text to be replaced doesn't stand once in its file: {0:?}")]
     NotOnce(String),
-    /// There was no memory.
+    /// The call is out of memory.
     #[error("no memory")]
-    Memory,
+    NoMemory,
 }
 
 impl From<NoMemory> for CaseFault {
     fn from(_: NoMemory) -> Self {
-        CaseFault::Memory
+        CaseFault::NoMemory
+    }
+}
+
+impl From<toml::de::Error> for CaseFault {
+    fn from(error: toml::de::Error) -> Self {
+        if error.is_memory() {
+            CaseFault::NoMemory
+        } else {
+            CaseFault::Form(error)
+        }
     }
 }
 
 impl From<AllocError> for CaseFault {
     fn from(_: AllocError) -> Self {
-        CaseFault::Memory
+        CaseFault::NoMemory
     }
 }
 
 impl<T: Drop> From<AllocFailed<T>> for CaseFault {
     fn from(_: AllocFailed<T>) -> Self {
-        CaseFault::Memory
+        CaseFault::NoMemory
     }
 }

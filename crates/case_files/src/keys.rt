@@ -91,8 +91,8 @@ impl<'a> Keys<'a> {
 
     /// The whole number at a key, where it isn't below 0.
     pub fn natural(&self, key: &str) -> Result<Option<u64>, CaseFault> {
-        match self.integer(key)? {
-            Some(number) => self.typed(key, u64::try_from(number).ok()),
+        match self.value(key) {
+            Some(value) => self.typed(key, natural_of(value)),
             None => Ok(None),
         }
     }
@@ -156,11 +156,16 @@ pub fn numbers_of(alloc: Global, name: &str, values: &[Value]) -> Result<Vec<u64
     Ok(numbers)
 }
 
+// The whole number that a value is, where it isn't below 0.
+fn natural_of(value: &Value) -> Option<u64> {
+    u64::try_from(value.as_integer()?).ok()
+}
+
 // The whole number, not below 0, that a value is; `name` says what it is.
 fn number_of(alloc: Global, name: &str, value: &Value) -> Result<u64, CaseFault> {
-    match value.as_integer() {
-        Some(number) if number >= 0 => Ok(number as u64),
-        _ => Err(wrong_type(alloc, name)),
+    match natural_of(value) {
+        Some(number) => Ok(number),
+        None => Err(wrong_type(alloc, name)),
     }
 }
 
@@ -168,6 +173,6 @@ fn number_of(alloc: Global, name: &str, value: &Value) -> Result<u64, CaseFault>
 pub fn wrong_type(alloc: Global, key: &str) -> CaseFault {
     match String::from_str(alloc, key) {
         Ok(key) => CaseFault::WrongType(key),
-        Err(_) => CaseFault::Memory,
+        Err(_) => CaseFault::NoMemory,
     }
 }

@@ -11,9 +11,13 @@ use std::alloc::Global;
 /// The clock, the output, the input and the folder of a run.
 #[derive(Drop)]
 pub struct Ports {
+    /// The moment that the clock gives.
     pub clock: Fixed,
+    /// What the run prints.
     pub output: Gather,
+    /// What standard input has.
     pub input: Script,
+    /// The files of the site's folder.
     pub folder: Files,
 }
 

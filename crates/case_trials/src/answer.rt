@@ -7,7 +7,7 @@ use farm_disk::MemDisk;
 use farm_run::run;
 use std::alloc::Global;
 
-/// What a run ends with: its status, the bytes that it put, and those of its disk where they are looked at, and else none.
+/// What a run ends with: its status, what it printed, and the bytes of its disk where the case gives them.
 #[derive(Debug, Drop)]
 pub struct Answer {
     /// The status that the program ends with.

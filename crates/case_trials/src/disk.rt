@@ -65,7 +65,7 @@ fn journal_of<F: Folder>(
     site: &str,
     disk: MemDisk,
 ) -> Result<MemDisk, TrialFault> {
-    let table = toml::table_from_str(alloc, MAKING).map_err(CaseFault::Form)?;
+    let table = toml::table_from_str(alloc, MAKING).map_err(CaseFault::from)?;
     let run = making_of(alloc, &table, site)?;
     disk_after_run(alloc, data, sites, 0, &run, disk)
 }

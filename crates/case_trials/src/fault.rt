@@ -38,7 +38,7 @@ impl From<CaseFault> for TrialFault {
 
 impl From<NoMemory> for TrialFault {
     fn from(_: NoMemory) -> Self {
-        TrialFault::Unread(CaseFault::Memory)
+        TrialFault::Unread(CaseFault::NoMemory)
     }
 }
 
@@ -50,12 +50,12 @@ impl From<Failed> for TrialFault {
 
 impl From<AllocError> for TrialFault {
     fn from(_: AllocError) -> Self {
-        TrialFault::Unread(CaseFault::Memory)
+        TrialFault::Unread(CaseFault::NoMemory)
     }
 }
 
 impl<T: Drop> From<AllocFailed<T>> for TrialFault {
     fn from(_: AllocFailed<T>) -> Self {
-        TrialFault::Unread(CaseFault::Memory)
+        TrialFault::Unread(CaseFault::NoMemory)
     }
 }

@@ -21,8 +21,8 @@ fn arguments(rt: &(impl Env + AllocGlobal)) -> io::Result<Vec<String>> {
     Ok(env::args(rt)?.skip(1).collect(rt.alloc())?)
 }
 
-// Runs the arguments over the real ports and the real disk. What they don't name is opened by no command. Its status is one of their
-// command's.
+// Runs the arguments over the real ports and the real disk, and answers a status of their command. A folder or a file that they don't
+// name is opened by no command.
 fn run_arguments(rt: &HostRuntime, words: &[String]) -> u8
     ensures calc { command_of (map string_bytes words.now) ≡ Some Calc → (result ≡ 0) ⊎ (result ≡ 4) ⊎ (result ≡ 6) ⊎ (result ≡ 7) }
     ensures table { command_of (map string_bytes words.now) ≡ Some Table → (result ≡ 0) ⊎ (result ≡ 2) ⊎ (result ≡ 6) ⊎ (result ≡ 7) }

@@ -8,7 +8,7 @@ use Rattle.batch_lines.specs.Lines.{ended}
 use Rattle.farm_base.proofs.Rises.{faults_add_up}
 use Rattle.farm_base.specs.Counts.{raised}
 use Rattle.farm_history.specs.History.{History, last_place}
-use Rattle.farm_batch.specs.Answers.{AnswersEach, AnswersLine, AreAcknowledged, AsksNothing, IsReply, Step, answer_text, answers_text, faults_in, faults_of, history_after}
+use Rattle.farm_batch.specs.Answers.{AnswersEach, AnswersLine, AreAcknowledged, AsksNothing, IsReply, Step, answer_text, answers_text, faults_in, faults_on_page, history_after}
 use Rattle.farm_batch.specs.Batches.{GoesOn, lines_of}
 
 -- the lines of steps and of one more
@@ -48,15 +48,15 @@ answers_more may_give limit before (first ∷ steps) step each on line =
     (each.0, inl (on 0 first (omega arith)), answers_more may_give limit first.history steps step each.2 (λ k d within. on (suc k) d (omega arith)) line)
 
 -- the faults in steps and in one more
-faults_in-more : (steps : List Step) (step : Step) → faults_in (steps ++ step ∷ []) ≡ faults_in steps + faults_of step.page
+faults_in-more : (steps : List Step) (step : Step) → faults_in (steps ++ step ∷ []) ≡ faults_in steps + faults_on_page step.page
 faults_in-more [] step = omega arith
 faults_in-more (first ∷ steps) step = omega (arith, faults_in-more steps step)
 
 -- a count that rose by the faults in steps, and then by those of one more step, rose by those in all of them
 pub counted_more : (steps : List Step) (step : Step) (before middle after : ℕ) → middle ≡ raised (faults_in steps) before →
-    after ≡ raised (faults_of step.page) middle → after ≡ raised (faults_in (steps ++ step ∷ [])) before
+    after ≡ raised (faults_on_page step.page) middle → after ≡ raised (faults_in (steps ++ step ∷ [])) before
 counted_more steps step before middle after first second =
-    second ∙ ap (λ count. raised (faults_of step.page) count) first ∙ sym (faults_add_up (faults_in steps) (faults_of step.page) before)
+    second ∙ ap (λ count. raised (faults_on_page step.page) count) first ∙ sym (faults_add_up (faults_in steps) (faults_on_page step.page) before)
     ∙ ap (λ count. raised count before) (sym (faults_in-more steps step))
 
 -- steps whose replies rest on as many entries, and one more, where there may be more entries

@@ -9,7 +9,7 @@ use Rattle.farm_history.specs.declared.ask.Ask.{Ask}
 use Rattle.farm_history.specs.Desk.{Answered, desk_answer}
 use Rattle.farm_history.specs.History.{History, last_place}
 use Rattle.farm_batch.specs.declared.limits.TheConstants.{BATCH_CALLER}
-use Rattle.farm_batch.specs.Answers.{IsReply, MeetsLine, answer_to, ends_with, faults_of, is_stop_ask, page_of}
+use Rattle.farm_batch.specs.Answers.{IsReply, MeetsLine, answer_to, ends_with, faults_on_page, is_stop_ask, page_of}
 use Rattle.farm_batch.proofs.Meant.{done_is_meant, meets, meets_fault, meets_memory}
 
 -- the page of what the desk answered meets what is meant
@@ -25,7 +25,7 @@ answer_meets limit before after doubt now ask answers.NoMemory stops answered is
 
 -- a count that rises by one with a fault of the disk, and with nothing else, rises by the faults of the page
 pub counted_by : (answer : Answer) (old new : ℕ) → (answer ≡ answers.DiskFault → new ≡ raised 1 old) →
-    (answer ≢ answers.DiskFault → new ≡ old) → new ≡ raised (faults_of (page_of answer)) old
+    (answer ≢ answers.DiskFault → new ≡ old) → new ≡ raised (faults_on_page (page_of answer)) old
 counted_by (answers.Done reply) old new once quiet = quiet (λ is. cc)
 counted_by answers.DiskFault old new once quiet = once refl
 counted_by answers.NoMemory old new once quiet = quiet (λ is. cc)

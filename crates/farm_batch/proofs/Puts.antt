@@ -11,7 +11,7 @@ use Rattle.farm_http.specs.declared.page.Page.{Page}
 use Rattle.farm_http.specs.declared.page.Page.TheVariants as pages
 use Rattle.farm_batch.specs.declared.batch.BatchEnd.{BatchEnd}
 use Rattle.farm_batch.specs.declared.batch.BatchEnd.TheVariants.{Done, Failed}
-use Rattle.farm_batch.specs.Answers.{AsksNothing, IsReply, LineAnswer, MeetsLine, Step, answer_text, disk_fault, faults_of, line_answer, out_of_memory}
+use Rattle.farm_batch.specs.Answers.{AsksNothing, IsReply, LineAnswer, MeetsLine, Step, answer_text, disk_fault, faults_on_page, line_answer, out_of_memory}
 use Rattle.farm_batch.specs.Batches.{Answers, MayBePut, PutsPage, PutsStep}
 
 -- the step of a line
@@ -30,7 +30,7 @@ lacking before after meant page stops meets line = elim (meets line) [
 ]
 
 -- a page that isn't a fault of the disk counts none
-no_fault : (page : Page) → page ≢ disk_fault → faults_of page ≡ 0
+no_fault : (page : Page) → page ≢ disk_fault → faults_on_page page ≡ 0
 no_fault (pages.Reply reply) other = refl
 no_fault (pages.Status status (Some allow)) other = refl
 no_fault (pages.Status status None) other = elim (cases_Bool (status == 503)) [
@@ -39,7 +39,7 @@ no_fault (pages.Status status None) other = elim (cases_Bool (status == 503)) [
 ]
 
 -- a count that rose by the faults of such a page stands as it was
-not_counted : (page : Page) (before now : ℕ) → page ≢ disk_fault → now ≡ raised (faults_of page) before → now ≡ before
+not_counted : (page : Page) (before now : ℕ) → page ≢ disk_fault → now ≡ raised (faults_on_page page) before → now ≡ before
 not_counted page before now other is = is ∙ ap (λ count. raised count before) (no_fault page other)
 
 module _ {D : Type 0} (faults : D → ℕ) (may_give : ℤ → Type 0) (limit : ℕ) (before after : DeskState D) (line : List ℕ) (now : ℤ) (given : may_give now)
@@ -47,11 +47,11 @@ module _ {D : Type 0} (faults : D → ℕ) (may_give : ℤ → Type 0) (limit : 
     (old new : Option (List ℕ)) (sink : Count) where
   -- the disk counted the faults of a page
   abbrev DiskCounted : Page → Type 0
-  DiskCounted page = faults after.disk ≡ raised (faults_of page) (faults before.disk)
+  DiskCounted page = faults after.disk ≡ raised (faults_on_page page) (faults before.disk)
 
   -- a line whose answer meets what is meant, and of which this was put
   answers : (page : Page) (stops : Bool) → MeetsLine before.history after.history (line_answer limit before.history now line) page stops →
-      after.failed ≡ raised (faults_of page) before.failed → DiskCounted page →
+      after.failed ≡ raised (faults_on_page page) before.failed → DiskCounted page →
       (IsReply page → last_place after.history ≤ certain after.doubt after.history) →
       (end : Option BatchEnd) → PutsStep (step_of line page after.history stops) old new sink end →
       Answers faults may_give limit before after line old new sink end
@@ -69,7 +69,7 @@ module _ {D : Type 0} (faults : D → ℕ) (may_give : ℤ → Type 0) (limit : 
   }
 
   module _ (page : Page) (stops : Bool) (meets : MeetsLine before.history after.history (line_answer limit before.history now line) page stops)
-      (counted : after.failed ≡ raised (faults_of page) before.failed) (disk_counted : DiskCounted page)
+      (counted : after.failed ≡ raised (faults_on_page page) before.failed) (disk_counted : DiskCounted page)
       (acknowledged : IsReply page → last_place after.history ≤ certain after.doubt after.history) where
     -- an answer that was put whole ends the batch
     pub ends : Adds old new (answer_text page) → stops ≡ true → Answers faults may_give limit before after line old new sink (Some Done)

@@ -86,7 +86,7 @@ pub record Step : Type 0 where
   pub stops : Bool
 
 -- a line got the answer that is meant for it
-pub record IsAnswered (meant : LineAnswer) (step : Step) : Type 0 where
+pub record IsAsMeant (meant : LineAnswer) (step : Step) : Type 0 where
   pub page : step.page ≡ meant.page
   pub history : step.history ≡ meant.history
   pub stops : step.stops ≡ meant.stops
@@ -99,7 +99,7 @@ pub record IsReplaced (page : Page) (before : History) (meant : LineAnswer) (ste
 
 -- a line got the answer that is meant for it, or out of memory, or a fault of the disk
 abbrev pub Meets : History → LineAnswer → Step → Type 0
-Meets before meant step = IsAnswered meant step ⊎ IsReplaced out_of_memory before meant step ⊎ IsReplaced disk_fault before meant step
+Meets before meant step = IsAsMeant meant step ⊎ IsReplaced out_of_memory before meant step ⊎ IsReplaced disk_fault before meant step
 
 -- a line was answered after a history, at a number that the clock may give
 pub record AnswersLine (may_give : ℤ → Type 0) (limit : ℕ) (before : History) (step : Step) : Type 0 where
@@ -118,15 +118,15 @@ AnswersEach may_give limit before (step ∷ steps) =
     AnswersLine may_give limit before step × ((step.stops ≡ false) ⊎ (steps ≡ [])) × AnswersEach may_give limit step.history steps
 
 -- how many faults of the disk a page is: 1 where it is that answer, and 0 for any other
-abbrev pub faults_of : Page → ℕ
-faults_of (pages.Reply reply) = 0
-faults_of (pages.Status status None) = if status == 503 then 1 else 0
-faults_of (pages.Status status (Some allow)) = 0
+abbrev pub faults_on_page : Page → ℕ
+faults_on_page (pages.Reply reply) = 0
+faults_on_page (pages.Status status None) = if status == 503 then 1 else 0
+faults_on_page (pages.Status status (Some allow)) = 0
 
 -- how many lines were answered with a fault of the disk
 abbrev pub faults_in : List Step → ℕ
 faults_in [] = 0
-faults_in (step ∷ steps) = faults_of step.page + faults_in steps
+faults_in (step ∷ steps) = faults_on_page step.page + faults_in steps
 
 -- a page is a reply of the desk
 abbrev pub IsReply : Page → Type 0

@@ -9,7 +9,7 @@ use Rattle.farm_batch.specs.declared.batch.BatchEnd.{BatchEnd}
 use Rattle.farm_batch.specs.declared.batch.BatchEnd.TheVariants.{Done, Long, Failed}
 use Rattle.farm_batch.specs.declared.limits.TheConstants.{MOST_LINES}
 use Rattle.farm_http.specs.declared.page.Page.{Page}
-use Rattle.farm_batch.specs.Answers.{AnswersEach, AnswersLine, AreAcknowledged, AsksNothing, EndsInStop, IsCutAtLast, IsReply, Step, answer_text, answers_text, disk_fault, faults_in, faults_of, history_after, out_of_memory}
+use Rattle.farm_batch.specs.Answers.{AnswersEach, AnswersLine, AreAcknowledged, AsksNothing, EndsInStop, IsCutAtLast, IsReply, Step, answer_text, answers_text, disk_fault, faults_in, faults_on_page, history_after, out_of_memory}
 use Rattle.batch_lines.specs.declared.limits.TheConstants.{MOST_BYTES}
 use Rattle.batch_lines.specs.Lines.{BeginsWith, EndsWithin, HasByteTooMany, ended}
 use Rattle.batch_lines.specs.Reader.{AtEnd}
@@ -94,8 +94,8 @@ pub record Answers {D : Type 0} (faults : D → ℕ) (may_give : ℤ → Type 0)
   pub line_is : step.line ≡ line
   pub history_is : step.history ≡ after.history
   pub answered : AnswersLine may_give limit before.history step
-  pub counted : after.failed ≡ raised (faults_of step.page) before.failed
-  pub disk_counted : faults after.disk ≡ raised (faults_of step.page) (faults before.disk)
+  pub counted : after.failed ≡ raised (faults_on_page step.page) before.failed
+  pub disk_counted : faults after.disk ≡ raised (faults_on_page step.page) (faults before.disk)
   pub acknowledged : IsReply step.page → last_place after.history ≤ certain after.doubt after.history
   pub surer : certain before.doubt before.history ≤ certain after.doubt after.history
   pub untouched : AsksNothing line → after ≡ before

@@ -6,7 +6,7 @@ ghost use Rattle.farm_records.specs.Histories.{certain};
 ghost use Rattle.farm_history.specs.Desk.{IsWellFormedAsk};
 ghost use Rattle.farm_history.specs.History.{last_place};
 ghost use Rattle.farm_http.specs.Answers.{IsAnswer, IsErrorStatus};
-ghost use Rattle.farm_batch.specs.Answers.{AsksNothing, IsReply, MeetsLine, answer_to, ends_with, faults_of, is_stop_ask, line_answer, page_of};
+ghost use Rattle.farm_batch.specs.Answers.{AsksNothing, IsReply, MeetsLine, answer_to, ends_with, faults_on_page, is_stop_ask, line_answer, page_of};
 ghost use Rattle.farm_batch.specs.Desks.{KeepsDesk};
 ghost use Rattle.batch_lines.specs.Reader.{kept};
 
@@ -35,8 +35,8 @@ pub(crate) fn answer<D: Disk, const LIMIT: usize>(
         MeetsLine desk.old.history desk.new.history (line_answer LIMIT desk.old.history now bytes) result.page result.stops }
     ensures page { IsAnswer result.page }
     ensures keeps { KeepsDesk D.trace D.moment D.faults LIMIT desk.old desk.new }
-    ensures counted { desk.new.failed ≡ raised (faults_of result.page) desk.old.failed }
-    ensures disk_counted { D.faults desk.new.disk ≡ raised (faults_of result.page) (D.faults desk.old.disk) }
+    ensures counted { desk.new.failed ≡ raised (faults_on_page result.page) desk.old.failed }
+    ensures disk_counted { D.faults desk.new.disk ≡ raised (faults_on_page result.page) (D.faults desk.old.disk) }
     ensures acknowledged { IsReply result.page → last_place desk.new.history ≤ certain desk.new.doubt desk.new.history }
     ensures untouched { (bytes : List ℕ) → option_map (λ text. text.now) text.entry ≡ kept bytes → AsksNothing bytes → desk.new ≡ desk.old }
 {
@@ -70,8 +70,8 @@ fn answer_ask<D: Disk, const LIMIT: usize>(desk: &mut Desk<D, LIMIT>, now: i64, 
     ensures meant { MeetsLine desk.old.history desk.new.history (answer_to LIMIT desk.old.history now (Some ask.now)) result.page result.stops }
     ensures page { IsAnswer result.page }
     ensures keeps { KeepsDesk D.trace D.moment D.faults LIMIT desk.old desk.new }
-    ensures counted { desk.new.failed ≡ raised (faults_of result.page) desk.old.failed }
-    ensures disk_counted { D.faults desk.new.disk ≡ raised (faults_of result.page) (D.faults desk.old.disk) }
+    ensures counted { desk.new.failed ≡ raised (faults_on_page result.page) desk.old.failed }
+    ensures disk_counted { D.faults desk.new.disk ≡ raised (faults_on_page result.page) (D.faults desk.old.disk) }
     ensures acknowledged { IsReply result.page → last_place desk.new.history ≤ certain desk.new.doubt desk.new.history }
 {
     let entries = desk.book().entries().len();

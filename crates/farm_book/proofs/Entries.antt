@@ -20,7 +20,7 @@ use Rattle.farm_history.specs.MovementRules.{no_movement, other_product, same_ta
 use Rattle.farm_history.specs.History.{History, empty_history, last_place, moment_after, with_entry}
 use Rattle.farm_history.specs.Rules.{broken_by_command, broken_by_movement, broken_by_names, broken_by_ticket, broken_rule, out_of_range, refused_gauging, unknown_tank, history_full, is_full, key_reused}
 use Rattle.farm_history.specs.Sites.{AreComputable, AreRising}
-use Rattle.farm_history.specs.Verdicts.{IsLegal, IsNext, verdict}
+use Rattle.farm_history.specs.Verdicts.{IsNext, verdict}
 use Rattle.farm_history.proofs.Accepted.{unbroken}
 use Rattle.farm_history.proofs.Legal.{empty_is_legal, with_next}
 use Rattle.farm_entries.specs.Pasts.{IsInRange, IsReadable}

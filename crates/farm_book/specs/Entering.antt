@@ -1,4 +1,4 @@
--- What it is that an entry is entered from its bytes.
+-- When bytes are those of an entry that may come next, and what entering it leaves.
 use Rattle.std.specs.Prelude.{◌≡◌, ℕ, List}
 use Rattle.farm_history.specs.declared.entry.Entry.{Entry}
 use Rattle.farm_history.specs.Encoding.{IsTyped, entry_encoding}

@@ -18,7 +18,7 @@ ghost use Rattle.farm_history.specs.declared.limits.TheConstants.{GREATEST_LIMIT
 ghost use Rattle.farm_site.specs.Sites.{described};
 
 use crate::judging::verdict_of;
-use crate::tables::are_computable;
+use crate::tables::table_facts;
 use farm_base::NoMemory;
 use farm_entries::Past;
 use farm_history::{Entry, Query, Reply, Rule, Verdict, laws};
@@ -54,7 +54,7 @@ impl<const LIMIT: usize> Book<LIMIT> {
         ensures made { IsOk result }
         ensures history { IfOk result (λ book. book.history ≡ empty_history (described site)) }
     {
-        are_computable(&site);
+        table_facts(&site);
         Ok(Book {
             site,
             entries: Vec::new(alloc),

@@ -30,8 +30,8 @@ impl From<NoMemory> for EnterFault {
 }
 
 impl<const LIMIT: usize> Book<LIMIT> {
-    /// Enters the entry that these bytes are, all of them. `NotNext` exactly where they aren't those of an entry that may come next: one that is
-    /// accepted, and whose moment isn't below the last one. `NoMemory` where there is no room for it. After either the book is as it
+    /// Enters the entry that these bytes are, all of them. `NotNext` only where they aren't those of an entry that may come next: one that
+    /// is accepted, and whose moment isn't below the last one. `NoMemory` where there is no room for it. After either the book is as it
     /// was.
     pub fn enter(&mut self, bytes: &[u8]) -> Result<(), EnterFault>
         ensures entered { OnOk result (Enters LIMIT self.old.history self.new.history bytes.now) }

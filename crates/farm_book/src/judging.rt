@@ -140,14 +140,14 @@ fn broken_by_command(past: &Past<'_>, command: &Command) -> Option<Rule>
 fn unknown_tank(past: &Past<'_>, command: &Command) -> Option<Rule>
     ensures rule { result ≡ unknown_tank (history_of past.now.site.now past.now.entries.now) command.now }
 {
-    if gives_unknown(past, command) {
+    if gives_unknown_tank(past, command) {
         return Some(Rule::UnknownTank);
     }
     None
 }
 
 // Whether a command gives a tank that isn't of the site.
-fn gives_unknown(past: &Past<'_>, command: &Command) -> bool
+fn gives_unknown_tank(past: &Past<'_>, command: &Command) -> bool
     ensures unknown { result ≡ list_any (λ number. is_missing (tank_after (history_of past.now.site.now past.now.entries.now) number)) (tanks_given command.now) }
 {
     match command {

@@ -5,9 +5,9 @@ ghost use Rattle.farm_site.specs.Sites.{described};
 
 use farm_site::Site;
 
-/// Reads the table of each tank of a site, and so knows that it is one. Does nothing else. That the numbers of the tanks rise, each site
-/// keeps.
-pub fn are_computable(site: &Site)
+// Does nothing but read the table of each tank. Its contract is what holds of the tanks of a site: each has a capacity table and one of the
+// site's products, and their numbers rise.
+pub(crate) fn table_facts(site: &Site)
     ensures computable { AreComputable (described site.now) }
     ensures rising { AreRising (described site.now) }
 {

@@ -19,7 +19,7 @@ use toml::{Table, Value};
 // The file that lists the files of cases and the sites.
 const LISTING: &str = "cases.toml";
 
-// The words are the folder of the cases and the files to run; without them it is the folder where the program runs, and all.
+// The arguments are the folder of the cases and the files to run; without them every file of the folder where the program runs.
 fn main(rt: HostRuntime) -> anyhow::Result<()> {
     let words = arguments(&rt)?;
     let folder = words.first().map_or(".", |word| word.as_str());

@@ -1,13 +1,8 @@
 -- How many answers were faults, beside what the disk counted.
 use Rattle.std.proofs.Common.{ℕ, ◌+◌, ◌≤◌, arith}
 use Rattle.farm_base.specs.Counts.{Rose, RoseBy}
-use Rattle.farm_desk.specs.States.{one_more}
 
 -- one fault more is counted
-pub one_more_counted : (failed before between now : ℕ) → RoseBy failed before between → Rose between now → RoseBy (one_more failed) before now
-one_more_counted failed before between now rose more = omega (arith, rose, more)
-
--- and so without the limit of the count
 pub counted_once_more : (failed before between now : ℕ) → RoseBy failed before between → Rose between now → RoseBy (failed + 1) before now
 counted_once_more failed before between now rose more = omega (arith, rose, more)
 

@@ -16,8 +16,8 @@ abbrev pub KeepsFront : {D : Type 0} → (D → Option (List State)) → ℕ →
 KeepsFront trace limit old disk history =
     EachSince (trace old.disk) (trace disk) (RecoversFront limit history (certain old.doubt old.history))
 
--- What a crash left at a moment, it leaves: where each image since that moment stood for at least this many entries, none of them in
--- doubt, each does afterwards.
+-- What each crash leaves from a moment on it goes on leaving: where each image since that moment stood for at least this many entries,
+-- none of them in doubt, each does afterwards.
 abbrev pub KeepsAcknowledged : {D : Type 0} → (D → Option (List State)) → ℕ → DeskState D → D → Type 0
 KeepsAcknowledged trace limit old disk = (moment count : ℕ) → count ≤ certain old.doubt old.history →
     EachFrom (trace old.disk) moment (RecoversAtLeast limit count) → EachFrom (trace disk) moment (RecoversAtLeast limit count)

@@ -1,5 +1,5 @@
 -- A desk, as callers see it, and what holds of every desk.
-use Rattle.std.specs.Prelude.{◌≡◌, ℕ, ◌+◌, ◌-◌, ◌^◌, ◌≤◌, min, Bool, false, List, Option, Result, Ok, Err}
+use Rattle.std.specs.Prelude.{◌≡◌, ℕ, ◌≤◌, Bool, false, List, Option, Result, Ok, Err}
 use Rattle.farm_base.specs.Counts.{RoseBy}
 use Rattle.farm_disk.specs.Images.{State}
 use Rattle.farm_disk.specs.Runs.{EachNow}
@@ -27,12 +27,8 @@ pub record IsDurable {D : Type 0} (trace : D → Option (List State)) (faults : 
   pub now : EachNow (trace desk.disk) (RecoversNow limit desk.doubt desk.history)
   pub counted : RoseBy desk.failed desk.opened.faults (faults desk.disk)
 
--- one more than a count, which stands still at the last `u64`
-abbrev pub one_more : ℕ → ℕ
-one_more count = min (count + 1) (2 ^ 64 - 1)
-
 -- A desk as it is made: nothing is in doubt, no answer was a fault, and it stands as it did when it was made.
-pub record IsNew {D : Type 0} (moment faults : D → ℕ) (desk : DeskState D) (entries : ℕ) : Type 0 where
+pub record IsJustMade {D : Type 0} (moment faults : D → ℕ) (desk : DeskState D) (entries : ℕ) : Type 0 where
   pub certain : desk.doubt ≡ false
   pub unfailed : desk.failed ≡ 0
   pub entries_is : desk.opened.entries ≡ entries

@@ -11,7 +11,7 @@ ghost use Rattle.farm_desk.specs.Asking.{KeepsAcknowledged, KeepsFront};
 ghost use Rattle.farm_records.specs.Histories.{RecoversFront, RecoversNow, certain};
 ghost use Rattle.farm_records.specs.Moments.{EachFrom};
 ghost use Rattle.farm_records.specs.Records.{AreRecords};
-ghost use Rattle.farm_desk.specs.States.{IsDurable, IsNew, one_more};
+ghost use Rattle.farm_desk.specs.States.{IsDurable, IsJustMade};
 
 use crate::{Answer, Opened};
 use farm_book::Book;
@@ -51,7 +51,7 @@ impl<D: Disk, const LIMIT: usize> Desk<D, LIMIT> {
         requires kept { AreRecords D.trace LIMIT false book.history journal }
         ensures history { result.history ≡ book.entry.history }
         ensures disk { result.disk ≡ journal.disk }
-        ensures new { IsNew D.moment D.faults result (last_place book.entry.history) }
+        ensures new { IsJustMade D.moment D.faults result (last_place book.entry.history) }
         ensures durable { IsDurable D.trace D.faults LIMIT result }
     {
         let stand = journal.stand();
@@ -91,7 +91,7 @@ impl<D: Disk, const LIMIT: usize> Desk<D, LIMIT> {
         ensures cause { result ≡ Answer.DiskFault → Rose (D.faults self.old.disk) (D.faults self.new.disk) }
         ensures quiet { result ≢ Answer.DiskFault → D.faults self.new.disk ≡ D.faults self.old.disk }
         ensures once { result ≡ Answer.DiskFault → D.faults self.new.disk ≡ raised 1 (D.faults self.old.disk) }
-        ensures failed { result ≡ Answer.DiskFault → self.new.failed ≡ one_more self.old.failed }
+        ensures failed { result ≡ Answer.DiskFault → self.new.failed ≡ raised 1 self.old.failed }
         ensures not_failed { result ≢ Answer.DiskFault → self.new.failed ≡ self.old.failed }
         ensures opened { self.new.opened ≡ self.old.opened }
     {

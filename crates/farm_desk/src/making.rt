@@ -13,7 +13,7 @@ ghost use Rattle.farm_site.specs.Sites.{described};
 ghost use Rattle.farm_desk.specs.Asking.{IsCrashSafe};
 ghost use Rattle.farm_records.specs.Histories.{Recovers};
 ghost use Rattle.farm_recovery.specs.Recovery.{IsRefused};
-ghost use Rattle.farm_desk.specs.States.{IsDurable, IsNew, disk_left};
+ghost use Rattle.farm_desk.specs.States.{IsDurable, IsJustMade, disk_left};
 ghost use Rattle.farm_journal.specs.declared.limits.TheConstants.{MAX_BODY};
 
 use crate::Desk;
@@ -34,7 +34,7 @@ impl<D: Disk, const LIMIT: usize> Desk<D, LIMIT> {
     pub fn create(alloc: Global, disk: D, site: Site) -> Result<Self, (D, CreateFault)>
         requires limit { LIMIT ≤ GREATEST_LIMIT }
         ensures made { IfOk result (λ desk. desk.history ≡ empty_history (described site)) }
-        ensures new { IfOk result (λ desk. IsNew D.moment D.faults desk 0) }
+        ensures new { IfOk result (λ desk. IsJustMade D.moment D.faults desk 0) }
         ensures durable { IfOk result (λ desk. IsDurable D.trace D.faults LIMIT desk) }
         ensures was_empty { IfOk result (λ desk. WasEmpty (D.trace disk) (D.trace desk.disk)) }
         ensures refused { IfErr result (λ refusal. IsCreateRefusal D.trace disk refusal.0 refusal.1) }
@@ -63,7 +63,7 @@ impl<D: Disk, const LIMIT: usize> Desk<D, LIMIT> {
     pub fn recover(alloc: Global, disk: D) -> Result<Self, (D, RecoverFault)>
         requires limit { LIMIT ≤ GREATEST_LIMIT }
         ensures recovered { IfOk result (λ desk. WhereKnown (D.trace desk.disk) (λ states. Recovers LIMIT desk.history (present states).seen)) }
-        ensures new { IfOk result (λ desk. IsNew D.moment D.faults desk (last_place desk.history)) }
+        ensures new { IfOk result (λ desk. IsJustMade D.moment D.faults desk (last_place desk.history)) }
         ensures durable { IfOk result (λ desk. IsDurable D.trace D.faults LIMIT desk) }
         ensures refused { IfErr result (λ refusal. WhereKnown (D.trace refusal.0) (λ states. IsRefused LIMIT (present states).seen refusal.1)) }
         ensures wrote_nothing { WritesNothing (D.trace disk) (D.trace (disk_left result)) }

@@ -1,5 +1,5 @@
 -- What a Closing issues: its place and number aside, on figures that are in range.
-use Rattle.std.proofs.Common.{◌≡◌, ◌≢◌, ℕ, Bool, true, false, if◌then◌else◌, Option, Some, None, option_and_then, refl, arith}
+use Rattle.std.proofs.Common.{◌≡◌, ◌≢◌, ℕ, Bool, true, false, if◌then◌else◌, Option, Some, None, option_and_then, refl, ap, ◌∙◌, arith}
 use Rattle.std.specs.Prelude.{IfSome}
 use Rattle.std.proofs.lemmas.Int.{ints}
 use Rattle.farm_chain.specs.Volumes.{AreInRange}
@@ -9,12 +9,13 @@ use Rattle.farm_movement.specs.declared.leg.Leg.{Leg}
 use Rattle.farm_ticket.specs.Amounts.{change, differences}
 use Rattle.farm_ticket.specs.declared.side.Way.{Way}
 use Rattle.farm_ticket.specs.declared.side.Way.TheVariants.{Inward, Outward}
+use Rattle.farm_history.specs.declared.command.Command.{Command}
 use Rattle.farm_history.specs.declared.command.Command.TheVariants.{Closing}
-use Rattle.farm_history.specs.declared.plan.Gauged.{Gauged}
 use Rattle.farm_history.specs.History.{History}
 use Rattle.farm_history.specs.Postings.{postings_issued, postings_of_ticket}
-use Rattle.farm_history.specs.Tickets.{ToClose, any_goes_wrong, closed, issued_by_closing, next_number, to_close}
+use Rattle.farm_history.specs.Tickets.{ToClose, any_goes_wrong, closed, issued_by_closing, next_number}
 use Rattle.farm_entries.specs.Bounds.{IsAtMost, IsClosedInRange, IsSmallSide, IsSmallTicket, most_moved}
+use Rattle.farm_entries.specs.Closings.{closed_by}
 
 -- what a ticket posts doesn't depend on its place and its number
 same_postings : (place number : ℕ) (close : ToClose) →
@@ -31,11 +32,16 @@ closed_same place number close = by (any_goes_wrong close)
     by true = refl
     by false = same_postings place number close
 
+-- the ticket that a Closing issues is that of the movement that it closes
+pub closing_issues : (history : History) (place : ℕ) (command : Command) →
+    option_and_then (closed place (next_number history)) (closed_by history command) ≡ issued_by_closing history place command
+closing_issues history place (Closing movement first second) = refl
+closing_issues history place command = refl
+
 -- what a Closing posts is what its ticket posts, whatever its place and number
-pub unnumbered : (history : History) (place movement : ℕ) (first : Gauged) (second : Option Gauged) →
-    postings_issued (option_and_then (closed 0 0) (to_close history movement first second))
-    ≡ postings_issued (issued_by_closing history place (Closing movement first second))
-unnumbered history place movement first second = by (to_close history movement first second)
+pub unnumbered : (history : History) (place : ℕ) (command : Command) →
+    postings_issued (option_and_then (closed 0 0) (closed_by history command)) ≡ postings_issued (issued_by_closing history place command)
+unnumbered history place command = by (closed_by history command) ∙ ap postings_issued (closing_issues history place command)
   where
     by : (close : Option ToClose) →
         postings_issued (option_and_then (closed 0 0) close) ≡ postings_issued (option_and_then (closed place (next_number history)) close)

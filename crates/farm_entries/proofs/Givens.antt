@@ -1,5 +1,6 @@
 -- The first of two that is there, and the last of a list for which something is given.
-use Rattle.std.proofs.Common.{◌≡◌, ℕ, ◌+◌, ◌<◌, List, ◌∷◌, length, drop, get_or, Option, Some, None, refl, sym, ◌∙◌, subst, add-one, drop-cons}
+use Rattle.std.proofs.Common.{◌≡◌, ℕ, ◌+◌, ◌<◌, List, length, drop, get_or, Option, Some, None, refl, sym, ◌∙◌, subst}
+use Rattle.std.proofs.lemmas.List.{drop_more}
 use Rattle.farm_base.specs.Steps.{or_else}
 use Rattle.farm_history.specs.Given.{last_given}
 
@@ -13,17 +14,12 @@ pub or_else_assoc : {A : Type 0} (first second third : Option A) → or_else (or
 or_else_assoc None second third = refl
 or_else_assoc (Some value) second third = refl
 
--- the items from a place on are the one there and those after it
-drop_here : {A : Type 0} (items : List A) (place : ℕ) (default : A) → place < length items →
-    drop place items ≡ get_or items place default ∷ drop (place + 1) items
-drop_here items place default within = rw add-one (drop-cons items place default within)
-
 -- one item further on, what is given last is what is given here or before
 pub last_more : {A B : Type 0} (given : A → Option B) (items : List A) (place : ℕ) (default : A) (before here : Option B) → place < length items →
     here ≡ or_else (given (get_or items place default)) before →
     or_else (last_given given (drop place items)) before ≡ last_given given items →
     or_else (last_given given (drop (place + 1) items)) here ≡ last_given given items
 last_more {B = B} given items place default before here within is sofar =
-    let opened = subst (λ list. or_else (last_given given list) before ≡ last_given given items) (drop_here items place default within) sofar in
+    let opened = subst (λ list. or_else (last_given given list) before ≡ last_given given items) (drop_more items place default within) sofar in
     let regrouped = sym (or_else_assoc (last_given given (drop (place + 1) items)) (given (get_or items place default)) before) ∙ opened in
     subst (λ (o : Option B). or_else (last_given given (drop (place + 1) items)) o ≡ last_given given items) (sym is) regrouped

@@ -7,8 +7,8 @@ ghost use Rattle.farm_history.specs.Postings.{amount_held, amount_moved, less, o
 use farm_fixed::{Amount, Quantities};
 use farm_ticket::Moved;
 
-/// What moved on a side.
-pub fn amount_moved(moved: &Moved) -> Amount
+// What moved on a side.
+pub(crate) fn amount_moved(moved: &Moved) -> Amount
     ensures amount { result ≡ amount_moved moved.now }
 {
     Amount {
@@ -17,8 +17,8 @@ pub fn amount_moved(moved: &Moved) -> Amount
     }
 }
 
-/// What a tank holds by its figures.
-pub fn amount_held(figures: &Quantities) -> Amount
+// What a tank holds by its figures.
+pub(crate) fn amount_held(figures: &Quantities) -> Amount
     ensures amount { result ≡ amount_held figures.now }
 {
     Amount {
@@ -27,8 +27,8 @@ pub fn amount_held(figures: &Quantities) -> Amount
     }
 }
 
-/// The amount of opposite sign.
-pub fn opposite(amount: Amount) -> Amount
+// The amount of opposite sign.
+pub(crate) fn opposite(amount: Amount) -> Amount
     requires small { IsAtMost most_posted amount }
     ensures amount { result ≡ opposite amount }
 {
@@ -38,8 +38,8 @@ pub fn opposite(amount: Amount) -> Amount
     }
 }
 
-/// An amount less another, litres and kg each by itself.
-pub fn less(amount: Amount, other: Amount) -> Amount
+// An amount less another, litres and kg each by itself.
+pub(crate) fn less(amount: Amount, other: Amount) -> Amount
     requires amount { IsAtMost most_posted amount }
     requires other { IsAtMost most_posted other }
     ensures amount { result ≡ less amount other }

@@ -10,15 +10,15 @@ use farm_fixed::{
 };
 use farm_history::{Command, Few};
 
-/// The numbers of a short list.
-pub fn numbers(few: &Few) -> &[i64]
+// The numbers of a short list.
+pub(crate) fn numbers(few: &Few) -> &[i64]
     requires { IsShortList few.now }
     ensures numbers { result.now ≡ numbers_of few.now }
 {
     &few.values[..usize::from(few.count)]
 }
 
-/// The number of the first field of a command that is out of range.
+/// The number of the first field of a command that is out of range. `None` exactly where none is.
 #[tactic(auto, unfolding(farm_history::specs::Fields::first_bad_field))]
 pub fn first_bad_field(command: &Command) -> Option<u8>
     requires well_formed { IsWellFormedCommand command.now }

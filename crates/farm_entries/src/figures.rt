@@ -160,9 +160,9 @@ fn named_at_closing(first: &Gauged, second: &Option<Gauged>, plan: &Plan) -> Pai
     }
 }
 
-/// A tank, with what is named for it.
-pub fn named(tank: u16, gauged: &Gauged) -> Named
-    ensures { result ≡ record { tank = tank; gauged = gauged.now } }
+// A tank, with what is named for it.
+pub(crate) fn named(tank: u16, gauged: &Gauged) -> Named
+    ensures named { result ≡ record { tank = tank; gauged = gauged.now } }
 {
     Named {
         tank,
@@ -170,7 +170,7 @@ pub fn named(tank: u16, gauged: &Gauged) -> Named
     }
 }
 
-/// The number of the tank that a gauging or a sample is of.
+/// The number of the tank that a gauging or a sample is of. `None` exactly for another command.
 pub fn tank_of(command: &Command) -> Option<u16>
     ensures tank { result ≡ tank_of command.now }
 {

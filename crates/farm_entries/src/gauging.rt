@@ -1,25 +1,26 @@
 //! Gaugings: from tapes to a reading, and a reading against its tank.
 
-ghost use Rattle.std.specs.Prelude.{◌≡◌, IsTrue, None, option_and_then, take, pos, negsuc};
+ghost use Rattle.std.specs.Prelude.{◌≡◌, IsTrue, None, option_and_then, take, pos};
 ghost use Rattle.std.specs.List.{list_all};
 ghost use Rattle.farm_fixed.specs.Range.{is_within};
-ghost use Rattle.farm_fixed.specs.declared.limits.TheConstants.{LEAST_DENSITY, LEAST_TEMPERATURE, MOST_DENSITY, MOST_HEIGHT, MOST_SHARE, MOST_TEMPERATURE};
+ghost use Rattle.farm_fixed.specs.declared.limits.TheConstants.{LEAST_DENSITY, MOST_DENSITY, MOST_SHARE};
 ghost use Rattle.farm_readings.specs.Readings.{AreTemperatures, tape_reading};
 ghost use Rattle.farm_history.specs.Commands.{IsShortList, IsWellFormedCommand, numbers_of};
 ghost use Rattle.farm_history.specs.Fields.{first_bad_field};
 ghost use Rattle.farm_history.specs.Gauging.{dip_level, dip_reading, dip_water, gauge_reading, gauged, gauging_in, tapes_numbered};
 ghost use Rattle.farm_history.specs.Rules.{refused_gauging, refused_reading};
 
-use farm_fixed::{Centi, Dens, Mm, Permil5, Reading, Sample};
+use farm_fixed::{Centi, Dens, Mm, Permil5, Quantity, Reading, Sample, Unit};
 use farm_history::{
-    BELOW_DATUM, Command, Few, Rule, TAPE_COUNT, TAPE_SPREAD, WATER_TAPE_COUNT, WATER_TAPE_SPREAD,
+    BELOW_DATUM, Command, Few, LONGEST_LIST, Rule, TAPE_COUNT, TAPE_SPREAD, WATER_TAPE_COUNT,
+    WATER_TAPE_SPREAD,
 };
 use farm_readings::{TapeFault, innage, mean_temp, tape};
 use farm_rounding::RoundTable;
 use farm_site::Tank;
 use strap_table::CapTable;
 
-/// Why a gauging in a tank is refused. A command that is no gauging isn't.
+/// Why a gauging in a tank is refused. `None` where it isn't refused, and for a command that is no gauging.
 #[tactic(auto, unfolding(farm_history::specs::Rules::refused_gauging))]
 pub fn refused_gauging(rounding: &RoundTable, tank: &Tank, command: &Command) -> Option<Rule>
     requires well_formed { IsWellFormedCommand command.now }
@@ -32,8 +33,12 @@ pub fn refused_gauging(rounding: &RoundTable, tank: &Tank, command: &Command) ->
     }
 }
 
-/// What a gauging in a tank of this reference height gives.
-pub fn gauged(rounding: &RoundTable, height: Mm, command: &Command) -> Option<Result<Reading, u8>>
+// What a gauging in a tank of this reference height gives. `None` for a command that is no gauging.
+pub(crate) fn gauged(
+    rounding: &RoundTable,
+    height: Mm,
+    command: &Command,
+) -> Option<Result<Reading, u8>>
     requires well_formed { IsWellFormedCommand command.now }
     requires in_range { first_bad_field command.now ≡ None }
     ensures gauged { result ≡ gauged rounding.now height command.now }
@@ -47,10 +52,10 @@ pub fn gauged(rounding: &RoundTable, height: Mm, command: &Command) -> Option<Re
             ..
         } => Some(Ok(gauge_reading(
             rounding,
-            height_of(*level),
-            height_of(*water),
-            temperature_of(*temperature),
-            temperature_of(*ambient),
+            quantity_of(*level),
+            quantity_of(*water),
+            quantity_of(*temperature),
+            quantity_of(*ambient),
         ))),
         Command::Dip {
             outage,
@@ -63,10 +68,10 @@ pub fn gauged(rounding: &RoundTable, height: Mm, command: &Command) -> Option<Re
             rounding,
             height,
             *outage,
-            &heights_of(tapes)[..usize::from(tapes.count)],
-            &heights_of(water)[..usize::from(water.count)],
-            &temperatures_of(temperatures)[..usize::from(temperatures.count)],
-            temperature_of(*ambient),
+            &quantities_of(tapes)[..usize::from(tapes.count)],
+            &quantities_of(water)[..usize::from(water.count)],
+            &quantities_of(temperatures)[..usize::from(temperatures.count)],
+            quantity_of(*ambient),
         )),
         _ => None,
     }
@@ -148,7 +153,7 @@ fn dip_water(rounding: &RoundTable, tapes: &[Mm]) -> Result<Mm, u8>
     ensures dip_water { result ≡ dip_water rounding.now tapes.now }
 {
     if tapes.is_empty() {
-        return Ok(height_of(0));
+        return Ok(quantity_of(0));
     }
     tape_numbered::<WATER_TAPE_COUNT, WATER_TAPE_SPREAD>(rounding, tapes)
 }
@@ -167,50 +172,30 @@ fn refused_reading(table: &CapTable, reading: Reading) -> Option<Rule>
     None
 }
 
-// The heights of a list of a command, and zeros after them.
-fn heights_of(few: &Few) -> [Mm; 8]
+// The quantities of a list of a command, and zeros after them.
+fn quantities_of<U: Unit + Copy>(few: &Few) -> [Quantity<U>; LONGEST_LIST as usize]
     requires short { IsShortList few.now }
-    requires in_range { IsTrue (list_all (λ number. is_within (pos 0) MOST_HEIGHT number) (numbers_of few.now)) }
-    ensures heights { take few.now.count result ≡ numbers_of few.now }
+    requires zero { IsTrue (is_within U.LEAST U.MOST (pos 0)) }
+    requires in_range { IsTrue (list_all (λ number. is_within U.LEAST U.MOST number) (numbers_of few.now)) }
+    ensures quantities { take few.now.count result ≡ numbers_of few.now }
 {
-    let mut heights = [height_of(0); 8];
+    let mut quantities = [quantity_of(0); LONGEST_LIST as usize];
     for index in 0..usize::from(few.count) {
-        heights[index] = height_of(few.values[index]);
+        quantities[index] = quantity_of(few.values[index]);
     }
-    heights
+    quantities
 }
 
-// The temperatures of a list of a command, and zeros after them.
-fn temperatures_of(few: &Few) -> [Centi; 8]
-    requires short { IsShortList few.now }
-    requires in_range { IsTrue (list_all (λ number. is_within LEAST_TEMPERATURE MOST_TEMPERATURE number) (numbers_of few.now)) }
-    ensures temperatures { take few.now.count result ≡ numbers_of few.now }
+// A quantity of a number that is known to be in range.
+fn quantity_of<U: Unit>(number: i64) -> Quantity<U>
+    requires { IsTrue (is_within U.LEAST U.MOST number) }
+    ensures quantity { result ≡ number }
 {
-    let mut temperatures = [temperature_of(0); 8];
-    for index in 0..usize::from(few.count) {
-        temperatures[index] = temperature_of(few.values[index]);
-    }
-    temperatures
+    Quantity::in_range(i128::from(number))
 }
 
-// A height that is known to be in range.
-fn height_of(number: i64) -> Mm
-    requires { IsTrue (is_within (pos 0) MOST_HEIGHT number) }
-    ensures height { result ≡ number }
-{
-    Mm::in_range(i128::from(number))
-}
-
-// A temperature that is known to be in range.
-fn temperature_of(number: i64) -> Centi
-    requires { IsTrue (is_within LEAST_TEMPERATURE MOST_TEMPERATURE number) }
-    ensures temperature { result ≡ number }
-{
-    Centi::in_range(i128::from(number))
-}
-
-/// The sample of numbers that are known to be in range.
-pub fn sample_fields(density: i64, sw: i64) -> Sample
+// The sample of numbers that are known to be in range.
+pub(crate) fn sample_fields(density: i64, sw: i64) -> Sample
     requires density { IsTrue (is_within LEAST_DENSITY MOST_DENSITY density) }
     requires sw { IsTrue (is_within (pos 0) MOST_SHARE sw) }
     ensures density { result.density ≡ density }

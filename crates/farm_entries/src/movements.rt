@@ -1,12 +1,12 @@
-//! Movements among entries: which are open, which of them holds a tank, which reading was used last for one, where a tank was settled
-//! last, and where a ticket was reversed.
+//! Movements among entries: which are open, which of them holds a tank, which reading was used last for one, and where a ticket was
+//! reversed.
 
-ghost use Rattle.std.specs.Prelude.{◌≡◌, length};
+ghost use Rattle.std.specs.Prelude.{◌≡◌};
 ghost use Rattle.std.specs.List.{list_any};
 ghost use Rattle.farm_base.specs.Steps.{or_else};
 ghost use Rattle.farm_entries.specs.Pasts.{IsReadable, history_of};
-ghost use Rattle.farm_history.specs.Commands.{ends, names_tank, opens_on, plan_of, reverses, settles};
-ghost use Rattle.farm_history.specs.Movements.{holding_movement, is_end_of, last_settlement, open_movement, opened_at, reading_for, reversal_of, used_by, used_reading};
+ghost use Rattle.farm_history.specs.Commands.{ends, names_tank, opens_on, plan_of, reverses};
+ghost use Rattle.farm_history.specs.Movements.{holding_movement, is_end_of, open_movement, opened_at, reading_for, reversal_of, used_by, used_reading};
 
 use crate::Past;
 use farm_history::{Command, Entry, Gauged, Plan};
@@ -21,7 +21,8 @@ impl Past<'_> {
         plan_of(&entry.cmd)
     }
 
-    /// The plan of the movement that is open at a place.
+    /// The plan of the movement that is open at a place. `None` exactly where no Opening stands there, or a later entry closes or cancels
+    /// its movement.
     #[tactic(auto, unfolding(farm_history::specs::Movements::open_movement))]
     pub fn open_movement(&self, place: u32) -> Option<Plan>
         ensures open { result ≡ open_movement (history_of self.now.site.now self.now.entries.now) place }
@@ -33,7 +34,7 @@ impl Past<'_> {
         Some(plan)
     }
 
-    /// The place of the first movement that is open and names a tank.
+    /// The place of the first movement that is open and names a tank. `None` exactly where no open movement names it.
     ///
     /// Where no tank is named by two open movements, each entry is looked at twice at most.
     #[tactic(auto, unfolding(farm_history::specs::Movements::holding_movement))]
@@ -50,7 +51,7 @@ impl Past<'_> {
         None
     }
 
-    /// The place of the reading that the last Closing or Settle of a tank used for it.
+    /// The place of the reading that the last Closing or Settle of a tank used for it. `None` exactly where there is no such entry.
     #[tactic(auto, unfolding(farm_history::specs::Movements::used_reading))]
     pub fn used_reading(&self, tank: u16) -> Option<u32>
         ensures used { result ≡ used_reading (history_of self.now.site.now self.now.entries.now) tank }
@@ -62,7 +63,7 @@ impl Past<'_> {
         used
     }
 
-    // The reading that a command used for a tank.
+    // The reading that a command used for a tank. `None` where it used none.
     fn used_by(&self, tank: u16, command: &Command) -> Option<u32>
         ensures used { result ≡ used_by (history_of self.now.site.now self.now.entries.now) tank command.now }
     {
@@ -83,22 +84,7 @@ impl Past<'_> {
         }
     }
 
-    /// The place of the last Settle of a tank.
-    #[tactic(auto, unfolding(farm_history::specs::Movements::last_settlement))]
-    pub fn last_settlement(&self, tank: u16) -> Option<u32>
-        requires readable { IsReadable (history_of self.now.site.now self.now.entries.now) }
-        ensures settlement { result ≡ last_settlement (history_of self.now.site.now self.now.entries.now) tank }
-    {
-        let mut last = None;
-        for (index, entry) in self.entries.iter().enumerate() {
-            if settles(tank, &entry.cmd) {
-                last = Some(index as u32 + 1);
-            }
-        }
-        last
-    }
-
-    /// The place of the Reverse that names a ticket.
+    /// The place of the Reverse that names a ticket. `None` exactly where none does.
     #[tactic(auto, unfolding(farm_history::specs::Movements::reversal_of))]
     pub fn reversal_of(&self, ticket: u32) -> Option<u32>
         requires readable { IsReadable (history_of self.now.site.now self.now.entries.now) }
@@ -188,16 +174,6 @@ fn reading_for(tank: u16, first: &Gauged, second: &Option<Gauged>, plan: &Plan) 
         Plan::Transfer { from, .. } if *from == tank => Some(first.reading),
         Plan::Transfer { to, .. } if *to == tank => second.as_ref().map(|gauged| gauged.reading),
         _ => None,
-    }
-}
-
-// Whether a command settles the book of a tank.
-fn settles(tank: u16, command: &Command) -> bool
-    ensures settles { result ≡ settles tank command.now }
-{
-    match command {
-        Command::Settle { tank: number, .. } => *number == tank,
-        _ => false,
     }
 }
 

@@ -1,7 +1,7 @@
 //! What was recorded before.
 
 ghost use Rattle.std.specs.Prelude.{◌≡◌, ◌<◌, ◌≤◌, option_map};
-ghost use Rattle.farm_entries.specs.Pasts.{IsReadable, history_of};
+ghost use Rattle.farm_entries.specs.Pasts.{history_of};
 ghost use Rattle.farm_history.specs.History.{before, entry_at, last_place};
 
 use farm_history::Entry;

@@ -37,9 +37,9 @@ pub enum Posted {
 }
 
 impl Past<'_> {
-    /// What a command posts after these entries, where the ledger has the books after them.
+    // What a command posts after these entries, where the ledger has the books after them.
     #[tactic(auto, unfolding(farm_history::specs::Postings::posted_by))]
-    pub fn posted_by(&self, ledger: &Ledger, command: &Command) -> Posted
+    pub(crate) fn posted_by(&self, ledger: &Ledger, command: &Command) -> Posted
         requires readable { IsReadable (history_of self.now.site.now self.now.entries.now) }
         requires books { AreBooksOf (history_of self.now.site.now self.now.entries.now) ledger.now }
         ensures posted { listed_postings result ≡ posted_by (history_of self.now.site.now self.now.entries.now) (postings_of (history_of self.now.site.now self.now.entries.now)) command.now }
@@ -72,15 +72,7 @@ impl Past<'_> {
         ensures ticket { (place : ℕ) → postings_issued result ≡ postings_issued (issued_by_closing (history_of self.now.site.now self.now.entries.now) place command.now) }
         ensures small { IfSome result IsSmallTicket }
     {
-        let Command::Closing {
-            movement,
-            first,
-            second,
-        } = command
-        else {
-            return None;
-        };
-        let (movement, first, second) = self.to_close(*movement, first, second)?;
+        let (movement, first, second) = self.closed_by(command)?;
         closed(0, 0, movement, first, second)
     }
 
@@ -111,9 +103,10 @@ impl Past<'_> {
         }
     }
 
-    /// The gain of a tank that is settled after these entries, where the ledger has the books after them.
+    // The gain of a tank that is settled after these entries, where the ledger has the books after them. `None` where the site has no such
+    // tank, and where its figures aren't calculated.
     #[tactic(auto, unfolding(farm_history::specs::Postings::gain_after, farm_history::specs::History::tank_after))]
-    pub fn gain_after(&self, ledger: &Ledger, tank: u16, gauged: &Gauged) -> Option<Amount>
+    pub(crate) fn gain_after(&self, ledger: &Ledger, tank: u16, gauged: &Gauged) -> Option<Amount>
         requires readable { IsReadable (history_of self.now.site.now self.now.entries.now) }
         requires books { AreBooksOf (history_of self.now.site.now self.now.entries.now) ledger.now }
         ensures gain { result ≡ gain_after (history_of self.now.site.now self.now.entries.now) (postings_of (history_of self.now.site.now self.now.entries.now)) tank gauged.now }

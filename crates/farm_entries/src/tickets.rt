@@ -4,6 +4,7 @@ ghost use Rattle.std.specs.Prelude.{◌≡◌, ◌↔◌, IfSome, IsSome};
 ghost use Rattle.farm_chain.specs.Volumes.{AreInRange};
 ghost use Rattle.farm_ticket.specs.Reversing.{SidesAddUp};
 ghost use Rattle.farm_entries.specs.Bounds.{IsClosedInRange, IsOpenedInRange};
+ghost use Rattle.farm_entries.specs.Closings.{closed_by};
 ghost use Rattle.farm_entries.specs.Pasts.{IsReadable, history_of};
 ghost use Rattle.farm_history.specs.Commands.{issues_ticket};
 ghost use Rattle.farm_history.specs.History.{last_place};
@@ -60,16 +61,26 @@ impl Past<'_> {
         ensures ticket { result ≡ issued_by_closing (history_of self.now.site.now self.now.entries.now) place command.now }
         ensures adds_up { IfSome result SidesAddUp }
     {
-        let Command::Closing {
-            movement,
-            first,
-            second,
-        } = command
-        else {
-            return None;
-        };
-        let (movement, first, second) = self.to_close(*movement, first, second)?;
+        let (movement, first, second) = self.closed_by(command)?;
         closed(place, self.next_number(), movement, first, second)
+    }
+
+    // The movement that a Closing names, and the figures that it closes it on. `None` where one of these isn't there, and for a command
+    // that is no Closing.
+    pub(crate) fn closed_by(&self, command: &Command) -> Option<ToClose>
+        requires readable { IsReadable (history_of self.now.site.now self.now.entries.now) }
+        ensures closed_by { result ≡ closed_by (history_of self.now.site.now self.now.entries.now) command.now }
+        ensures sides { IfSome result (λ close. IsSome close.2 ↔ IsSome close.0.second) }
+        ensures range { IfSome result IsClosedInRange }
+    {
+        match command {
+            Command::Closing {
+                movement,
+                first,
+                second,
+            } => self.to_close(*movement, first, second),
+            _ => None,
+        }
     }
 
     // The number of the next ticket.
@@ -180,7 +191,7 @@ impl Past<'_> {
     }
 }
 
-/// The ticket of a movement that is closed at a place, with this number. `None` exactly where a side goes the wrong way.
+// The ticket of a movement that is closed at a place, with this number. `None` exactly where a side goes the wrong way.
 pub(crate) fn closed(
     place: u32,
     number: u32,

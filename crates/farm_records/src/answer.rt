@@ -10,7 +10,7 @@ use farm_journal::DiskFault;
 /// The answer to a request.
 #[derive(Clone, Copy, Debug, PartialEq, Eq)]
 pub enum Answer {
-    /// It was answered so, and whatever a crash leaves has all that this answer rests on.
+    /// The reply. Whatever a crash leaves has every entry that the reply rests on.
     Done(Reply),
     /// The disk failed in this call. The request changed nothing, or its command is entered and in doubt: a crash leaves it or not, until
     /// a later call has opened its gate.
@@ -20,7 +20,7 @@ pub enum Answer {
 }
 
 impl Answer {
-    /// How many faults it is, 1 or 0.
+    /// How many faults of the disk it stands for: 1 for `DiskFault`, else 0.
     pub fn faults(&self) -> u64
         ensures faults { result ≡ faults_of self.now }
     {

@@ -1,7 +1,7 @@
 //! How a request is answered: the gate of an entry in doubt is opened first, then the request is judged, and a command that is accepted is
 //! entered.
 
-ghost use Rattle.std.specs.Prelude.{◌≡◌, ◌≢◌, ◌≤◌, ◌≤ℤ◌, Err, false, IfOk, OnOk, is_err};
+ghost use Rattle.std.specs.Prelude.{◌≡◌, ◌≢◌, ◌≤◌, ◌≤ℤ◌, Err, false};
 ghost use Rattle.farm_base.specs.Counts.{Rose, raised};
 ghost use Rattle.farm_disk.specs.Runs.{EachSince, Extends};
 ghost use Rattle.farm_history.specs.Commands.{IsWellFormedCommand};
@@ -44,7 +44,7 @@ impl<D: Disk, const LIMIT: usize> Records<D, LIMIT> {
             Ask::Look(query) => Ok(self.book.look(query)),
             Ask::Do { account, key, cmd } => {
                 let entry = self.entry_of(caller, now, *account, *key, copy_of(cmd));
-                self.judge(entry)
+                self.judge_and_enter(entry)
             }
         }
     }
@@ -67,7 +67,7 @@ impl<D: Disk, const LIMIT: usize> Records<D, LIMIT> {
     }
 
     // Judges an entry that nothing in doubt stands before, and enters it where it is accepted.
-    fn judge(&mut self, entry: Entry) -> Result<Reply, Unanswered>
+    fn judge_and_enter(&mut self, entry: Entry) -> Result<Reply, Unanswered>
         requires well_formed { IsWellFormed entry }
         requires moment { last_moment self.old.book.history ≤ℤ entry.at }
         requires certain { self.old.doubt ≡ false }

@@ -1,6 +1,6 @@
 //! A book and its journal, and the steps in which a command is entered in both.
 
-ghost use Rattle.std.specs.Prelude.{◌≡◌, ◌≢◌, ◌+◌, ◌≤◌, ◌≤ℤ◌, false, true, None, Some, IfOk, OnErr, OnOk, is_err, length};
+ghost use Rattle.std.specs.Prelude.{◌≡◌, ◌≤◌, false, true, Some, IfOk, OnErr, OnOk, is_err};
 ghost use Rattle.farm_base.specs.Counts.{HasCause, raised};
 ghost use Rattle.farm_disk.specs.Runs.{EachSince, Extends};
 ghost use Rattle.farm_history.specs.Desk.{reply_at};

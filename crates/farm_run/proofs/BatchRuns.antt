@@ -13,7 +13,7 @@ use Rattle.farm_history.specs.History.{History}
 use Rattle.farm_run.specs.declared.limits.TheConstants.{BOOK_LIMIT}
 use Rattle.farm_run.specs.BatchRuns.{DeskBatch, LeavesOnDisk, SaysAfter, last_text, printed}
 use Rattle.farm_run.specs.Runs.{LacksMemory, Puts, Refuses, given}
-use Rattle.farm_run.specs.Texts.{disk_failed_line, no_memory, port_fault, too_long_text}
+use Rattle.farm_run.specs.Texts.{disk_fault_line, no_memory_line, port_fault_line, too_long_text}
 use Rattle.farm_run.proofs.Printing.{output_with, rose_later, says_last}
 use Rattle.farm_base.proofs.Known.{adds_none, takes_none}
 use Rattle.farm_run.proofs.Saying.{PutAnswers, rose_before, said_after, without_text}
@@ -83,10 +83,10 @@ module _ {D : Type 0} (may_give : ℤ → Type 0) (desk : DeskState D) (moment :
     disk_failed = λ five. elim lacks.statuses [ inl six ↦ absurd (omega arith) | inr seven ↦ absurd (omega arith) ];
     asked_all = λ five. elim lacks.statuses [ inl six ↦ absurd (omega arith) | inr seven ↦ absurd (omega arith) ];
     faulted = λ six. inr (rose_before before between now (omega (arith, same)) (lacks.faulted six));
-    fault_said = λ six. said_after old middle new before between now steps (no_memory ∷ []) port_fault (inl put) (omega (arith, same)) later
+    fault_said = λ six. said_after old middle new before between now steps (no_memory_line ∷ []) port_fault_line (inl put) (omega (arith, same)) later
         (without_text _ _ _ (lacks.fault_said six []));
     memory_only = λ seven. (source_quiet, lacks.memory_only seven ∙ same);
-    memory_said = λ seven. said_after old middle new before between now steps [] no_memory (inl put) (omega (arith, same)) later
+    memory_said = λ seven. said_after old middle new before between now steps [] no_memory_line (inl put) (omega (arith, same)) later
         (without_text _ _ _ (lacks.memory_said seven []));
     least = λ greater. sure;
     function = λ small. elim lacks.statuses [ inl six ↦ absurd (omega (arith, small)) | inr seven ↦ absurd (omega (arith, small)) ];
@@ -167,7 +167,7 @@ module _ {D : Type 0} (faults : D → ℕ) (may_give : ℤ → Type 0) (desk aft
   pub batch_in_doubt : (old middle new : Option (List ℕ)) (before between now status : ℕ) (end : BatchEnd) →
       (batch : Batch faults may_give BOOK_LIMIT desk after from to source old middle (record { before = before; now = between }) end) →
       LeavesOnDisk desk.history batch.steps doubt moment trace disk → ((number : ℕ) → end ≢ Long number) → doubt ≡ true →
-      before ≤ between → between ≤ now → status ≡ 5 → Puts (output_with middle new between now) disk_failed_line →
+      before ≤ between → between ≤ now → status ≡ 5 → Puts (output_with middle new between now) disk_fault_line →
       DeskBatch may_give desk.history moment trace disk from to source (output_with old new before now) status
   batch_in_doubt old middle new before between now status end batch left other in_doubt earlier later five puts =
       let sink : Count = record { before = before; now = between } in
@@ -184,8 +184,8 @@ module _ {D : Type 0} (faults : D → ℕ) (may_give : ℤ → Type 0) (desk aft
         refused = λ four. absurd (omega arith);
         disk_failed = λ _. (
           in_doubt,
-          said_after old middle new before between now batch.steps [] disk_failed_line
-              (put_before_fault batch.steps old middle sink end batch.put) earlier later (says_last (output_with middle new between now) [] [] disk_failed_line puts),
+          said_after old middle new before between now batch.steps [] disk_fault_line
+              (put_before_fault batch.steps old middle sink end batch.put) earlier later (says_last (output_with middle new between now) [] [] disk_fault_line puts),
         );
         asked_all = λ _ source_quiet quiet. all_asked batch.in_hand to batch.steps source sink end batch.ends other source_quiet
             (λ rose. quiet (rose_later before between now rose later));
@@ -201,7 +201,7 @@ module _ {D : Type 0} (faults : D → ℕ) (may_give : ℤ → Type 0) (desk aft
   pub batch_failed : (old middle new : Option (List ℕ)) (before between now status : ℕ) →
       (batch : Batch faults may_give BOOK_LIMIT desk after from to source old middle (record { before = before; now = between }) Failed) →
       LeavesOnDisk desk.history batch.steps doubt moment trace disk → doubt ≡ false →
-      before ≤ between → between ≤ now → status ≡ 6 → Puts (output_with middle new between now) port_fault →
+      before ≤ between → between ≤ now → status ≡ 6 → Puts (output_with middle new between now) port_fault_line →
       DeskBatch may_give desk.history moment trace disk from to source (output_with old new before now) status
   batch_failed old middle new before between now status batch left sure earlier later six puts =
       let sink : Count = record { before = before; now = between } in
@@ -219,8 +219,8 @@ module _ {D : Type 0} (faults : D → ℕ) (may_give : ℤ → Type 0) (desk aft
         disk_failed = λ five. absurd (omega arith);
         asked_all = λ five. absurd (omega arith);
         faulted = λ _. elim batch.ends [ inl rose ↦ inl rose | inr rose ↦ inr (rose_later before between now rose later) ];
-        fault_said = λ _. said_after old middle new before between now batch.steps (no_memory ∷ []) port_fault
-            (put_before_fault batch.steps old middle sink Failed batch.put) earlier later (says_last (output_with middle new between now) [] (no_memory ∷ []) port_fault puts);
+        fault_said = λ _. said_after old middle new before between now batch.steps (no_memory_line ∷ []) port_fault_line
+            (put_before_fault batch.steps old middle sink Failed batch.put) earlier later (says_last (output_with middle new between now) [] (no_memory_line ∷ []) port_fault_line puts);
         memory_only = λ seven. absurd (omega arith);
         memory_said = λ seven. absurd (omega arith);
         least = λ greater. inl sure;

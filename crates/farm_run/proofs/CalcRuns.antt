@@ -6,7 +6,8 @@ use Rattle.farm_base.specs.Known.{WhereKnown, Stream}
 use Rattle.farm_ports.specs.Ports.{ReadsUpTo}
 use Rattle.farm_fixed.specs.declared.records.Quantities.{Quantities}
 use Rattle.calc_input.specs.declared.refusal.Refused.{Refused}
-use Rattle.calc_input.specs.Answer.{answer_of, limit}
+use Rattle.calc_input.specs.declared.answer.TheConstants.{MOST_INPUT_BYTES}
+use Rattle.calc_input.specs.Answer.{answer_of}
 use Rattle.calc_input.proofs.Answering.{front_decides}
 use Rattle.calc_input.proofs.RefusedLines.{refusal_right}
 use Rattle.farm_run.specs.Answers.{calc_of, calc_text, text_of_figures}
@@ -33,11 +34,11 @@ calc_run input source output status run = record {
 }
 
 -- a length is up to the limit or over it
-long_or_short : (n : ℕ) → (n < limit + 1) ⊎ (limit < n)
-long_or_short n = elim (leb_tells (suc n) (limit + 1)) [ inl t ↦ inl (omega (arith, t.1)) | inr t ↦ inr (omega (arith, t.1)) ]
+long_or_short : (n : ℕ) → (n < MOST_INPUT_BYTES + 1) ⊎ (MOST_INPUT_BYTES < n)
+long_or_short n = elim (leb_tells (suc n) (MOST_INPUT_BYTES + 1)) [ inl t ↦ inl (omega (arith, t.1)) | inr t ↦ inr (omega (arith, t.1)) ]
 
 -- what was read answers as the whole input does
-read_enough : (old new : Option Stream) (bytes : List ℕ) → ReadsUpTo old new (limit + 1) bytes → WhereKnown (given old new) (λ input. calc_of input ≡ calc_of bytes)
+read_enough : (old new : Option Stream) (bytes : List ℕ) → ReadsUpTo old new (MOST_INPUT_BYTES + 1) bytes → WhereKnown (given old new) (λ input. calc_of input ≡ calc_of bytes)
 unfolding calc_text
 read_enough None None bytes reads = tt
 read_enough (Some old) None bytes reads = tt
@@ -49,7 +50,7 @@ read_enough (Some old) (Some new) bytes reads = elim (long_or_short (length byte
 
 -- the run of `calc` that read these bytes and answered them
 pub calc_answered : (old new : Option Stream) (bytes : List ℕ) (source : Count) (output : Output) (status : ℕ) → IsQuiet source →
-    ReadsUpTo old new (limit + 1) bytes → Answers 4 refusal_text (calc_of bytes) output status → CalcRun (given old new) source output status
+    ReadsUpTo old new (MOST_INPUT_BYTES + 1) bytes → Answers 4 refusal_text (calc_of bytes) output status → CalcRun (given old new) source output status
 calc_answered old new bytes source output status quiet reads answers =
     calc_run (given old new) source output status (
     run_answering 4 refusal_text calc_of (given old new) (calc_of bytes) source output status quiet (read_enough old new bytes reads) answers

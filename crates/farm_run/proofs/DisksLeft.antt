@@ -6,7 +6,7 @@ use Rattle.farm_base.specs.Counts.{raised, count_of}
 use Rattle.farm_batch.specs.Answers.{AreAcknowledged, IsReply, Step, faults_in, history_after}
 use Rattle.farm_records.specs.Histories.{RecoversFront, RecoversNow, certain}
 use Rattle.farm_records.specs.Moments.{EachFrom}
-use Rattle.farm_desk.specs.States.{DeskState, IsNew}
+use Rattle.farm_desk.specs.States.{DeskState, IsJustMade}
 use Rattle.farm_desk.specs.declared.opened.Opened.{Opened}
 use Rattle.farm_disk.specs.Images.{State}
 use Rattle.farm_disk.specs.Runs.{EachNow}
@@ -41,7 +41,7 @@ counted_in_all some last before between now first second =
     second ∙ ap (λ count. raised last count) first ∙ sym (faults_add_up some last before)
 
 module _ {D : Type 0} (trace : D → Option (List State)) (moment faults : D → ℕ) (desk after : DeskState D) (out : D) (doubt : Bool) (steps : List Step)
-    (new : IsNew moment faults desk (last_place desk.history)) (opened : after.opened ≡ desk.opened)
+    (new : IsJustMade moment faults desk (last_place desk.history)) (opened : after.opened ≡ desk.opened)
     (left : after.history ≡ history_after desk.history steps) where
   -- from the desk as it was recovered, what it leaves after the batch and the last opening of a gate
   pub leaves : faults after.disk ≡ raised (faults_in steps) (faults desk.disk) → AreAcknowledged (certain after.doubt after.history) steps →

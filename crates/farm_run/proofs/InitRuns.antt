@@ -11,7 +11,7 @@ use Rattle.farm_site.specs.Described.{Described}
 use Rattle.farm_run.specs.declared.limits.TheConstants.{BOOK_LIMIT}
 use Rattle.farm_run.specs.InitRuns.{FolderFailed, HasBytes, NotCreated, SiteInit}
 use Rattle.farm_run.specs.Runs.{LacksMemory, Output, Puts}
-use Rattle.farm_run.specs.Texts.{disk_failed_line, not_empty_line, port_fault}
+use Rattle.farm_run.specs.Texts.{disk_fault_line, not_empty_line, port_fault_line}
 use Rattle.farm_run.proofs.Printing.{says_last}
 use Rattle.farm_run.proofs.Runs.{known_map}
 use Rattle.farm_run.proofs.Saying.{without_text}
@@ -79,12 +79,12 @@ module _ (site : Described) (old : Option (List State)) where
 
 module _ (old new : Option (List State)) (disk : Count) (output : Output) (status : ℕ) where
   -- the folder failed, and the disk is empty
-  pub folder_failed : Stays old new → GivesNone new → IsQuiet disk → status ≡ 6 → Puts output port_fault → FolderFailed old new disk output status
+  pub folder_failed : Stays old new → GivesNone new → IsQuiet disk → status ≡ 6 → Puts output port_fault_line → FolderFailed old new disk output status
   folder_failed stays none quiet six puts = record {
     statuses = inr (inr six);
     not_empty = λ three. absurd (omega (arith, six));
     disk_failed = λ five. absurd (omega (arith, six));
-    faulted = λ _. (none, says_last output [] [] port_fault puts);
+    faulted = λ _. (none, says_last output [] [] port_fault_line puts);
     disk_quiet = λ _. quiet;
     disk_kept = stays;
   }
@@ -101,11 +101,11 @@ module _ (old new : Option (List State)) (disk : Count) (output : Output) (statu
   }
 
   -- the folder failed, and so did the disk
-  pub folder_and_disk_failed : Stays old new → HasRisen disk → status ≡ 5 → Puts output disk_failed_line → FolderFailed old new disk output status
+  pub folder_and_disk_failed : Stays old new → HasRisen disk → status ≡ 5 → Puts output disk_fault_line → FolderFailed old new disk output status
   folder_and_disk_failed stays rose five puts = record {
     statuses = inr (inl five);
     not_empty = λ three. absurd (omega (arith, five));
-    disk_failed = λ _. (rose, says_last output [] [] disk_failed_line puts);
+    disk_failed = λ _. (rose, says_last output [] [] disk_fault_line puts);
     faulted = λ six. absurd (omega (arith, five));
     disk_quiet = λ other. absurd (other five);
     disk_kept = stays;

@@ -15,7 +15,7 @@ use Rattle.farm_journal.specs.declared.faults.RecoverFault.TheVariants.{NotJourn
 use Rattle.farm_run.specs.declared.limits.TheConstants.{BOOK_LIMIT}
 use Rattle.farm_run.specs.BatchRuns.{NoDesk, NotRecovered, RefusesJournal}
 use Rattle.farm_run.specs.Runs.{LacksMemory, Output, Says}
-use Rattle.farm_run.specs.Texts.{disk_failed_line}
+use Rattle.farm_run.specs.Texts.{disk_fault_line}
 use Rattle.farm_run.proofs.Runs.{known_map, where_known}
 use Rattle.farm_run.proofs.Saying.{without_text}
 
@@ -54,7 +54,7 @@ module _ (old left : Option (List State)) (disk : Count) (input : Option Stream)
   }
 
   -- the disk failed
-  failing : HasRisen disk → status ≡ 5 → Says output [] [] disk_failed_line →
+  failing : HasRisen disk → status ≡ 5 → Says output [] [] disk_fault_line →
       NoDesk old left disk input input (record { before = source; now = source }) output status
   failing rose five said = record {
     statuses = inr (inl five);

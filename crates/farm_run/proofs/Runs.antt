@@ -2,7 +2,7 @@
 use Rattle.std.proofs.Common.{◌≡◌, ◌≢◌, ◌⊎◌, inl, inr, ℕ, ◌<◌, List, [], Option, Some, None, Result, Ok, Err, IfOk, MatchResult, refl, sym, subst, ◌∙◌, arith}
 use Rattle.farm_base.specs.Counts.{Count, HasRisen, IsQuiet}
 use Rattle.farm_base.specs.Known.{WhereKnown}
-use Rattle.farm_run.specs.Texts.{no_memory, port_fault}
+use Rattle.farm_run.specs.Texts.{no_memory_line, port_fault_line}
 use Rattle.farm_run.specs.Runs.{Answers, Delivers, LacksMemory, OneAnswerRun, Output, Puts, Refuses, text_of, unused}
 use Rattle.farm_run.proofs.Printing.{puts_ends, says_ends, says_last}
 
@@ -35,10 +35,10 @@ answers_lacking refusal says has output status small lacks = record {
   refused_only = λ why is still. elim lacks.statuses [ inl fault ↦ inr (inr (fault, lacks.faulted fault)) | inr memory ↦ inr (inl memory) ];
   faulted = λ six. inr (lacks.faulted six);
   fault_said = λ six. lacks.fault_said six (text_of has);
-  fault_ends = λ six. says_ends output _ _ port_fault (lacks.fault_said six (text_of has));
+  fault_ends = λ six. says_ends output _ _ port_fault_line (lacks.fault_said six (text_of has));
   memory_only = λ seven. (refl, lacks.memory_only seven);
   memory_said = λ seven. lacks.memory_said seven (text_of has);
-  memory_ends = λ seven. says_ends output _ _ no_memory (lacks.memory_said seven (text_of has));
+  memory_ends = λ seven. says_ends output _ _ no_memory_line (lacks.memory_said seven (text_of has));
   complete = λ text is still quiet. elim lacks.statuses [ inl fault ↦ absurd (quiet (lacks.faulted fault)) | inr memory ↦ inr memory ];
 }
 
@@ -106,7 +106,7 @@ answers_delivering refusal says has output status text small answer delivers = r
   refused_only = λ why is still. absurd (not_both has text why answer is);
   faulted = λ six. inr (delivers.faulted six);
   fault_said = λ six. rw answer (delivers.fault_said six);
-  fault_ends = λ six. says_ends output _ _ port_fault (delivers.fault_said six);
+  fault_ends = λ six. says_ends output _ _ port_fault_line (delivers.fault_said six);
   memory_only = λ seven. elim delivers.statuses [ inl zero ↦ absurd (omega arith) | inr six ↦ absurd (omega arith) ];
   memory_said = λ seven. elim delivers.statuses [ inl zero ↦ absurd (omega arith) | inr six ↦ absurd (omega arith) ];
   memory_ends = λ seven. elim delivers.statuses [ inl zero ↦ absurd (omega arith) | inr six ↦ absurd (omega arith) ];
@@ -134,7 +134,7 @@ run_answering refusal says has input known port output status port_quiet same an
 
 -- the run whose port failed
 pub run_faulted : {I Why : Type 0} (refusal : ℕ) (says : Why → List ℕ) (has : I → Option (Result (List ℕ) Why)) (input : Option I) (port : Count)
-    (output : Output) (status : ℕ) → IsRefusalStatus refusal → HasRisen port → status ≡ 6 → Puts output port_fault → OneAnswerRun refusal says has input port output status
+    (output : Output) (status : ℕ) → IsRefusalStatus refusal → HasRisen port → status ≡ 6 → Puts output port_fault_line → OneAnswerRun refusal says has input port output status
 run_faulted refusal says has input port output status small rose six puts = record {
   statuses = inr (inr (inl six));
   done = λ zero. absurd (omega arith);
@@ -142,8 +142,8 @@ run_faulted refusal says has input port output status small rose six puts = reco
   refused_ends = λ same. absurd (omega (arith, small.1));
   refused_only = where_known input _ (λ known why is quiet. absurd (quiet rose));
   faulted = λ _. inl rose;
-  fault_said = λ _. where_known input _ (λ known. says_last output _ _ port_fault puts);
-  fault_ends = λ _. puts_ends output port_fault puts;
+  fault_said = λ _. where_known input _ (λ known. says_last output _ _ port_fault_line puts);
+  fault_ends = λ _. puts_ends output port_fault_line puts;
   memory_only = λ seven. absurd (omega arith);
   memory_said = λ seven. absurd (omega arith);
   memory_ends = λ seven. absurd (omega arith);
@@ -161,10 +161,10 @@ run_lacking refusal says has input port output status small port_quiet lacks = r
   refused_only = where_known input _ (λ known why is still. elim lacks.statuses [ inl fault ↦ inr (inr (fault, lacks.faulted fault)) | inr memory ↦ inr (inl memory) ]);
   faulted = λ six. inr (lacks.faulted six);
   fault_said = λ six. where_known input _ (λ known. lacks.fault_said six (text_of (has known)));
-  fault_ends = λ six. says_ends output _ _ port_fault (lacks.fault_said six []);
+  fault_ends = λ six. says_ends output _ _ port_fault_line (lacks.fault_said six []);
   memory_only = λ seven. (port_quiet, lacks.memory_only seven);
   memory_said = λ seven. where_known input _ (λ known. lacks.memory_said seven (text_of (has known)));
-  memory_ends = λ seven. says_ends output _ _ no_memory (lacks.memory_said seven []);
+  memory_ends = λ seven. says_ends output _ _ no_memory_line (lacks.memory_said seven []);
   complete = where_known input _ (λ known text is still quiet. elim lacks.statuses [ inl fault ↦ absurd (quiet (lacks.faulted fault)) | inr memory ↦ inr memory ]);
 }
 

@@ -19,7 +19,7 @@ use Rattle.farm_journal.specs.Recovery.{IsNotJournal}
 use Rattle.farm_run.specs.declared.limits.TheConstants.{BOOK_LIMIT}
 use Rattle.farm_run.specs.Disks.{IsLater}
 use Rattle.farm_run.specs.Runs.{LacksMemory, Output, Puts, Refuses, Says, given}
-use Rattle.farm_run.specs.Texts.{disk_failed_line, journal_damaged_text, no_memory, not_journal_line, port_fault, too_long_text}
+use Rattle.farm_run.specs.Texts.{disk_fault_line, journal_damaged_text, no_memory_line, not_journal_line, port_fault_line, too_long_text}
 
 -- The answers of lines were put, whole but for the last one where a put failed, and then a front of each of these texts; where no put
 -- failed, the answers and then the last text, both whole.
@@ -35,7 +35,7 @@ pub record SaysAfter (output : Output) (steps : List Step) (middle : List (List 
 abbrev pub last_text : BatchEnd → List ℕ
 last_text Done = []
 last_text (Long number) = too_long_text number
-last_text Failed = port_fault
+last_text Failed = port_fault_line
 
 -- all that a batch prints, over good ports and with memory
 abbrev pub printed : Outcome → List ℕ
@@ -74,13 +74,13 @@ pub record DeskBatch (may_give : ℤ → Type 0) (found : History) (moment : ℕ
   -- the next line is one too many, or holds a byte too many
   pub refused : status ≡ 4 → GoesOn steps × IsTooMuch (lines_of steps) in_hand × SaysAfter output steps [] (too_long_text (length steps + 1))
   -- an entry is in doubt; where no port failed, every line was asked all the same
-  pub disk_failed : status ≡ 5 → (doubt ≡ true) × SaysAfter output steps [] disk_failed_line
+  pub disk_failed : status ≡ 5 → (doubt ≡ true) × SaysAfter output steps [] disk_fault_line
   pub asked_all : status ≡ 5 → ¬ (HasRisen source) → ¬ (HasRisen output.count) → AskedAll in_hand to steps
   pub faulted : status ≡ 6 → HasRisen source ⊎ HasRisen output.count
-  pub fault_said : status ≡ 6 → SaysAfter output steps (no_memory ∷ []) port_fault
+  pub fault_said : status ≡ 6 → SaysAfter output steps (no_memory_line ∷ []) port_fault_line
   -- a port that failed is never answered as out of memory
   pub memory_only : status ≡ 7 → IsQuiet source × IsQuiet output.count
-  pub memory_said : status ≡ 7 → SaysAfter output steps [] no_memory
+  pub memory_said : status ≡ 7 → SaysAfter output steps [] no_memory_line
   -- a greater status comes with an entry in doubt only where there was no memory for the line of a line too many
   pub least : 5 < status → (doubt ≡ false) ⊎ IsTooMuch (lines_of steps) in_hand
   -- where nothing failed and there was memory, what was put depends on the history and the input alone
@@ -90,17 +90,17 @@ pub record DeskBatch (may_give : ℤ → Type 0) (found : History) (moment : ℕ
 -- What is reported of how a batch ended, with an entry in doubt or none: a line too many first, then an entry in doubt, then a port that failed.
 abbrev pub EndReported : {E : Type 0} → Result BatchEnd E → Bool → Output → ℕ → Type 0
 EndReported (Ok (Long number)) doubt output status = Refuses output 4 (too_long_text number) status
-EndReported (Ok Done) true output status = (status ≡ 5) × Puts output disk_failed_line
+EndReported (Ok Done) true output status = (status ≡ 5) × Puts output disk_fault_line
 EndReported (Ok Done) false output status = (status ≡ 0) × (output.new ≡ output.old) × IsQuiet output.count
-EndReported (Ok Failed) true output status = (status ≡ 5) × Puts output disk_failed_line
-EndReported (Ok Failed) false output status = (status ≡ 6) × Puts output port_fault
+EndReported (Ok Failed) true output status = (status ≡ 5) × Puts output disk_fault_line
+EndReported (Ok Failed) false output status = (status ≡ 6) × Puts output port_fault_line
 EndReported (Err e) doubt output status = LacksMemory output status
 
 -- what is reported of a journal that wasn't recovered
 abbrev pub NotRecovered : RecoverFault → Output → ℕ → Type 0
 NotRecovered NotJournal output status = (status ≡ 3) × Says output [] [] not_journal_line
 NotRecovered (Damaged place) output status = Refuses output 3 (journal_damaged_text place) status
-NotRecovered DiskFault output status = (status ≡ 5) × Says output [] [] disk_failed_line
+NotRecovered DiskFault output status = (status ≡ 5) × Says output [] [] disk_fault_line
 NotRecovered NoMemory output status = LacksMemory output status
 
 -- the bytes of the disk don't begin as a journal's, or the journal is damaged at a place; and the line of that was put
@@ -117,9 +117,9 @@ pub record NoDesk (old new : Option (List State)) (disk : Count) (from to : Opti
   pub refused : status ≡ 3 → (why : RecoverFault) × RefusesJournal new output why
   -- bytes that stand for a history aren't refused
   pub refused_only : (history : History) → WhereKnown new (λ states. Recovers BOOK_LIMIT history (present states).seen → status ≢ 3)
-  pub disk_failed : status ≡ 5 → HasRisen disk × Says output [] [] disk_failed_line
-  pub faulted : status ≡ 6 → HasRisen output.count × Says output [] (no_memory ∷ []) port_fault
-  pub memory_only : status ≡ 7 → IsQuiet output.count × Says output [] [] no_memory
+  pub disk_failed : status ≡ 5 → HasRisen disk × Says output [] [] disk_fault_line
+  pub faulted : status ≡ 6 → HasRisen output.count × Says output [] (no_memory_line ∷ []) port_fault_line
+  pub memory_only : status ≡ 7 → IsQuiet output.count × Says output [] [] no_memory_line
   pub disk_quiet : status ≢ 5 → IsQuiet disk
   pub wrote_nothing : WritesNothing old new
   pub input_kept : to ≡ from

@@ -17,7 +17,7 @@ use Rattle.farm_site.specs.Described.{Described, site_of_files}
 use Rattle.farm_run.specs.declared.limits.TheConstants.{BOOK_LIMIT}
 use Rattle.farm_run.specs.Answers.{text_or_fault}
 use Rattle.farm_run.specs.Runs.{LacksMemory, OneAnswerRun, Output, Says}
-use Rattle.farm_run.specs.Texts.{disk_failed_line, no_memory, not_empty_line, port_fault, site_refused_text}
+use Rattle.farm_run.specs.Texts.{disk_fault_line, no_memory_line, not_empty_line, port_fault_line, site_refused_text}
 
 -- what reading a site alone answers: no text, or its first fault
 abbrev pub site_answer : Result Described Refusal → Option (Result (List ℕ) SiteFault)
@@ -38,19 +38,19 @@ pub record NoSite {D : Type 0} (files : Option (List File)) (folder : Count) (ol
 abbrev pub HasBytes : Option (List State) → Option (List State) → Type 0
 HasBytes old new = WhereKnown new (λ states. (present states).seen ≢ []) × Stays old new
 
--- The folder failed. The disk was asked for its length all the same, since one that isn't empty has the lesser status, and one that fails.
+-- The folder failed. The disk was asked for its length all the same, since a disk that isn't empty, or that fails, has a lesser status.
 pub record FolderFailed (old new : Option (List State)) (disk : Count) (output : Output) (status : ℕ) : Type 0 where
   pub statuses : (status ≡ 3) ⊎ (status ≡ 5) ⊎ (status ≡ 6)
   pub not_empty : status ≡ 3 → HasBytes old new × Says output [] [] not_empty_line
-  pub disk_failed : status ≡ 5 → HasRisen disk × Says output [] [] disk_failed_line
-  pub faulted : status ≡ 6 → GivesNone new × Says output [] [] port_fault
+  pub disk_failed : status ≡ 5 → HasRisen disk × Says output [] [] disk_fault_line
+  pub faulted : status ≡ 6 → GivesNone new × Says output [] [] port_fault_line
   pub disk_quiet : status ≢ 5 → IsQuiet disk
   pub disk_kept : Stays old new
 
 -- what is reported of a journal that wasn't made
 abbrev pub NotCreated : CreateFault → Output → ℕ → Type 0
 NotCreated NotEmpty output status = (status ≡ 3) × Says output [] [] not_empty_line
-NotCreated DiskFault output status = (status ≡ 5) × Says output [] [] disk_failed_line
+NotCreated DiskFault output status = (status ≡ 5) × Says output [] [] disk_fault_line
 NotCreated NoMemory output status = LacksMemory output status
 
 -- A journal of a site is made on an empty disk, or it is reported why not.
@@ -59,10 +59,10 @@ pub record SiteInit (site : Described) (old new : Option (List State)) (disk : C
   -- the disk was empty, nothing was printed, and whatever a crash leaves stands for the history of the site without an entry
   pub made : status ≡ 0 → WasEmpty old new × EachNow new (Recovers BOOK_LIMIT (empty_history site)) × Adds output.old output.new []
   pub not_empty : status ≡ 3 → HasBytes old new × Says output [] [] not_empty_line
-  pub disk_failed : status ≡ 5 → HasRisen disk × Says output [] [] disk_failed_line
+  pub disk_failed : status ≡ 5 → HasRisen disk × Says output [] [] disk_fault_line
   -- there was no memory, which comes before the disk's first call; it couldn't be put where the output failed
-  pub faulted : status ≡ 6 → HasRisen output.count × Says output [] (no_memory ∷ []) port_fault
-  pub memory_only : status ≡ 7 → IsQuiet output.count × Says output [] [] no_memory
+  pub faulted : status ≡ 6 → HasRisen output.count × Says output [] (no_memory_line ∷ []) port_fault_line
+  pub memory_only : status ≡ 7 → IsQuiet output.count × Says output [] [] no_memory_line
   pub disk_quiet : status ≢ 5 → IsQuiet disk
   -- whatever a crash leaves at a moment of the run is no journal, or stands for the history of the site without an entry
   pub crash_safe : IsCrashSafe BOOK_LIMIT site old new

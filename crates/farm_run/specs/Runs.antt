@@ -10,7 +10,7 @@ use Rattle.calc_input.specs.RefusedLine.{IsRefusal}
 use Rattle.site_keys.specs.Faults.{IsMissing}
 use Rattle.farm_site.specs.Described.{site_of_files}
 use Rattle.farm_run.specs.Answers.{calc_of, table_of}
-use Rattle.farm_run.specs.Texts.{usage_line, no_memory, port_fault, refusal_text, site_refused_text}
+use Rattle.farm_run.specs.Texts.{usage_line, no_memory_line, port_fault_line, refusal_text, site_refused_text}
 
 -- whether a command makes calls on the input
 abbrev pub uses_input : Option Subcommand → Bool
@@ -66,7 +66,7 @@ abbrev pub EndsWith : Output → List ℕ → Type 0
 EndsWith output text = ¬ (HasRisen output.count) → (front : List ℕ) × Adds output.old output.new (front ++ text)
 
 -- What an input has: a text to put, or a reason to refuse it; neither where the input can't be had.
--- This is the text, nothing where there is no text.
+-- This is the text of what an input has; no bytes where it has none.
 abbrev pub text_of : {Why : Type 0} → Option (Result (List ℕ) Why) → List ℕ
 text_of (Some (Ok text)) = text
 text_of (Some (Err why)) = []
@@ -91,12 +91,12 @@ pub record OneAnswerRun {Input Why : Type 0} (refusal : ℕ) (says : Why → Lis
   pub refused_only : WhereKnown input (λ known. (why : Why) → has known ≡ Some (Err why) → ¬ (HasRisen port) →
       (status ≡ refusal) ⊎ (status ≡ 7) ⊎ ((status ≡ 6) × HasRisen output.count))
   pub faulted : status ≡ 6 → (HasRisen port) ⊎ (HasRisen output.count)
-  pub fault_said : status ≡ 6 → WhereKnown input (λ known. Says output (text_of (has known) ∷ []) (no_memory ∷ []) port_fault)
-  pub fault_ends : status ≡ 6 → EndsWith output port_fault
+  pub fault_said : status ≡ 6 → WhereKnown input (λ known. Says output (text_of (has known) ∷ []) (no_memory_line ∷ []) port_fault_line)
+  pub fault_ends : status ≡ 6 → EndsWith output port_fault_line
   -- a port that failed is never answered as out of memory
   pub memory_only : status ≡ 7 → IsQuiet port × IsQuiet output.count
-  pub memory_said : status ≡ 7 → WhereKnown input (λ known. Says output (text_of (has known) ∷ []) [] no_memory)
-  pub memory_ends : status ≡ 7 → EndsWith output no_memory
+  pub memory_said : status ≡ 7 → WhereKnown input (λ known. Says output (text_of (has known) ∷ []) [] no_memory_line)
+  pub memory_ends : status ≡ 7 → EndsWith output no_memory_line
   -- a good input over good ports is answered, unless there was no memory
   pub complete : WhereKnown input (λ known. (text : List ℕ) → has known ≡ Some (Ok text) → ¬ (HasRisen port) → ¬ (HasRisen output.count) →
       (status ≡ 0) ⊎ (status ≡ 7))
@@ -127,15 +127,15 @@ pub record Delivers (output : Output) (text : List ℕ) (status : ℕ) : Type 0 
   pub statuses : (status ≡ 0) ⊎ (status ≡ 6)
   pub done : status ≡ 0 → Adds output.old output.new text
   pub faulted : status ≡ 6 → HasRisen output.count
-  pub fault_said : status ≡ 6 → Says output (text ∷ []) (no_memory ∷ []) port_fault
+  pub fault_said : status ≡ 6 → Says output (text ∷ []) (no_memory_line ∷ []) port_fault_line
 
 -- Out of memory was reported, or the output failed and that was reported; nothing else was put.
 pub record LacksMemory (output : Output) (status : ℕ) : Type 0 where
   pub statuses : (status ≡ 6) ⊎ (status ≡ 7)
   pub faulted : status ≡ 6 → HasRisen output.count
-  pub fault_said : status ≡ 6 → (text : List ℕ) → Says output (text ∷ []) (no_memory ∷ []) port_fault
+  pub fault_said : status ≡ 6 → (text : List ℕ) → Says output (text ∷ []) (no_memory_line ∷ []) port_fault_line
   pub memory_only : status ≡ 7 → IsQuiet output.count
-  pub memory_said : status ≡ 7 → (text : List ℕ) → Says output (text ∷ []) [] no_memory
+  pub memory_said : status ≡ 7 → (text : List ℕ) → Says output (text ∷ []) [] no_memory_line
 
 -- A refusal's line was put, or out of memory was reported.
 pub record Refuses (output : Output) (refusal : ℕ) (text : List ℕ) (status : ℕ) : Type 0 where

@@ -11,16 +11,16 @@ abbrev pub usage_line : List ℕ
 usage_line = codes "usage: farm calc|init|table|batch|serve|report|drill\n"
 
 -- 7: out of memory
-abbrev pub no_memory : List ℕ
-no_memory = codes "no memory\n"
+abbrev pub no_memory_line : List ℕ
+no_memory_line = codes "no memory\n"
 
 -- 6: the input, the folder or the output failed
-abbrev pub port_fault : List ℕ
-port_fault = codes "port fault\n"
+abbrev pub port_fault_line : List ℕ
+port_fault_line = codes "port fault\n"
 
 -- 5: the disk failed
-abbrev pub disk_failed_line : List ℕ
-disk_failed_line = codes "disk fault\n"
+abbrev pub disk_fault_line : List ℕ
+disk_fault_line = codes "disk fault\n"
 
 -- 3: the disk has bytes where a journal is to be made
 abbrev pub not_empty_line : List ℕ

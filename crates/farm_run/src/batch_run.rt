@@ -2,7 +2,7 @@
 
 ghost use Rattle.std.specs.Prelude.{◌≤◌, IfSome, IsSome};
 ghost use Rattle.farm_base.specs.Counts.{count_of};
-ghost use Rattle.farm_desk.specs.States.{IsNew};
+ghost use Rattle.farm_desk.specs.States.{IsJustMade};
 ghost use Rattle.farm_history.specs.History.{last_place};
 ghost use Rattle.farm_run.specs.BatchRuns.{BatchRun, DeskBatch, EndReported, NotRecovered};
 ghost use Rattle.farm_run.specs.Disks.{IsLater};
@@ -14,7 +14,7 @@ use crate::limits::BOOK_LIMIT;
 use crate::reports::{
     DONE, JOURNAL_REFUSED, REFUSED, refuse, report_disk_fault, report_fault, report_no_memory, say,
 };
-use crate::texts::{NOT_A_JOURNAL, journal_damaged_text, too_long_text};
+use crate::texts::{NOT_A_JOURNAL_LINE, journal_damaged_text, too_long_text};
 use farm_base::NoMemory;
 use farm_batch::{BatchEnd, answer_lines};
 use farm_desk::{Desk, RecoverFault};
@@ -58,7 +58,7 @@ fn report_recover<K: Sink>(alloc: Global, fault: RecoverFault, output: &mut K) -
     ensures never_falls { K.faults output.old ≤ K.faults output.new }
 {
     match fault {
-        RecoverFault::NotJournal => say(NOT_A_JOURNAL, JOURNAL_REFUSED, output),
+        RecoverFault::NotJournal => say(NOT_A_JOURNAL_LINE, JOURNAL_REFUSED, output),
         RecoverFault::Damaged(place) => {
             refuse(journal_damaged_text(alloc, place), JOURNAL_REFUSED, output)
         }
@@ -75,7 +75,7 @@ fn ask_lines<S: Source, K: Sink, D: Disk, C: Clock>(
     output: &mut K,
     clock: &C,
 ) -> Done<D>
-    requires new { IsNew (λ boxed. D.moment boxed.disk.value) (λ boxed. D.faults boxed.disk.value) desk (last_place desk.history) }
+    requires new { IsJustMade (λ boxed. D.moment boxed.disk.value) (λ boxed. D.faults boxed.disk.value) desk (last_place desk.history) }
     ensures desk_batch { IfSome result.disk (λ left. DeskBatch (C.may_give clock.now) desk.history (D.moment desk.disk.disk.value) (D.trace left)
         (count_of D.faults desk.disk.disk.value left) (S.stream input.old) (S.stream input.new) (count_of S.faults input.old input.new)
         (output_of K.held K.faults output.old output.new) result.status) }
@@ -95,7 +95,8 @@ fn ask_lines<S: Source, K: Sink, D: Disk, C: Clock>(
     }
 }
 
-// Reports how a batch ended, with an entry in doubt or none. The least status that holds is answered.
+// Reports how a batch ended, with an entry in doubt or none. The least status that holds is answered, but in one case: where there is no
+// memory for the line of a line too many, the status is 7 (or 6) also with an entry in doubt.
 fn report_end<K: Sink>(
     alloc: Global,
     end: Result<BatchEnd, NoMemory>,

@@ -15,7 +15,7 @@ use crate::reports::{
     DONE, JOURNAL_REFUSED, SITE_REFUSED, refuse, report_disk_fault, report_fault, report_no_memory,
     say,
 };
-use crate::texts::{NOT_EMPTY, site_refused_text};
+use crate::texts::{NOT_EMPTY_LINE, site_refused_text};
 use farm_desk::{CreateFault, Desk};
 use farm_disk::Disk;
 use farm_ports::{Failed, Folder, Sink};
@@ -81,7 +81,7 @@ fn report_create<K: Sink>(fault: CreateFault, output: &mut K) -> u8
     ensures never_falls { K.faults output.old ≤ K.faults output.new }
 {
     match fault {
-        CreateFault::NotEmpty => say(NOT_EMPTY, JOURNAL_REFUSED, output),
+        CreateFault::NotEmpty => say(NOT_EMPTY_LINE, JOURNAL_REFUSED, output),
         CreateFault::DiskFault => report_disk_fault(output),
         CreateFault::NoMemory => report_no_memory(output),
     }
@@ -98,7 +98,7 @@ fn report_folder<K: Sink, D: Disk>(output: &mut K, disk: D) -> Done<D>
     let mut disk = disk;
     let status = match disk.len() {
         Ok(0) => report_fault(output),
-        Ok(_) => say(NOT_EMPTY, JOURNAL_REFUSED, output),
+        Ok(_) => say(NOT_EMPTY_LINE, JOURNAL_REFUSED, output),
         Err(Failed) => report_disk_fault(output),
     };
     Done {

@@ -18,13 +18,14 @@ use crate::batch_run::batch;
 use crate::done::Done;
 use crate::init_run::init;
 use crate::reports::{
-    BAD_WORDS, REFUSED, SITE_REFUSED, deliver, refuse, report_fault, report_no_memory, say,
+    NO_COMMAND, REFUSED, SITE_REFUSED, deliver, refuse, report_fault, report_no_memory, say,
 };
-use crate::texts::{USAGE, refusal_text, site_refused_text};
-use calc_input::{LIMIT, Unanswered, figures_of_input};
+use crate::texts::{USAGE_LINE, refusal_text, site_refused_text};
+use calc_input::{MOST_INPUT_BYTES, Unanswered, figures_of_input};
 use command_line::Subcommand;
+use farm_base::NoMemory;
 use farm_disk::Disk;
-use farm_fixed::{NoMemory, Quantities};
+use farm_fixed::Quantities;
 use farm_ports::{Clock, Folder, PortFault, Sink, Source, read_up_to};
 use farm_report::{figures_text, issued};
 use farm_site::{Site, SiteReadFault};
@@ -37,14 +38,16 @@ use std::alloc::Global;
 /// - `table` reads the site of the folder and prints the capacity table of each tank. Its statuses are 0 where they were printed
 ///   whole, 2 where the folder describes no site, 6 where the folder or the output failed and 7 where there was no memory.
 /// - `init` reads the site of the folder and makes its journal on an empty disk. Its statuses are 0 where it was made, 2 where the folder
-///   describes no site, 3 where the disk isn't empty, 5 where it failed, 6 where the folder failed and 7 where there was no memory.
+///   describes no site, 3 where the disk isn't empty, 5 where it failed, 6 where the folder or the output failed and 7 where there was no
+///   memory.
 /// - `batch` recovers the desk of the journal on the disk and asks it the lines of the input, one after another, each answered by a line
 ///   of its own. Its statuses are 0 where every line was answered, or a Stop was entered, and nothing is in doubt; 3 where the disk has no
 ///   whole journal; 4 at a line too many; 5 where the disk failed before the desk was recovered, or an entry is in doubt at the end; 6 where
 ///   a port failed and 7 where there was no memory.
 /// - Arguments that are no command print the usage line, and end with 1.
 ///
-/// The least status that holds is answered. A command makes no call on a port or a disk that it doesn't use. A text follows what was printed
+/// The least status that holds is answered, but in one case: where there is no memory for the line of a line too many, `batch` ends with
+/// 7 (or 6) also with an entry in doubt. A command makes no call on a port or a disk that it doesn't use. A text follows what was printed
 /// before it. The disk is always handed back.
 pub fn run<S: Source, K: Sink, F: Folder, D: Disk, C: Clock>(
     alloc: Global,
@@ -103,7 +106,7 @@ fn print_usage<K: Sink>(output: &mut K) -> u8
     ensures usage_run { UsageRun (output_of K.held K.faults output.old output.new) result }
     ensures never_falls { K.faults output.old ≤ K.faults output.new }
 {
-    say(USAGE, BAD_WORDS, output)
+    say(USAGE_LINE, NO_COMMAND, output)
 }
 
 // `calc`: one byte more than an input may have is asked for, so that a longer one shows.
@@ -113,7 +116,7 @@ fn calc<S: Source, K: Sink>(alloc: Global, input: &mut S, output: &mut K) -> u8
     ensures input_never_falls { S.faults input.old ≤ S.faults input.new }
     ensures output_never_falls { K.faults output.old ≤ K.faults output.new }
 {
-    match read_up_to(alloc, input, LIMIT + 1) {
+    match read_up_to(alloc, input, MOST_INPUT_BYTES + 1) {
         Ok(bytes) => answer_input(alloc, &bytes, output),
         Err(PortFault::Failed) => report_fault(output),
         Err(PortFault::NoMemory) => report_no_memory(output),

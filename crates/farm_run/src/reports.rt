@@ -1,17 +1,17 @@
 //! The statuses of a run, and the lines that report them.
 
 ghost use Rattle.std.specs.Prelude.{◌≡◌, ◌≤◌, MatchResult};
-ghost use Rattle.farm_run.specs.Texts.{disk_failed_line, port_fault};
+ghost use Rattle.farm_run.specs.Texts.{disk_fault_line, port_fault_line};
 ghost use Rattle.farm_run.specs.Runs.{Delivers, LacksMemory, Puts, Refuses, output_of};
 
-use crate::texts::{DISK_FAILED, NO_MEMORY, PORT_FAULT};
-use farm_fixed::NoMemory;
+use crate::texts::{DISK_FAULT_LINE, NO_MEMORY_LINE, PORT_FAULT_LINE};
+use farm_base::NoMemory;
 use farm_ports::{Sink, put_all};
 
 /// What was asked for was done, and printed whole.
 pub(crate) const DONE: u8 = 0;
 /// The arguments are no command.
-pub(crate) const BAD_WORDS: u8 = 1;
+pub(crate) const NO_COMMAND: u8 = 1;
 /// The folder describes no site.
 pub(crate) const SITE_REFUSED: u8 = 2;
 /// The disk has bytes where a journal is to be made, or no whole journal.
@@ -19,11 +19,11 @@ pub(crate) const JOURNAL_REFUSED: u8 = 3;
 /// The input was refused.
 pub(crate) const REFUSED: u8 = 4;
 // The disk failed.
-const DISK_FAULT: u8 = 5;
+const DISK_FAILED: u8 = 5;
 // The input, the output or the folder failed.
-const FAULT: u8 = 6;
-// There was no memory.
-const MEMORY: u8 = 7;
+const PORT_FAILED: u8 = 6;
+// Memory ran out.
+const OUT_OF_MEMORY: u8 = 7;
 
 // Puts an answer.
 pub(crate) fn deliver<K: Sink>(output: &mut K, text: &[u8]) -> u8
@@ -63,8 +63,8 @@ pub fn report_no_memory<K: Sink>(output: &mut K) -> u8
     ensures lacks_memory { LacksMemory (output_of K.held K.faults output.old output.new) result }
     ensures never_falls { K.faults output.old ≤ K.faults output.new }
 {
-    match put_all(output, NO_MEMORY) {
-        Ok(()) => MEMORY,
+    match put_all(output, NO_MEMORY_LINE) {
+        Ok(()) => OUT_OF_MEMORY,
         Err(_) => report_fault(output),
     }
 }
@@ -72,17 +72,17 @@ pub fn report_no_memory<K: Sink>(output: &mut K) -> u8
 // Reports that a port failed, as far as the output takes it.
 pub(crate) fn report_fault<K: Sink>(output: &mut K) -> u8
     ensures status { result ≡ 6 }
-    ensures puts { Puts (output_of K.held K.faults output.old output.new) port_fault }
+    ensures puts { Puts (output_of K.held K.faults output.old output.new) port_fault_line }
     ensures never_falls { K.faults output.old ≤ K.faults output.new }
 {
-    say(PORT_FAULT, FAULT, output)
+    say(PORT_FAULT_LINE, PORT_FAILED, output)
 }
 
 // Reports that the disk failed, as far as the output takes it.
 pub(crate) fn report_disk_fault<K: Sink>(output: &mut K) -> u8
     ensures status { result ≡ 5 }
-    ensures puts { Puts (output_of K.held K.faults output.old output.new) disk_failed_line }
+    ensures puts { Puts (output_of K.held K.faults output.old output.new) disk_fault_line }
     ensures never_falls { K.faults output.old ≤ K.faults output.new }
 {
-    say(DISK_FAILED, DISK_FAULT, output)
+    say(DISK_FAULT_LINE, DISK_FAILED, output)
 }

@@ -4,23 +4,24 @@ ghost use Rattle.std.specs.Prelude.{◌≡◌, IfOk};
 ghost use Rattle.farm_run.specs.Texts.{cause_word, journal_damaged_text, refusal_text, refused_at, site_refused_text, too_long_text};
 
 use calc_input::{Cause, Refused};
-use farm_fixed::{ChainRule, NoMemory};
+use farm_base::NoMemory;
+use farm_fixed::ChainRule;
 use farm_site::SiteFault;
 use std::alloc::Global;
 use text_pieces::{Piece, append};
 
 /// The arguments are no command.
-pub const USAGE: &[u8] = b"usage: farm calc|init|table|batch|serve|report|drill\n";
+pub const USAGE_LINE: &[u8] = b"usage: farm calc|init|table|batch|serve|report|drill\n";
 /// There was no memory.
-pub const NO_MEMORY: &[u8] = b"no memory\n";
+pub const NO_MEMORY_LINE: &[u8] = b"no memory\n";
 /// The input, the folder or the output failed.
-pub const PORT_FAULT: &[u8] = b"port fault\n";
+pub const PORT_FAULT_LINE: &[u8] = b"port fault\n";
 /// The disk failed.
-pub const DISK_FAILED: &[u8] = b"disk fault\n";
+pub const DISK_FAULT_LINE: &[u8] = b"disk fault\n";
 /// The disk has bytes where a journal is to be made.
-pub const NOT_EMPTY: &[u8] = b"journal not empty\n";
+pub const NOT_EMPTY_LINE: &[u8] = b"journal not empty\n";
 /// The bytes of the disk don't begin as a journal's.
-pub const NOT_A_JOURNAL: &[u8] = b"not a journal\n";
+pub const NOT_A_JOURNAL_LINE: &[u8] = b"not a journal\n";
 
 /// The line of a site that its folder doesn't describe.
 #[tactic(auto, unfolding(crate::specs::Texts::site_refused_text))]

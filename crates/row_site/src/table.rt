@@ -25,7 +25,7 @@ pub fn table_text(alloc: Global) -> Result<Vec<u8>, NoMemory>
 
 // Adds the line of a row.
 fn add_line(text: &mut Vec<u8>, row: u64) -> Result<(), NoMemory>
-    requires { row ≤ 1501 }
+    requires { row ≤ ROWS }
     ensures line { Appends text.old.items text.new.items (table_line row) result }
 {
     append(

@@ -93,7 +93,7 @@ const DIPS: &[(&str, &str)] = &[
 ];
 
 #[test]
-fn rows_of_batches(rt: HostRuntime) -> Result<(), Fail> {
+fn each_line_of_a_batch_has_its_answer(rt: HostRuntime) -> Result<(), Fail> {
     let mut checks = Checks::new(&rt);
     for rows in [FIRST_BATCH, GAUGES, DIPS] {
         check_batch(&mut checks, rt.alloc(), &[rows])?;
@@ -105,7 +105,11 @@ fn rows_of_batches(rt: HostRuntime) -> Result<(), Fail> {
 fn nothing_is_taken_after_a_stop(rt: HostRuntime) -> Result<(), Fail> {
     let mut checks = Checks::new(&rt);
     let stop = "{\"do\":\"stop\",\"account\":1,\"key\":3}\n";
-    let mut source = source_of(rt.alloc(), &["\n", stop, "\n"])?;
+    let mut source = source_of(
+        rt.alloc(),
+        &["\n".as_bytes(), stop.as_bytes(), "\n".as_bytes()],
+        Vec::new(rt.alloc()),
+    )?;
     let answer = batch_answer(rt.alloc(), &mut source)?;
     let text = "{\"error\":400}\n{\"place\":1}\n";
     check_answer(&mut checks, "a batch", answer, 0, text);

@@ -63,8 +63,8 @@ fn bytes_of_the_row_site_are_neither_missing_nor_too_many(rt: HostRuntime) -> Re
 
 // Puts another byte at an offset.
 fn put(bytes: &mut [u8], offset: usize, byte: u8) {
-    if let Some(place) = bytes.get_mut(offset) {
-        *place = byte;
+    if let Some(own) = bytes.get_mut(offset) {
+        *own = byte;
     }
 }
 

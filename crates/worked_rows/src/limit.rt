@@ -81,7 +81,7 @@ fn check_limit<R: Print>(checks: &mut Checks<'_, R>, desk: &mut Desk<MemDisk, 4>
 }
 
 #[test]
-fn a_history_at_its_limit(rt: HostRuntime) -> Result<(), Fail> {
+fn a_full_history_takes_repeats_look_ups_and_stops(rt: HostRuntime) -> Result<(), Fail> {
     let mut checks = Checks::new(&rt);
     let mut desk = desk_of_four(rt.alloc())?;
     check_four(&mut checks, &mut desk);

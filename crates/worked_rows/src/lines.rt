@@ -1,5 +1,6 @@
 //! The lines of a source in pieces.
 
+use crate::running::source_of;
 use batch_lines::{Cut, LineReader};
 use farm_base::NoMemory;
 use farm_ports::{Failed, Script};
@@ -7,29 +8,20 @@ use row_checks::{Checks, shared};
 use std::alloc::Global;
 use std::test::Fail;
 
-// A source of these pieces, whose takes of these numbers fail.
-fn source(alloc: Global, pieces: &[&[u8]], fails: Vec<u64>) -> Result<Script, NoMemory> {
-    let mut copies = Vec::new(alloc);
-    for piece in pieces {
-        copies.push(piece.to_vec(alloc)?)?;
-    }
-    Script::new(alloc, copies, fails)
-}
-
-// The place of the first read of such a source that finds another cut, or another line where it finds one.
+// The index of the first read of a source of these pieces that finds another cut, or another line where it finds one.
 fn first_other(
     alloc: Global,
     pieces: &[&[u8]],
     fails: Vec<u64>,
     wants: &[(Cut, Option<&[u8]>)],
 ) -> Result<Option<usize>, NoMemory> {
-    let mut input = source(alloc, pieces, fails)?;
+    let mut input = source_of(alloc, pieces, fails)?;
     let mut reader = shared(LineReader::new(alloc)?);
-    for (place, (cut, line)) in wants.iter().enumerate() {
+    for (index, (cut, line)) in wants.iter().enumerate() {
         let found = reader.read(&mut input);
         let keeps = matches!(found, Cut::Line | Cut::Last);
         if found != *cut || keeps && reader.line() != *line {
-            return Ok(Some(place));
+            return Ok(Some(index));
         }
     }
     Ok(None)
@@ -102,7 +94,7 @@ fn check_looks<R: Print>(checks: &mut Checks<'_, R>, input: &mut Script, reader:
 fn a_look_keeps_the_byte_that_it_finds(rt: HostRuntime) -> Result<(), Fail> {
     let mut checks = Checks::new(&rt);
     let alloc = rt.alloc();
-    let mut input = source(alloc, &[b"a"], vec![in alloc; 1]?)?;
+    let mut input = source_of(alloc, &[b"a"], vec![in alloc; 1]?)?;
     let mut reader = LineReader::new(alloc)?;
     check_looks(&mut checks, &mut input, &mut reader);
     Ok(checks.end()?)

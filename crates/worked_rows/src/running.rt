@@ -1,5 +1,6 @@
 //! Runs over ports and a disk in memory.
 
+use farm_base::NoMemory;
 use farm_disk::MemDisk;
 use farm_ports::{Files, Fixed, Gather, Script};
 use farm_run::{Done, run};
@@ -31,17 +32,22 @@ fn answer_over(
     input: &str,
     mut folder: Files,
 ) -> Result<(Answer, MemDisk), Fail> {
-    let mut source = source_of(alloc, &[input])?;
+    let mut source = source_of(alloc, &[input.as_bytes()], Vec::new(alloc))?;
     answer_on(alloc, words, &mut source, &mut folder, empty_disk(alloc)?)
 }
 
-/// A source of texts, each a piece.
-pub fn source_of(alloc: Global, texts: &[&str]) -> Result<Script, Fail> {
-    let mut pieces = Vec::new(alloc);
-    for text in texts {
-        pieces.push(Vec::from_slice(alloc, text.as_bytes())?)?;
+/// A source of these pieces, whose takes of these numbers fail.
+pub fn source_of(alloc: Global, pieces: &[&[u8]], fails: Vec<u64>) -> Result<Script, NoMemory> {
+    let mut copies = Vec::new(alloc);
+    for piece in pieces {
+        copies.push(piece.to_vec(alloc)?)?;
     }
-    Ok(Script::new(alloc, pieces, Vec::new(alloc))?)
+    Script::new(alloc, copies, fails)
+}
+
+// A folder without a file.
+fn no_folder(alloc: Global) -> Result<Files, NoMemory> {
+    Files::new(alloc, Vec::new(alloc), Vec::new(alloc))
 }
 
 /// A disk without a byte.
@@ -98,7 +104,7 @@ fn row_journal(alloc: Global) -> Result<MemDisk, Fail> {
 
 /// What a batch on a new journal of the row site answers to a source of lines.
 pub fn batch_answer(alloc: Global, lines: &mut Script) -> Result<Answer, Fail> {
-    let mut folder = Files::new(alloc, Vec::new(alloc), Vec::new(alloc))?;
+    let mut folder = no_folder(alloc)?;
     let (answer, _) = answer_on(alloc, BATCH, lines, &mut folder, row_journal(alloc)?)?;
     Ok(answer)
 }
@@ -144,7 +150,7 @@ pub fn check_batch<R: Print>(
     rows: &[&[(&str, &str)]],
 ) -> Result<(), Fail> {
     let (lines, answers) = texts_of(alloc, rows)?;
-    let mut source = source_of(alloc, &[lines.as_str()])?;
+    let mut source = source_of(alloc, &[lines.as_bytes()], Vec::new(alloc))?;
     let answer = batch_answer(alloc, &mut source)?;
     check_answer(checks, "a batch", answer, 0, answers.as_str());
     Ok(())
@@ -152,6 +158,6 @@ pub fn check_batch<R: Print>(
 
 /// What `calc` answers to an input.
 pub fn calc_answer(alloc: Global, input: &str) -> Result<Answer, Fail> {
-    let folder = Files::new(alloc, Vec::new(alloc), Vec::new(alloc))?;
+    let folder = no_folder(alloc)?;
     answer(alloc, &["calc"], input, folder)
 }

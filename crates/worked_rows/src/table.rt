@@ -50,7 +50,7 @@ fn issued(alloc: Global) -> Result<String, AllocError> {
 }
 
 #[test]
-fn tables_of_the_row_site(rt: HostRuntime) -> Result<(), Fail> {
+fn each_tank_has_its_table_issued(rt: HostRuntime) -> Result<(), Fail> {
     let mut checks = Checks::new(&rt);
     let want = issued(rt.alloc())?;
     let (status, bytes) = table_answer(rt.alloc(), row_site::row_folder(rt.alloc())?)?;

@@ -32,15 +32,15 @@ pub returns-then-not-branch-clause-grid : goal.returns-then-not-branch-clause-gr
 returns-then-not-branch-clause-grid c = λ all before.
     stops_by c.args.count c.args.first c.loop-index.index all c.loop-index.growing _ (c.loop-index.invariant.rows all before) c.loop-index-test.true
     (row_at all c.args.lines.now c.loop-index.lines c.args.first c.loop-index.index _ before c.loop-index.invariant.taken c.due-in-loop-index.ensures.line)
-    (c.in_ok-goes_on.ensures.off (ap Ok c.if-not-branch.true))
+    (c.in_ok-push_line.ensures.off (ap Ok c.if-not-branch.true))
 
 pub loop-index-preserved : goal.loop-index-preserved
 loop-index-preserved c = record {
   taken = c.due-in-loop-index.ensures.rest ∙ taken_more c.args.lines.now c.loop-index.lines c.loop-index.index 1 (c.loop-index.index + 1) c.loop-index.invariant.taken (omega arith);
   rows = λ all before.
-      goes_by c.args.count c.args.first c.loop-index.index all c.loop-index.growing c.goes_on.new.growing _ (c.loop-index.invariant.rows all before) c.loop-index-test.true
+      goes_by c.args.count c.args.first c.loop-index.index all c.loop-index.growing c.push_line.new.growing _ (c.loop-index.invariant.rows all before) c.loop-index-test.true
       (row_at all c.args.lines.now c.loop-index.lines c.args.first c.loop-index.index _ before c.loop-index.invariant.taken c.due-in-loop-index.ensures.line)
-      (c.in_ok-goes_on.ensures.on (ap Ok c.if-not-branch.false)) (c.in_ok-goes_on.ensures.counted (ap Ok c.if-not-branch.false));
+      (c.in_ok-push_line.ensures.on (ap Ok c.if-not-branch.false)) (c.in_ok-push_line.ensures.counted (ap Ok c.if-not-branch.false));
 }
 
 pub returns-in-Some-finish-clause-grid : goal.returns-in-Some-finish-clause-grid

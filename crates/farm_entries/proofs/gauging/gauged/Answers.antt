@@ -1,5 +1,5 @@
 -- Answers to the open goals of `gauged`.
-use Rattle.std.proofs.Common.{rules, ◌≡◌, IsTrue, Some, None, Ok, List, take, length-take, ap, ◌∙◌, pos, ℤ, sym, subst, arith}
+use Rattle.std.proofs.Common.{rules, ◌≡◌, IsTrue, Some, None, Ok, List, take, length-take, refl, ap, ◌∙◌, pos, ℤ, sym, subst, arith}
 use Rattle.std.specs.Int.{w64}
 use Rattle.std.proofs.lemmas.Int.{to_z-of_z}
 use Rattle.farm_fixed.specs.Range.{is_within}
@@ -20,50 +20,53 @@ height_same x y is within = rw is within
 temperature_same : (x y : ℤ) → x ≡ y → IsTrue (is_within LEAST_TEMPERATURE MOST_TEMPERATURE y) → IsTrue (is_within LEAST_TEMPERATURE MOST_TEMPERATURE x)
 temperature_same x y is within = rw is within
 
-pub height_of-requires : goal.height_of-requires
-height_of-requires c =
+pub quantity_of-requires : goal.quantity_of-requires
+quantity_of-requires c =
     let g = c.in-Gauge in
     let none = subst (λ (command : Command). first_bad_field command ≡ None) g.is c.requires.in_range in
     height_same _ g.level (to_z-of_z w64 g.level (search rules)) (gauge_within g.tank g.level g.water g.temperature g.ambient none).level_within
 
-pub height_of-requires-in-Gauge : goal.height_of-requires-in-Gauge
-height_of-requires-in-Gauge c =
+pub quantity_of-requires-in-Gauge : goal.quantity_of-requires-in-Gauge
+quantity_of-requires-in-Gauge c =
     let g = c.in-Gauge in
     let none = subst (λ (command : Command). first_bad_field command ≡ None) g.is c.requires.in_range in
     height_same _ g.water (to_z-of_z w64 g.water (search rules)) (gauge_within g.tank g.level g.water g.temperature g.ambient none).water_within
 
-pub temperature_of-requires : goal.temperature_of-requires
-temperature_of-requires c =
+pub quantity_of-requires-in-Gauge-2 : goal.quantity_of-requires-in-Gauge-2
+quantity_of-requires-in-Gauge-2 c =
     let g = c.in-Gauge in
     let none = subst (λ (command : Command). first_bad_field command ≡ None) g.is c.requires.in_range in
     temperature_same _ g.temperature (to_z-of_z w64 g.temperature (search rules)) (gauge_within g.tank g.level g.water g.temperature g.ambient none).temperature_within
 
-pub temperature_of-requires-in-Gauge : goal.temperature_of-requires-in-Gauge
-temperature_of-requires-in-Gauge c =
+pub quantity_of-requires-in-Gauge-3 : goal.quantity_of-requires-in-Gauge-3
+quantity_of-requires-in-Gauge-3 c =
     let g = c.in-Gauge in
     let none = subst (λ (command : Command). first_bad_field command ≡ None) g.is c.requires.in_range in
     temperature_same _ g.ambient (to_z-of_z w64 g.ambient (search rules)) (gauge_within g.tank g.level g.water g.temperature g.ambient none).ambient_within
 
-pub heights_of-requires-clause-in_range : goal.heights_of-requires-clause-in_range
-heights_of-requires-clause-in_range c =
+pub quantities_of-requires : goal.quantities_of-requires
+quantities_of-requires c =
     let d = c.in-Dip in
     let none = subst (λ (command : Command). first_bad_field command ≡ None) d.is c.requires.in_range in
-    (dip_within d.tank d.outage d.tapes d.water d.temperatures d.ambient none).tapes_within
+    let lists = subst (λ (command : Command). IsWellFormedCommand command) d.is c.requires.well_formed in
+    (omega arith, (lists.0, (refl, (dip_within d.tank d.outage d.tapes d.water d.temperatures d.ambient none).tapes_within)))
 
-pub heights_of-requires-in-Dip-clause-in_range : goal.heights_of-requires-in-Dip-clause-in_range
-heights_of-requires-in-Dip-clause-in_range c =
+pub quantities_of-requires-in-Dip : goal.quantities_of-requires-in-Dip
+quantities_of-requires-in-Dip c =
     let d = c.in-Dip in
     let none = subst (λ (command : Command). first_bad_field command ≡ None) d.is c.requires.in_range in
-    (dip_within d.tank d.outage d.tapes d.water d.temperatures d.ambient none).water_within
+    let lists = subst (λ (command : Command). IsWellFormedCommand command) d.is c.requires.well_formed in
+    (omega arith, (lists.1, (refl, (dip_within d.tank d.outage d.tapes d.water d.temperatures d.ambient none).water_within)))
 
-pub temperatures_of-requires-clause-in_range : goal.temperatures_of-requires-clause-in_range
-temperatures_of-requires-clause-in_range c =
+pub quantities_of-requires-in-Dip-2 : goal.quantities_of-requires-in-Dip-2
+quantities_of-requires-in-Dip-2 c =
     let d = c.in-Dip in
     let none = subst (λ (command : Command). first_bad_field command ≡ None) d.is c.requires.in_range in
-    (dip_within d.tank d.outage d.tapes d.water d.temperatures d.ambient none).temperatures_within
+    let lists = subst (λ (command : Command). IsWellFormedCommand command) d.is c.requires.well_formed in
+    (omega arith, (lists.2, (refl, (dip_within d.tank d.outage d.tapes d.water d.temperatures d.ambient none).temperatures_within)))
 
-pub temperature_of-requires-in-Dip : goal.temperature_of-requires-in-Dip
-temperature_of-requires-in-Dip c =
+pub quantity_of-requires-in-Dip : goal.quantity_of-requires-in-Dip
+quantity_of-requires-in-Dip c =
     let d = c.in-Dip in
     let none = subst (λ (command : Command). first_bad_field command ≡ None) d.is c.requires.in_range in
     temperature_same _ d.ambient (to_z-of_z w64 d.ambient (search rules)) (dip_within d.tank d.outage d.tapes d.water d.temperatures d.ambient none).ambient_within
@@ -74,8 +77,8 @@ dip_reading-requires c =
     let none = subst (λ (command : Command). first_bad_field command ≡ None) d.is c.requires.in_range in
     let lists = subst (λ (command : Command). IsWellFormedCommand command) d.is c.requires.well_formed in
     let short : IsShortList d.temperatures = lists.2 in
-    let of_list : take c.from-in-Dip-2.result c.temperatures_of.result ≡ numbers_of d.temperatures =
-    rw c.from-in-Dip-2.ensures c.temperatures_of.ensures.temperatures in
+    let of_list : take c.from-in-Dip-2.result c.quantities_of-in-Dip-2.result ≡ numbers_of d.temperatures =
+    rw c.from-in-Dip-2.ensures c.quantities_of-in-Dip-2.ensures.quantities in
     let temperatures : AreTemperatures (numbers_of d.temperatures) = record {
       some = (dip_within d.tank d.outage d.tapes d.water d.temperatures d.ambient none).some;
       few = omega (arith, length-take {A = ℤ}, short.count);
@@ -85,9 +88,9 @@ dip_reading-requires c =
 pub returns-in-Gauge : goal.returns-in-Gauge
 returns-in-Gauge c =
     let g = c.in-Gauge in
-    let level : c.height_of.result ≡ g.level = c.height_of.ensures.height ∙ to_z-of_z w64 g.level (search rules) in
-    let water : c.height_of-in-Gauge.result ≡ g.water = c.height_of-in-Gauge.ensures.height ∙ to_z-of_z w64 g.water (search rules) in
-    let temperature : c.temperature_of.result ≡ g.temperature = c.temperature_of.ensures.temperature ∙ to_z-of_z w64 g.temperature (search rules) in
-    let ambient : c.temperature_of-in-Gauge.result ≡ g.ambient = c.temperature_of-in-Gauge.ensures.temperature ∙ to_z-of_z w64 g.ambient (search rules) in
+    let level : c.quantity_of.result ≡ g.level = c.quantity_of.ensures.quantity ∙ to_z-of_z w64 g.level (search rules) in
+    let water : c.quantity_of-in-Gauge.result ≡ g.water = c.quantity_of-in-Gauge.ensures.quantity ∙ to_z-of_z w64 g.water (search rules) in
+    let temperature : c.quantity_of-in-Gauge-2.result ≡ g.temperature = c.quantity_of-in-Gauge-2.ensures.quantity ∙ to_z-of_z w64 g.temperature (search rules) in
+    let ambient : c.quantity_of-in-Gauge-3.result ≡ g.ambient = c.quantity_of-in-Gauge-3.ensures.quantity ∙ to_z-of_z w64 g.ambient (search rules) in
     let same : c.gauge_reading.result ≡ gauge_reading c.args.rounding.now g.level g.water g.temperature g.ambient = cc in
     record { gauged = rw g.is (ap (λ reading. Some (Ok reading)) same) }

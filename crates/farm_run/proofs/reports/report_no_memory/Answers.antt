@@ -1,12 +1,12 @@
 -- Answers to the open goals of `report_no_memory`.
 use Rattle.std.proofs.Common.{inl, [], arith}
-use Rattle.farm_run.specs.Texts.{no_memory, port_fault}
+use Rattle.farm_run.specs.Texts.{no_memory_line, port_fault_line}
 use Rattle.farm_run.proofs.Printing.{says_after_fault, after_a_text}
 use Rattle.farm_run.proofs.reports.report_no_memory.Goals as goal
 
 pub returns-in-Err-clause-lacks_memory : goal.returns-in-Err-clause-lacks_memory
 returns-in-Err-clause-lacks_memory g c =
-    let both = says_after_fault _ _ _ _ _ _ [] no_memory port_fault c.in-Err.ensures.bytes c.in-Err.ensures.cause.failed c.report_fault.ensures.never_falls c.report_fault.ensures.puts in
+    let both = says_after_fault _ _ _ _ _ _ [] no_memory_line port_fault_line c.in-Err.ensures.bytes c.in-Err.ensures.cause.failed c.report_fault.ensures.never_falls c.report_fault.ensures.puts in
     let six = c.report_fault.ensures.status in
     record {
       statuses = inl six;

@@ -20,7 +20,7 @@ less-requires-clause-other c =
 pub returns-clause-gain : goal.returns-clause-gain
 returns-clause-gain c =
     let history = history_of c.args.self.now.site.now c.args.self.now.entries.now in
-    let known = sym (c.in_ok-figures.ensures.figures ∙ ap (figures_at history) c.named.ensures) in
+    let known = sym (c.in_ok-figures.ensures.figures ∙ ap (figures_at history) c.named.ensures.named) in
     ap Some (c.less.ensures.amount ∙ ap (λ held. less held c.in_ok-book.book) c.amount_held.ensures.amount)
     ∙ sym (gain_is history c.args.tank c.args.gauged.now c.args.ledger.now c.in_ok-book.book c.in_ok-figures.figures c.requires.books
     (sym c.in_ok-book.ensures.book) known)

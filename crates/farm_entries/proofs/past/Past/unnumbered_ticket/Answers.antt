@@ -1,10 +1,9 @@
 -- Answers to the open goals of `unnumbered_ticket`.
-use Rattle.std.proofs.Common.{◌≡◌, Option, option_and_then, ap, sym, ◌∙◌, subst}
+use Rattle.std.proofs.Common.{Option, option_and_then, ap, sym, ◌∙◌, subst}
 use Rattle.std.specs.Prelude.{IfSome}
 use Rattle.farm_ticket.specs.Tickets.{Ticket}
-use Rattle.farm_history.specs.declared.command.Command.{Command}
 use Rattle.farm_history.specs.Postings.{postings_issued}
-use Rattle.farm_history.specs.Tickets.{closed, issued_by_closing}
+use Rattle.farm_history.specs.Tickets.{closed}
 use Rattle.farm_entries.specs.Bounds.{IsSmallTicket}
 use Rattle.farm_entries.specs.Pasts.{history_of}
 use Rattle.farm_entries.proofs.Closings.{closed_small, unnumbered}
@@ -13,10 +12,8 @@ use Rattle.farm_entries.proofs.past.Past.unnumbered_ticket.Goals as goal
 pub returns-clause-ticket : goal.returns-clause-ticket
 returns-clause-ticket c = λ place.
     let history = history_of c.args.self.now.site.now c.args.self.now.entries.now in
-    let closing = c.in-Closing in
-    let issued = c.closed.ensures.ticket ∙ ap (option_and_then (closed 0 0)) c.in_ok-movement.ensures.to_close in
-    subst (λ (command : Command). postings_issued c.closed.result ≡ postings_issued (issued_by_closing history place command)) (sym closing.is)
-    (ap postings_issued issued ∙ unnumbered history place closing.movement closing.first closing.second)
+    let issued = c.closed.ensures.ticket ∙ ap (option_and_then (closed 0 0)) c.in_ok-movement.ensures.closed_by in
+    ap postings_issued issued ∙ unnumbered history place c.args.command.now
 
 pub returns-clause-small : goal.returns-clause-small
 returns-clause-small c =

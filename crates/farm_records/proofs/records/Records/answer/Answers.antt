@@ -21,13 +21,13 @@ returns-in-Look-clause-certain g c =
 
 pub returns-in-Do-clause-answered : goal.returns-in-Do-clause-answered
 returns-in-Do-clause-answered g c =
-    done_answered g.row.LIMIT c.args.self.now.book c.settle.new.self.book c.judge.new.self.book c.judge.new.self.doubt c.args.caller c.in-Do.account c.in-Do.key c.args.now c.args.ask.now c.copy_of.result c.in-Do.cmd c.entry_of-entry.result
+    done_answered g.row.LIMIT c.args.self.now.book c.settle.new.self.book c.judge_and_enter.new.self.book c.judge_and_enter.new.self.doubt c.args.caller c.in-Do.account c.in-Do.key c.args.now c.args.ask.now c.copy_of.result c.in-Do.cmd c.entry_of-entry.result
     _ c.settle.ensures.book c.in-Do.is c.copy_of.ensures.copy
     (c.entry_of-entry.ensures.entry ∙ ap (λ (clock : ℤ). stamped c.settle.new.self.book.history c.args.caller clock c.in-Do.account c.in-Do.key c.copy_of.result)
-    (to_z-of_z w64 c.args.now c.ranges.now)) c.judge.ensures.answered
+    (to_z-of_z w64 c.args.now c.ranges.now)) c.judge_and_enter.ensures.answered
 
 pub returns-in-Do-clause-grows : goal.returns-in-Do-clause-grows
-returns-in-Do-clause-grows g c = grown_since c.args.self.now.book c.settle.new.self.book c.judge.new.self.book c.settle.ensures.book c.judge.ensures.grows
+returns-in-Do-clause-grows g c = grown_since c.args.self.now.book c.settle.new.self.book c.judge_and_enter.new.self.book c.settle.ensures.book c.judge_and_enter.ensures.grows
 
 pub returns-in-Do-clause-certain : goal.returns-in-Do-clause-certain
 returns-in-Do-clause-certain g c =
@@ -35,12 +35,12 @@ returns-in-Do-clause-certain g c =
       arith,
       certain_settled c.args.self.now.doubt c.settle.new.self.doubt c.args.self.now.book c.settle.new.self.book c.settle.ensures.book
           c.in_ok-settle.ensures.settled,
-      c.judge.ensures.certain,
+      c.judge_and_enter.ensures.certain,
     )
 
 pub returns-in-Do-clause-untouched : goal.returns-in-Do-clause-untouched
 returns-in-Do-clause-untouched g c = λ sure stays.
-    c.judge.ensures.untouched
+    c.judge_and_enter.ensures.untouched
     (ap (λ (answered : Answered). answered.history) (done_is g.row.LIMIT c.args.self.now.book c.settle.new.self.book c.args.caller c.in-Do.account c.in-Do.key c.args.now c.args.ask.now c.copy_of.result c.in-Do.cmd c.entry_of-entry.result c.settle.ensures.book c.in-Do.is c.copy_of.ensures.copy
     (c.entry_of-entry.ensures.entry ∙ ap (λ (clock : ℤ). stamped c.settle.new.self.book.history c.args.caller clock c.in-Do.account c.in-Do.key c.copy_of.result)
     (to_z-of_z w64 c.args.now c.ranges.now)))
@@ -49,18 +49,18 @@ returns-in-Do-clause-untouched g c = λ sure stays.
 
 pub returns-in-Do-clause-images : goal.returns-in-Do-clause-images
 returns-in-Do-clause-images g c =
-    settled_and_answered g.row.LIMIT c.args.self.now.doubt c.args.self.now.book c.settle.new.self.book c.judge.new.self.book _ _ _ c.settle.ensures.book
-    c.judge.ensures.grows c.judge.ensures.extends c.settle.ensures.images c.judge.ensures.images
+    settled_and_answered g.row.LIMIT c.args.self.now.doubt c.args.self.now.book c.settle.new.self.book c.judge_and_enter.new.self.book _ _ _ c.settle.ensures.book
+    c.judge_and_enter.ensures.grows c.judge_and_enter.ensures.extends c.settle.ensures.images c.judge_and_enter.ensures.images
 
 pub returns-in-Do-clause-extends : goal.returns-in-Do-clause-extends
-returns-in-Do-clause-extends g c = extends_more _ _ _ c.settle.ensures.extends c.judge.ensures.extends
+returns-in-Do-clause-extends g c = extends_more _ _ _ c.settle.ensures.extends c.judge_and_enter.ensures.extends
 
 pub returns-in-Do-clause-cause : goal.returns-in-Do-clause-cause
 returns-in-Do-clause-cause g c = λ is.
-    subst (λ count. Rose count (g.D.Disk.faults c.judge.new.self.journal.disk)) c.in_ok-settle.ensures.quiet (c.judge.ensures.cause is)
+    subst (λ count. Rose count (g.D.Disk.faults c.judge_and_enter.new.self.journal.disk)) c.in_ok-settle.ensures.quiet (c.judge_and_enter.ensures.cause is)
 
 pub returns-in-Do-clause-quiet : goal.returns-in-Do-clause-quiet
-returns-in-Do-clause-quiet g c = λ isnt. c.judge.ensures.quiet isnt ∙ c.in_ok-settle.ensures.quiet
+returns-in-Do-clause-quiet g c = λ isnt. c.judge_and_enter.ensures.quiet isnt ∙ c.in_ok-settle.ensures.quiet
 
 pub returns-in-Do-clause-once : goal.returns-in-Do-clause-once
-returns-in-Do-clause-once g c = λ is. c.judge.ensures.once is ∙ ap (λ count. raised 1 count) c.in_ok-settle.ensures.quiet
+returns-in-Do-clause-once g c = λ is. c.judge_and_enter.ensures.once is ∙ ap (λ count. raised 1 count) c.in_ok-settle.ensures.quiet

@@ -1,6 +1,6 @@
--- The invariants of the loops of `are_computable`.
+-- The invariants of the loops of `table_facts`.
 use Rattle.farm_book.proofs.TablesRead.{AreRead}
-use Rattle.farm_book.proofs.tables.are_computable.Given as goal
+use Rattle.farm_book.proofs.tables.table_facts.Given as goal
 
 -- the tables of the tanks so far are capacity tables
 abbrev pub invariant-loop-tank : goal.invariant-loop-tank

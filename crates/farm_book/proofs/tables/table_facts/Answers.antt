@@ -1,8 +1,8 @@
--- Answers to the open goals of `are_computable`.
+-- Answers to the open goals of `table_facts`.
 use Rattle.std.proofs.Common.{◌≡◌, ◌≤◌, List, length, subst}
 use Rattle.site_items.specs.declared.records.Tank.{Tank}
 use Rattle.farm_book.proofs.TablesRead.{AreRead, read_computable, read_more, site_rising}
-use Rattle.farm_book.proofs.tables.are_computable.Goals as goal
+use Rattle.farm_book.proofs.tables.table_facts.Goals as goal
 
 pub loop-tank-preserved : goal.loop-tank-preserved
 loop-tank-preserved c =

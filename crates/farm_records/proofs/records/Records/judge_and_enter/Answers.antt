@@ -1,9 +1,9 @@
--- Answers to the open goals of `judge`.
+-- Answers to the open goals of `judge_and_enter`.
 use Rattle.std.proofs.Common.{◌∙◌, ap, refl}
 use Rattle.farm_book.specs.Kept.{Kept}
 use Rattle.farm_records.proofs.Answered.{entered_extends, entered_images, put_images, taken_extends, taken_images}
 use Rattle.farm_records.proofs.Traces.{extends_same}
-use Rattle.farm_records.proofs.records.Records.judge.Goals as goal
+use Rattle.farm_records.proofs.records.Records.judge_and_enter.Goals as goal
 
 pub returns-in_err-take_memory-in-Accept-clause-images :
     goal.returns-in_err-take_memory-in-Accept-clause-images
