@@ -1,14 +1,14 @@
 -- The lines of a text. A line ends before its line feed; what stands after the last line feed is a line too, where there is anything.
 use Rattle.std.specs.Prelude.{◌≡◌, ◌≢◌, ◌+◌, ℕ, All, List, [], ◌∷◌, ◌++◌, flat_map, length}
-use Rattle.batch_lines.specs.declared.limits.TheConstants.{LINE_FEED, MOST_BYTES}
+use Rattle.batch_lines.specs.Limits.{line_feed, most_bytes}
 
 -- lines, each with a line feed after it
 abbrev pub ended : List (List ℕ) → List ℕ
-ended lines = flat_map (λ line. line ++ LINE_FEED ∷ []) lines
+ended lines = flat_map (λ line. line ++ line_feed ∷ []) lines
 
 -- a text has no line feed
 abbrev pub IsOneLine : List ℕ → Type 0
-IsOneLine text = All (λ byte. byte ≢ LINE_FEED) text
+IsOneLine text = All (λ byte. byte ≢ line_feed) text
 
 -- a text is these lines, each ended by its line feed, and a rest
 pub record BeginsWith (text : List ℕ) (lines : List (List ℕ)) (rest : List ℕ) : Type 0 where
@@ -31,4 +31,4 @@ pub record HasByteTooMany (before : ℕ) (text : List ℕ) : Type 0 where
   pub back : List ℕ
   pub split : text ≡ front ++ byte ∷ back
   pub one_line : IsOneLine front
-  pub all : before + length front ≡ MOST_BYTES
+  pub all : before + length front ≡ most_bytes

@@ -2,7 +2,7 @@
 use Rattle.std.specs.Prelude.{◌≡◌, ◌≢◌, ◌⊎◌, ℕ, ◌+◌, ◌≤◌, nat_lt, Bool, true, false, if◌then◌else◌, List, [], ◌∷◌, ◌++◌, length, Option, None, Some, Result, Ok, Err}
 use Rattle.farm_base.specs.Counts.{Count, HasRisen}
 use Rattle.farm_base.specs.Known.{Stream, Takes, WhereKnown}
-use Rattle.batch_lines.specs.declared.limits.TheConstants.{LINE_FEED, LONGEST_LINE, MOST_BYTES}
+use Rattle.batch_lines.specs.Limits.{line_feed, longest_line, most_bytes}
 use Rattle.batch_lines.specs.declared.reader.Cut.{Cut}
 use Rattle.batch_lines.specs.declared.reader.Cut.TheVariants.{Line, Last, End, Long, Failed}
 use Rattle.batch_lines.specs.declared.reader.Moved.{Moved}
@@ -23,7 +23,7 @@ AtEnd stream = WhereKnown stream (λ known. known.left ≡ [])
 
 -- what is kept of a line: all of it, or nothing where it is too long
 abbrev pub kept : List ℕ → Option (List ℕ)
-kept line = if nat_lt LONGEST_LINE (length line) then None else Some line
+kept line = if nat_lt longest_line (length line) then None else Some line
 
 -- a reader has read this of a line
 pub record Holds (reader : ReaderState) (line : List ℕ) : Type 0 where
@@ -37,11 +37,11 @@ Extends old new text = (line : List ℕ) → Holds old line → Holds new (line 
 -- a text before a line feed was cut off, and the line feed
 pub record CutsEnd (old new : ReaderState) : Type 0 where
   pub text : List ℕ
-  pub split : old.in_hand ≡ text ++ LINE_FEED ∷ new.in_hand
+  pub split : old.in_hand ≡ text ++ line_feed ∷ new.in_hand
   pub one_line : IsOneLine text
   pub extends : Extends old new text
   pub passed : new.passed ≡ old.passed + length text + 1
-  pub within : new.passed ≤ MOST_BYTES
+  pub within : new.passed ≤ most_bytes
 
 -- all that was in hand was cut off; no line feed is in it
 pub record CutsAll (old new : ReaderState) : Type 0 where
@@ -49,7 +49,7 @@ pub record CutsAll (old new : ReaderState) : Type 0 where
   pub one_line : IsOneLine old.in_hand
   pub extends : Extends old new old.in_hand
   pub passed : new.passed ≡ old.passed + length old.in_hand
-  pub within : new.passed ≤ MOST_BYTES
+  pub within : new.passed ≤ most_bytes
 
 -- what one cut into the bytes in hand does
 abbrev pub Moves : ReaderState → ReaderState → Moved → Type 0
@@ -63,11 +63,11 @@ pub record ReadsLine (old new : ReaderState) (from to : Option Stream) : Type 0 
   pub taken : List ℕ
   pub moved : Takes from to taken
   pub none_early : IsOneLine old.in_hand ⊎ (taken ≡ [])
-  pub split : old.in_hand ++ taken ≡ line ++ LINE_FEED ∷ new.in_hand
+  pub split : old.in_hand ++ taken ≡ line ++ line_feed ∷ new.in_hand
   pub one_line : IsOneLine line
   pub held : new.line ≡ kept line
   pub passed : new.passed ≡ old.passed + length line + 1
-  pub within : new.passed ≤ MOST_BYTES
+  pub within : new.passed ≤ most_bytes
 
 -- the last line was read; it isn't empty, and no line feed is after it
 pub record ReadsLast (old new : ReaderState) (from to : Option Stream) : Type 0 where
@@ -80,7 +80,7 @@ pub record ReadsLast (old new : ReaderState) (from to : Option Stream) : Type 0 
   pub held : new.line ≡ kept line
   pub empty : new.in_hand ≡ []
   pub passed : new.passed ≡ old.passed + length line
-  pub within : new.passed ≤ MOST_BYTES
+  pub within : new.passed ≤ most_bytes
   pub at_end : AtEnd to
 
 -- nothing was in hand, and nothing was left

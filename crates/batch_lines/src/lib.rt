@@ -5,7 +5,9 @@
 #![tactic(auto)]
 
 mod limits;
+mod number_laws;
 mod reader;
 
 pub use limits::{LINE_FEED, LONGEST_LINE, MOST_BYTES};
+pub use number_laws::defined_numbers;
 pub use reader::{Cut, LineReader};

@@ -12,7 +12,7 @@ use Rattle.calc_input.specs.declared.volumes_line.Volumes.{Volumes}
 use Rattle.calc_input.specs.declared.levels_line.Levels.{Levels}
 use Rattle.calc_input.specs.declared.forms.Input.{Input}
 use Rattle.calc_input.specs.declared.forms.Input.TheVariants as forms
-use Rattle.calc_input.specs.declared.answer.TheConstants.{MOST_INPUT_BYTES}
+use Rattle.calc_input.specs.Limits.{most_input_bytes}
 use Rattle.calc_input.specs.declared.refusal.Refused.{Refused}
 use Rattle.calc_input.specs.declared.refusal.Cause.{Cause}
 use Rattle.calc_input.specs.declared.refusal.Cause.TheVariants.{Form, Chain}
@@ -67,14 +67,14 @@ earlier_line over (Err line) = min line over
 
 -- where an input over the limit is refused: at the line of the first byte over it, or at a line before that is out of form
 unfoldable pub over_line : List ℕ → ℕ
-over_line bytes = earlier_line (line_of_offset MOST_INPUT_BYTES bytes) (form_of (lines_of (take MOST_INPUT_BYTES bytes)))
+over_line bytes = earlier_line (line_of_offset most_input_bytes bytes) (form_of (lines_of (take most_input_bytes bytes)))
 
 -- what `calc` answers on these bytes
 unfoldable pub answer_of : List ℕ → Result Quantities Refused
 answer_of bytes =
-    if nat_lt MOST_INPUT_BYTES (length bytes) then Err (refused_at (over_line bytes) Form)
+    if nat_lt most_input_bytes (length bytes) then Err (refused_at (over_line bytes) Form)
     else answer_of_form (form_of (lines_of bytes))
 
 -- an input over the limit is answered as its front is, if that is over the limit too
 abbrev pub FrontDecides : Type 0
-FrontDecides = (front rest : List ℕ) → MOST_INPUT_BYTES < length front → answer_of (front ++ rest) ≡ answer_of front
+FrontDecides = (front rest : List ℕ) → most_input_bytes < length front → answer_of (front ++ rest) ≡ answer_of front

@@ -2,8 +2,8 @@
 use Rattle.std.specs.Prelude.{ℕ, ◌+◌, Bool, if◌then◌else◌, List, [], ◌∷◌, drop, Option, Some, None, Result, Ok, Err, codes, pos}
 use Rattle.std.specs.Str.{bytes_eq}
 use Rattle.farm_base.specs.Steps.{◌>>=◌, or_fault}
-use Rattle.farm_vcf.specs.declared.grid.TheConstants.{MOST_FACTORS}
-use Rattle.strap_table.specs.declared.faults.TheConstants.{FEWEST_ROWS, MOST_ROWS}
+use Rattle.farm_vcf.specs.Limits.{most_factors}
+use Rattle.strap_table.specs.Limits.{fewest_rows, most_rows}
 use Rattle.calc_input.specs.declared.volumes_line.Volumes.{Volumes}
 use Rattle.calc_input.specs.declared.forms.TableInput.{TableInput}
 use Rattle.calc_input.specs.declared.forms.Input.{Input}
@@ -24,11 +24,11 @@ refused_line (Line number) = Some number
 
 -- the number of volumes that the first line gives
 abbrev pub volume_count : List (List ℕ) → Option ℕ
-volume_count lines = counted (codes "table") FEWEST_ROWS MOST_ROWS (words_of (line_at lines 0))
+volume_count lines = counted (codes "table") fewest_rows most_rows (words_of (line_at lines 0))
 
 -- the number of factors that the line after the volumes gives
 abbrev pub factor_count : ℕ → List (List ℕ) → Option ℕ
-factor_count count lines = counted (codes "factors") 1 MOST_FACTORS (words_of (line_at lines (count + 1)))
+factor_count count lines = counted (codes "factors") 1 most_factors (words_of (line_at lines (count + 1)))
 
 -- the number of the first line that isn't blank, where the first of these lines has a number
 abbrev pub first_used : ℕ → List (List ℕ) → Option ℕ

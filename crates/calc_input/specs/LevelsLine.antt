@@ -4,7 +4,7 @@ use Rattle.std.specs.Int.RustNames.{int_lt}
 use Rattle.std.specs.Str.{bytes_eq}
 use Rattle.farm_base.specs.Options.{◌>>=◌}
 use Rattle.farm_fixed.specs.Range.{IsWithin}
-use Rattle.farm_fixed.specs.declared.limits.TheConstants.{MOST_COEFFICIENT, MOST_ROOF_MASS}
+use Rattle.farm_fixed.specs.Limits.{most_coefficient, most_roof_mass}
 use Rattle.strap_table.specs.declared.tank.Roof.{Roof}
 use Rattle.calc_input.specs.declared.levels_line.Levels.{Levels}
 use Rattle.farm_fixed.specs.Shells.{insulated_of}
@@ -43,6 +43,6 @@ levels_of words = if length words == 13 && bytes_eq (word_at words 0) (codes "le
 
 -- levels that can be calculated with
 pub record IsGauged (levels : Levels) : Type 0 where
-  pub coefficient : IsWithin (pos 0) MOST_COEFFICIENT levels.shell.coefficient
-  pub mass : IsWithin (pos 0) MOST_ROOF_MASS levels.roof.mass
+  pub coefficient : IsWithin (pos 0) most_coefficient levels.shell.coefficient
+  pub mass : IsWithin (pos 0) most_roof_mass levels.roof.mass
   pub zone : levels.roof.low ≤ℤ levels.roof.high

@@ -1,4 +1,5 @@
 -- The definitions of `calc_input`, by subject.
+pub mod Limits
 pub mod Lines
 pub mod Fields
 pub mod VolumesLine

@@ -10,7 +10,7 @@ use Rattle.calc_input.specs.TableRows.{volume_in}
 use Rattle.calc_input.specs.FactorRows.{listed_front, listed_of}
 use Rattle.calc_input.specs.LevelsLine.{levels_of}
 use Rattle.calc_input.specs.Forms.{begins_table, factor_count, volume_count}
-use Rattle.calc_input.specs.declared.answer.TheConstants.{MOST_INPUT_BYTES}
+use Rattle.calc_input.specs.Limits.{most_input_bytes}
 use Rattle.calc_input.specs.Answer.{line_of_offset}
 
 -- the line with a number, an empty one where there is no such line
@@ -59,8 +59,8 @@ IsDueIn false lines number = IsDueInVolumes lines number
 
 -- a line of an input is in form: it doesn't reach past the limit, and it is what is due there
 pub record IsInForm (bytes : List ℕ) (number : ℕ) : Type 0 where
-  pub within : MOST_INPUT_BYTES < length bytes → number < line_of_offset MOST_INPUT_BYTES bytes
-  pub due : IsDueIn (begins_table (lines_of (take MOST_INPUT_BYTES bytes))) (lines_of (take MOST_INPUT_BYTES bytes)) number
+  pub within : most_input_bytes < length bytes → number < line_of_offset most_input_bytes bytes
+  pub due : IsDueIn (begins_table (lines_of (take most_input_bytes bytes))) (lines_of (take most_input_bytes bytes)) number
 
 -- each line of an input is in form
 abbrev pub AreInForm : List ℕ → Type 0

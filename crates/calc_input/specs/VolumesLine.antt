@@ -3,7 +3,7 @@ use Rattle.std.specs.Prelude.{ℕ, ◌==◌, ◌&&◌, if◌then◌else◌, List
 use Rattle.std.specs.Str.{bytes_eq}
 use Rattle.farm_base.specs.Options.{◌>>=◌}
 use Rattle.farm_fixed.specs.Range.{IsWithin}
-use Rattle.farm_fixed.specs.declared.limits.TheConstants.{MOST_COEFFICIENT, MOST_LITRES, MOST_ROOF_MASS}
+use Rattle.farm_fixed.specs.Limits.{most_coefficient, most_litres, most_roof_mass}
 use Rattle.calc_input.specs.declared.volumes_line.Volumes.{Volumes}
 use Rattle.farm_fixed.specs.Shells.{insulated_of}
 use Rattle.calc_input.specs.Fields.{word_at, volume_of, roof_of, temperature_of, density_of, factor_of, share_of, coefficient_of}
@@ -40,7 +40,7 @@ volumes_of words =
 
 -- volumes that can be calculated with: each figure in the range that the calculation asks
 pub record IsCalculable (v : Volumes) : Type 0 where
-  pub tov : IsWithin (pos 0) MOST_LITRES v.tov
-  pub fw : IsWithin (pos 0) MOST_LITRES v.fw
-  pub coefficient : IsWithin (pos 0) MOST_COEFFICIENT v.shell.coefficient
-  pub floating : IsWithin (pos 0) MOST_ROOF_MASS v.floating
+  pub tov : IsWithin (pos 0) most_litres v.tov
+  pub fw : IsWithin (pos 0) most_litres v.fw
+  pub coefficient : IsWithin (pos 0) most_coefficient v.shell.coefficient
+  pub floating : IsWithin (pos 0) most_roof_mass v.floating

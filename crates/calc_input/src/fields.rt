@@ -15,7 +15,7 @@ use farm_fixed::{
 };
 
 // The most digits of a number.
-const MOST_DIGITS: usize = 20;
+pub(crate) const MOST_DIGITS: usize = 20;
 
 // A volume to calculate with.
 #[tactic(auto, unfolding(crate::specs::Fields::volume_of))]

@@ -12,9 +12,11 @@ mod fields;
 mod forms;
 mod levels_line;
 mod lines;
+mod number_laws;
 mod refusal;
 mod table_rows;
 mod volumes_line;
 
 pub use answer::{MOST_INPUT_BYTES, Unanswered, figures_of_input, laws};
+pub use number_laws::defined_numbers;
 pub use refusal::{Cause, Refused};

@@ -12,8 +12,8 @@ use Rattle.farm_http.specs.Answers.{body_text}
 use Rattle.farm_http.specs.Requests.{ask_of_line}
 use Rattle.farm_http.specs.declared.page.Page.{Page}
 use Rattle.farm_http.specs.declared.page.Page.TheVariants as pages
-use Rattle.batch_lines.specs.declared.limits.TheConstants.{LINE_FEED, LONGEST_LINE}
-use Rattle.farm_batch.specs.declared.limits.TheConstants.{BATCH_CALLER}
+use Rattle.batch_lines.specs.Limits.{line_feed, longest_line}
+use Rattle.farm_batch.specs.Limits.{batch_caller}
 
 -- no request
 abbrev pub no_request : Page
@@ -61,7 +61,7 @@ is_stop_ask (Look query) = false
 -- a request is a Stop, and its command would be accepted
 abbrev pub is_accepted_stop : ℕ → History → ℤ → Ask → Bool
 is_accepted_stop limit history now (Do account key command) =
-    if is_stop command then is_accepted (verdict limit history (stamped history BATCH_CALLER now account key command)) else false
+    if is_stop command then is_accepted (verdict limit history (stamped history batch_caller now account key command)) else false
 is_accepted_stop limit history now (Look query) = false
 
 -- what the desk answered, as the answer to a line
@@ -71,12 +71,12 @@ replied answered stops = record { page = pages.Reply answered.reply; history = a
 -- the answer to what a line asks for: the desk's, or that it is no request
 abbrev pub answer_to : ℕ → History → ℤ → Option Ask → LineAnswer
 answer_to limit history now None = unasked history no_request
-answer_to limit history now (Some ask) = replied (desk_answer limit history BATCH_CALLER now ask) (is_accepted_stop limit history now ask)
+answer_to limit history now (Some ask) = replied (desk_answer limit history batch_caller now ask) (is_accepted_stop limit history now ask)
 
 -- The answer to a line: one of more than 65,536 bytes is too long whatever it holds, and any other is answered as what it asks for.
 unfoldable pub line_answer : ℕ → History → ℤ → List ℕ → LineAnswer
 line_answer limit history now line =
-    if nat_lt LONGEST_LINE (length line) then unasked history line_too_long else answer_to limit history now (ask_of_line line)
+    if nat_lt longest_line (length line) then unasked history line_too_long else answer_to limit history now (ask_of_line line)
 
 -- a line that was asked: its bytes, what was answered, the history that was left, and whether the batch ended with it
 pub record Step : Type 0 where
@@ -139,7 +139,7 @@ AreAcknowledged most steps = All (λ step. IsReply step.page → last_place step
 
 -- a line is too long or no request, so that the desk isn't asked
 abbrev pub AsksNothing : List ℕ → Type 0
-AsksNothing line = (nat_lt LONGEST_LINE (length line) ≡ true) ⊎ (ask_of_line line ≡ None)
+AsksNothing line = (nat_lt longest_line (length line) ≡ true) ⊎ (ask_of_line line ≡ None)
 
 -- the history that lines left
 abbrev pub history_after : History → List Step → History
@@ -155,7 +155,7 @@ pub record EndsInStop (steps : List Step) : Type 0 where
 
 -- the text of an answer, a line
 abbrev pub answer_text : Page → List ℕ
-answer_text page = body_text page ++ LINE_FEED ∷ []
+answer_text page = body_text page ++ line_feed ∷ []
 
 -- the texts of the answers
 abbrev pub answers_text : List Step → List ℕ

@@ -7,17 +7,17 @@ use Rattle.farm_desk.specs.States.{DeskState}
 use Rattle.farm_history.specs.History.{History, last_place}
 use Rattle.farm_batch.specs.declared.batch.BatchEnd.{BatchEnd}
 use Rattle.farm_batch.specs.declared.batch.BatchEnd.TheVariants.{Done, Long, Failed}
-use Rattle.farm_batch.specs.declared.limits.TheConstants.{MOST_LINES}
+use Rattle.farm_batch.specs.Limits.{most_lines}
 use Rattle.farm_http.specs.declared.page.Page.{Page}
 use Rattle.farm_batch.specs.Answers.{AnswersEach, AnswersLine, AreAcknowledged, AsksNothing, EndsInStop, IsCutAtLast, IsReply, Step, answer_text, answers_text, disk_fault, faults_in, faults_on_page, history_after, out_of_memory}
-use Rattle.batch_lines.specs.declared.limits.TheConstants.{MOST_BYTES}
+use Rattle.batch_lines.specs.Limits.{most_bytes}
 use Rattle.batch_lines.specs.Lines.{BeginsWith, EndsWithin, HasByteTooMany, ended}
 use Rattle.batch_lines.specs.Reader.{AtEnd}
 
 -- What follows these lines begins a line that isn't read any more: as many lines as may be stand before it, or it holds a byte
 -- before which as many bytes stand as may be, line feeds counted.
 abbrev pub IsTooMuch : List (List ℕ) → List ℕ → Type 0
-IsTooMuch lines rest = ((length lines ≡ MOST_LINES) × (rest ≢ [])) ⊎ HasByteTooMany (length (ended lines)) rest
+IsTooMuch lines rest = ((length lines ≡ most_lines) × (rest ≢ [])) ⊎ HasByteTooMany (length (ended lines)) rest
 
 -- the lines of steps
 abbrev pub lines_of : List Step → List (List ℕ)
@@ -32,8 +32,8 @@ TakesLines taken in_hand to lines = BeginsWith taken lines in_hand ⊎ ((in_hand
 pub record Asks (may_give : ℤ → Type 0) (limit : ℕ) (before : History) (taken in_hand : List ℕ) (to : Option Stream) (steps : List Step) : Type 0 where
   pub answered : AnswersEach may_give limit before steps
   pub lines : TakesLines taken in_hand to (lines_of steps)
-  pub few : length steps ≤ MOST_LINES
-  pub short : length taken ≤ MOST_BYTES + length in_hand
+  pub few : length steps ≤ most_lines
+  pub short : length taken ≤ most_bytes + length in_hand
 
 -- no step ended the batch
 abbrev pub GoesOn : List Step → Type 0

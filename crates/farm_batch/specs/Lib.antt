@@ -1,4 +1,5 @@
 -- The definitions of `farm_batch`, by subject.
+pub mod Limits
 pub mod Answers
 pub mod Batches
 pub mod Desks

@@ -5,10 +5,10 @@ use Rattle.farm_base.specs.Bytes.{parts_at}
 use Rattle.farm_base.specs.Counts.{Count}
 use Rattle.farm_base.specs.Known.{Stream}
 use Rattle.farm_history.specs.History.{History}
-use Rattle.batch_lines.specs.declared.limits.TheConstants.{LINE_FEED, MOST_BYTES}
+use Rattle.batch_lines.specs.Limits.{line_feed, most_bytes}
 use Rattle.farm_batch.specs.declared.batch.BatchEnd.{BatchEnd}
 use Rattle.farm_batch.specs.declared.batch.BatchEnd.TheVariants.{Done, Long, Failed}
-use Rattle.farm_batch.specs.declared.limits.TheConstants.{MOST_LINES}
+use Rattle.farm_batch.specs.Limits.{most_lines}
 use Rattle.farm_batch.specs.Answers.{LineAnswer, Step, answer_text, answers_text, disk_fault, line_answer, out_of_memory}
 use Rattle.farm_batch.specs.Batches.{Asks, EndsAs}
 
@@ -33,7 +33,7 @@ size_of part (next ∷ parts) = length part + 1
 
 -- a line of this size isn't read any more, where this many lines and bytes are before it
 abbrev pub is_too_much : ℕ → ℕ → ℕ → Bool
-is_too_much lines passed size = lines == MOST_LINES || nat_lt MOST_BYTES (passed + size)
+is_too_much lines passed size = lines == most_lines || nat_lt most_bytes (passed + size)
 
 -- an answer is printed, and then what comes after it, unless it ends the batch
 abbrev pub printed_before : LineAnswer → Outcome → Outcome
@@ -52,7 +52,7 @@ outcome_from limit history lines passed (part ∷ parts) =
 
 -- the outcome of an input after a history
 unfoldable pub outcome : ℕ → History → List ℕ → Outcome
-outcome limit history text = outcome_from limit history 0 0 (parts_at LINE_FEED text)
+outcome limit history text = outcome_from limit history 0 0 (parts_at line_feed text)
 
 -- neither out of memory nor a fault of the disk was answered
 abbrev pub WereAnswered : List Step → Type 0

@@ -3,14 +3,14 @@ use Rattle.std.specs.Prelude.{if◌then◌else◌, List, Option, Some, None, Res
 use Rattle.std.specs.Int.RustNames.{int_lt}
 use Rattle.farm_base.specs.Steps.{◌>>=◌, or_fault}
 use Rattle.farm_fixed.specs.Range.{IsWithin}
-use Rattle.farm_fixed.specs.declared.limits.TheConstants.{MOST_ROOF_MASS}
+use Rattle.farm_fixed.specs.Limits.{most_roof_mass}
 use Rattle.farm_fixed.specs.declared.records.Reading.{Reading}
 use Rattle.farm_fixed.specs.declared.records.Sample.{Sample}
 use Rattle.farm_fixed.specs.declared.records.Quantities.{Quantities}
 use Rattle.farm_fixed.specs.declared.records.ChainRule.{ChainRule}
 use Rattle.farm_fixed.specs.declared.records.ChainRule.TheVariants.{AboveTable, WaterAboveLevel, NoEntry, CriticalZone}
 use Rattle.farm_rounding.specs.Table.{Row, row_at}
-use Rattle.farm_rounding.specs.declared.table.TheConstants.{FACTOR_TIES, TABLE_VOLUME}
+use Rattle.farm_rounding.specs.RowNumbers.{row_of_factor_ties, row_of_table_volume}
 use Rattle.farm_vcf.specs.Grid.{Grid, grid_factor}
 use Rattle.strap_table.specs.declared.tank.Roof.{Roof}
 use Rattle.strap_table.specs.declared.tank.TankSpec.{TankSpec}
@@ -19,12 +19,12 @@ use Rattle.farm_chain.specs.Volumes.{calculated_figures}
 
 -- a roof's mass is from 0 to 10^7 kg, and its zone doesn't end below where it begins
 pub record IsFloatingRoof (roof : Roof) : Type 0 where
-  pub weight : IsWithin (pos 0) MOST_ROOF_MASS roof.mass
+  pub weight : IsWithin (pos 0) most_roof_mass roof.mass
   pub zone : roof.low ≤ℤ roof.high
 
 -- the table's volume at a height, by the rounding of table volumes
 abbrev pub volume_at : List Row → List ℤ → ℤ → Option ℤ
-volume_at rounding table height = table_volume (row_at rounding TABLE_VOLUME).1 (row_at rounding TABLE_VOLUME).0 table height
+volume_at rounding table height = table_volume (row_at rounding row_of_table_volume).1 (row_at rounding row_of_table_volume).0 table height
 
 -- TOV: the volume at the level
 unfoldable pub total_observed : List Row → List ℤ → Reading → Result ℤ ChainRule
@@ -39,7 +39,7 @@ free_water rounding table reading =
 -- VCF: the entry of the factor file
 unfoldable pub correction_factor : List Row → Grid → Reading → Sample → Result ℤ ChainRule
 correction_factor rounding vcf reading sample =
-    or_fault NoEntry (grid_factor (row_at rounding FACTOR_TIES).1 vcf sample.density reading.liquid)
+    or_fault NoEntry (grid_factor (row_at rounding row_of_factor_ties).1 vcf sample.density reading.liquid)
 
 -- The mass that the liquid carries of a roof: none below the critical zone, all of it above, and within, both ends included,
 -- it isn't known.

@@ -2,7 +2,7 @@
 use Rattle.std.specs.Prelude.{if◌then◌else◌, List, Result, Ok, Err, ℤ, pos, ◌-ℤ◌}
 use Rattle.std.specs.Int.RustNames.{int_lt}
 use Rattle.farm_fixed.specs.Range.{IsWithin}
-use Rattle.farm_fixed.specs.declared.limits.TheConstants.{MOST_NET}
+use Rattle.farm_fixed.specs.Limits.{most_net}
 use Rattle.farm_fixed.specs.declared.records.Shell.{Shell}
 use Rattle.farm_fixed.specs.declared.records.Sample.{Sample}
 use Rattle.farm_fixed.specs.declared.records.Quantities.{Quantities}
@@ -31,8 +31,8 @@ standard_figures rounding tov fw ctsh vcf fra gov sample =
 
 -- the net standard volume is from 0 to 3 * 10^9 litres, and the mass from 0 to 3 * 10^9 kg
 pub record AreInRange (figures : Quantities) : Type 0 where
-  pub nsv : IsWithin (pos 0) (pos MOST_NET) figures.nsv
-  pub mass : IsWithin (pos 0) (pos MOST_NET) figures.mass
+  pub nsv : IsWithin (pos 0) (pos most_net) figures.nsv
+  pub mass : IsWithin (pos 0) (pos most_net) figures.mass
 
 -- The ten figures under a roof's adjustment, or the first refusal: the water is more than the total, or the gross observed
 -- volume is below zero.

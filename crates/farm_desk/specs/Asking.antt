@@ -3,7 +3,7 @@ use Rattle.std.specs.Prelude.{◌⊎◌, ℕ, ◌<◌, ◌≤◌, List, length, 
 use Rattle.farm_disk.specs.Images.{State}
 use Rattle.farm_disk.specs.Runs.{EachNow, EachSince}
 use Rattle.farm_history.specs.History.{History, empty_history}
-use Rattle.farm_journal.specs.declared.limits.TheConstants.{BEFORE_HEADER}
+use Rattle.farm_journal.specs.Limits.{before_header}
 use Rattle.farm_journal.specs.Recovery.{IsNotJournal}
 use Rattle.farm_site.specs.Described.{Described}
 use Rattle.farm_records.specs.Histories.{Recovers, RecoversAtLeast, RecoversFront, certain}
@@ -29,4 +29,4 @@ IsNoneOrEmpty limit site bytes = IsNotJournal bytes ⊎ Recovers limit (empty_hi
 -- Where every image at the start is shorter than 13 bytes, as of an empty disk, each image since is no journal, or stands for the history
 -- of the site without an entry.
 abbrev pub IsCrashSafe : ℕ → Described → Option (List State) → Option (List State) → Type 0
-IsCrashSafe limit site old new = EachNow old (λ image. length image < BEFORE_HEADER) → EachSince old new (IsNoneOrEmpty limit site)
+IsCrashSafe limit site old new = EachNow old (λ image. length image < before_header) → EachSince old new (IsNoneOrEmpty limit site)

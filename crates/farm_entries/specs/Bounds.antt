@@ -2,7 +2,7 @@
 use Rattle.std.specs.Prelude.{◌≡◌, ◌≢◌, ℕ, ◌*◌, ◌^◌, ◌≤◌, All, IfSome, List, Some}
 use Rattle.std.specs.Int.RustNames.{unsigned_abs}
 use Rattle.farm_chain.specs.Volumes.{AreInRange}
-use Rattle.farm_fixed.specs.declared.limits.TheConstants.{MOST_NET}
+use Rattle.farm_fixed.specs.Limits.{most_net}
 use Rattle.farm_fixed.specs.declared.records.Amount.{Amount}
 use Rattle.farm_stock.specs.Books.{book_of, plus}
 use Rattle.farm_stock.specs.Postings.{amount_of, at_tank}
@@ -21,7 +21,7 @@ pub record IsAtMost (most : ℕ) (amount : Amount) : Type 0 where
 
 -- the most that a tank holds by its figures, and that moves on a side, in litres and in kg
 abbrev pub most_moved : ℕ
-most_moved = MOST_NET
+most_moved = most_net
 
 -- more than any book holds, and than is posted at once
 abbrev pub most_posted : ℕ

@@ -1,4 +1,5 @@
 -- The definitions of `farm_fixed`, by subject.
+pub mod Limits
 pub mod Range
 pub mod Text
 pub mod Parsing

@@ -1,7 +1,7 @@
 -- Ranges of quantities and of numbers.
 use Rattle.std.specs.Prelude.{ℕ, ◌≤◌, ◌^◌, Bool, ◌&&◌, not, nat_le, ℤ, ◌-ℤ◌, ◌≤ℤ◌, pos}
 use Rattle.std.specs.Int.RustNames.{int_lt, unsigned_abs}
-use Rattle.farm_fixed.specs.declared.limits.TheConstants.{MOST_LITRES}
+use Rattle.farm_fixed.specs.Limits.{most_litres}
 
 -- a number of units lies in the range, both ends included
 pub record IsWithin (least most value : ℤ) : Type 0 where
@@ -18,7 +18,7 @@ is_between least most n = nat_le least n && nat_le n most
 
 -- a volume in litres, from 0 to 10^9
 abbrev pub IsVolume : ℤ → Type 0
-IsVolume litres = IsWithin (pos 0) MOST_LITRES litres
+IsVolume litres = IsWithin (pos 0) most_litres litres
 
 -- how far two numbers lie apart
 abbrev pub distance : ℤ → ℤ → ℕ

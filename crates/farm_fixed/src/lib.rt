@@ -6,6 +6,7 @@
 
 mod fault;
 mod limits;
+mod number_laws;
 mod parsing;
 mod printing;
 mod quantity;
@@ -21,6 +22,7 @@ pub use limits::{
     MOST_FACTOR, MOST_HEIGHT, MOST_LITRES, MOST_NET, MOST_ROOF_MASS, MOST_SHARE, MOST_TEMPERATURE,
     MOST_TENTHS, MOST_UNITS,
 };
+pub use number_laws::defined_numbers;
 pub use quantity::{Quantity, Unit};
 pub use records::{Amount, ChainRule, Quantities, Reading, Sample, Shell};
 pub use shells::insulated_of;

@@ -2,7 +2,7 @@
 
 ghost use Rattle.std.specs.Prelude.{pos};
 ghost use Rattle.std.proofs.Common.{lit≤};
-ghost use Rattle.farm_fixed.specs.declared.limits.TheConstants.{LEAST_DENSITY, LEAST_FACTOR, LEAST_TEMPERATURE, LEAST_UNITS, MOST_DENSITY, MOST_FACTOR, MOST_HEIGHT, MOST_SHARE, MOST_TEMPERATURE, MOST_TENTHS, MOST_UNITS};
+ghost use Rattle.farm_fixed.specs.Limits.{least_density, least_factor, least_temperature, least_units, most_density, most_factor, most_height, most_share, most_temperature, most_tenths, most_units};
 
 use crate::{
     LEAST_DENSITY, LEAST_FACTOR, LEAST_TEMPERATURE, LEAST_UNITS, MOST_DENSITY, MOST_FACTOR,
@@ -19,7 +19,7 @@ pub type Mm = Quantity<Millimetre>;
 impl Unit for Millimetre {
     ghost LEAST = { pos 0 };
 
-    ghost MOST = { MOST_HEIGHT };
+    ghost MOST = { most_height };
 
     ghost PLACES = { 0 };
 
@@ -42,7 +42,7 @@ pub type Deci = Quantity<TenthMillimetre>;
 impl Unit for TenthMillimetre {
     ghost LEAST = { pos 0 };
 
-    ghost MOST = { MOST_TENTHS };
+    ghost MOST = { most_tenths };
 
     ghost PLACES = { 1 };
 
@@ -63,9 +63,9 @@ pub struct HundredthDegree;
 pub type Centi = Quantity<HundredthDegree>;
 
 impl Unit for HundredthDegree {
-    ghost LEAST = { LEAST_TEMPERATURE };
+    ghost LEAST = { least_temperature };
 
-    ghost MOST = { MOST_TEMPERATURE };
+    ghost MOST = { most_temperature };
 
     ghost PLACES = { 2 };
 
@@ -86,9 +86,9 @@ pub struct TenthKilogramPerCubicMetre;
 pub type Dens = Quantity<TenthKilogramPerCubicMetre>;
 
 impl Unit for TenthKilogramPerCubicMetre {
-    ghost LEAST = { LEAST_DENSITY };
+    ghost LEAST = { least_density };
 
-    ghost MOST = { MOST_DENSITY };
+    ghost MOST = { most_density };
 
     ghost PLACES = { 1 };
 
@@ -109,9 +109,9 @@ pub struct HundredThousandth;
 pub type Fac5 = Quantity<HundredThousandth>;
 
 impl Unit for HundredThousandth {
-    ghost LEAST = { LEAST_FACTOR };
+    ghost LEAST = { least_factor };
 
-    ghost MOST = { MOST_FACTOR };
+    ghost MOST = { most_factor };
 
     ghost PLACES = { 5 };
 
@@ -134,7 +134,7 @@ pub type Permil5 = Quantity<ThousandthPercent>;
 impl Unit for ThousandthPercent {
     ghost LEAST = { pos 0 };
 
-    ghost MOST = { MOST_SHARE };
+    ghost MOST = { most_share };
 
     ghost PLACES = { 3 };
 
@@ -155,9 +155,9 @@ pub struct Litre;
 pub type Litres = Quantity<Litre>;
 
 impl Unit for Litre {
-    ghost LEAST = { LEAST_UNITS };
+    ghost LEAST = { least_units };
 
-    ghost MOST = { MOST_UNITS };
+    ghost MOST = { most_units };
 
     ghost PLACES = { 0 };
 
@@ -178,9 +178,9 @@ pub struct Kilogram;
 pub type Kg = Quantity<Kilogram>;
 
 impl Unit for Kilogram {
-    ghost LEAST = { LEAST_UNITS };
+    ghost LEAST = { least_units };
 
-    ghost MOST = { MOST_UNITS };
+    ghost MOST = { most_units };
 
     ghost PLACES = { 0 };
 

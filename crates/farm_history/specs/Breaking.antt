@@ -14,7 +14,7 @@ use Rattle.strap_table.specs.Capacity.{top_of}
 use Rattle.farm_history.specs.declared.command.Command.{Command}
 use Rattle.farm_history.specs.declared.command.Command.TheVariants.{Opening, Closing, Reverse, Settle, Stop}
 use Rattle.farm_history.specs.declared.entry.Entry.{Entry}
-use Rattle.farm_history.specs.declared.limits.TheConstants.{STOPS_BEYOND_LIMIT}
+use Rattle.farm_history.specs.Limits.{stops_beyond_limit}
 use Rattle.farm_history.specs.declared.plan.Gauged.{Gauged}
 use Rattle.farm_history.specs.declared.plan.Named.{Named}
 use Rattle.farm_history.specs.declared.plan.Plan.{Plan}
@@ -37,7 +37,7 @@ use Rattle.farm_history.specs.Tickets.{closing_ticket, tanks_of_ticket}
 -- Stops
 abbrev pub IsFull : ℕ → History → Entry → Type 0
 IsFull limit history entry =
-    (limit + STOPS_BEYOND_LIMIT ≤ last_place history) ⊎ ((limit ≤ last_place history) × (entry.cmd ≢ Stop))
+    (limit + stops_beyond_limit ≤ last_place history) ⊎ ((limit ≤ last_place history) × (entry.cmd ≢ Stop))
 
 -- the command gives a tank that the site doesn't have
 pub record NamesNoTank (history : History) (entry : Entry) : Type 0 where

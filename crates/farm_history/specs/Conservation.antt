@@ -3,7 +3,7 @@
 use Rattle.std.specs.Prelude.{◌≡◌, ℕ, ◌+◌, ◌*◌, ◌≤◌, Bool, true, false, List, map, Some, ℤ, ◌+ℤ◌, ◌-ℤ◌}
 use Rattle.std.specs.Int.RustNames.{unsigned_abs}
 use Rattle.std.specs.List.{filter}
-use Rattle.farm_fixed.specs.declared.limits.TheConstants.{MOST_NET}
+use Rattle.farm_fixed.specs.Limits.{most_net}
 use Rattle.farm_fixed.specs.declared.records.Amount.{Amount}
 use Rattle.farm_stock.specs.Books.{sum_of}
 use Rattle.farm_stock.specs.Postings.{amount_of, at_tank}
@@ -11,7 +11,7 @@ use Rattle.farm_stock.specs.declared.posting.Kind.{Kind}
 use Rattle.farm_stock.specs.declared.posting.Kind.TheVariants.{Receipt, Delivery, TransferOut, TransferIn, Gain}
 use Rattle.farm_stock.specs.declared.posting.Posting.{Posting}
 use Rattle.site_items.specs.declared.records.Tank.{Tank}
-use Rattle.site_items.specs.declared.tanks.TheConstants.{MOST_STOCK}
+use Rattle.site_items.specs.Limits.{most_stock}
 use Rattle.farm_history.specs.History.{History, tank_after}
 use Rattle.farm_history.specs.Postings.{opposite, postings_of}
 
@@ -83,7 +83,7 @@ IsTotal history total = Moves (postings_of history) (openings_of history.site.ta
 
 -- the most that a book may hold after this many entries, either way
 abbrev pub most_held : ℕ → ℕ
-most_held entries = unsigned_abs MOST_STOCK + MOST_NET * entries
+most_held entries = unsigned_abs most_stock + most_net * entries
 
 -- a book is within its bound, in litres and in kg
 pub record IsBoundedBook (entries : ℕ) (book : Amount) : Type 0 where

@@ -12,7 +12,7 @@ use Rattle.farm_history.specs.declared.plan.Plan.{Plan}
 use Rattle.farm_history.specs.declared.plan.Plan.TheVariants.{Outside, Transfer}
 use Rattle.farm_ticket.specs.declared.side.Way.{Way}
 use Rattle.farm_ticket.specs.declared.side.Way.TheVariants.{Inward, Outward}
-use Rattle.farm_history.specs.declared.limits.TheConstants.{LAST_MOMENT, LONGEST_LIST}
+use Rattle.farm_history.specs.Limits.{latest_moment, longest_list}
 use Rattle.farm_history.specs.Encoding.{signed_bytes}
 
 -- a call answers what a reader gives, its value seen by a view
@@ -63,7 +63,7 @@ unless_above (Some left) read = Err left
 
 -- a moment that an entry may have
 unfoldable pub moment_at : List ℕ → Result (ℤ × List ℕ) ℕ
-moment_at bytes = unless_above (first_above (signed_bytes LAST_MOMENT) bytes) (signed_at bytes)
+moment_at bytes = unless_above (first_above (signed_bytes latest_moment) bytes) (signed_at bytes)
 
 -- this many signed numbers
 abbrev pub numbers_at : ℕ → List ℕ → Result (List ℤ × List ℕ) ℕ
@@ -72,7 +72,7 @@ numbers_at (suc count) bytes = made_at (λ numbers. numbers.0 ∷ numbers.1) (si
 
 -- numbers, and zeros after this many of them
 abbrev pub padded : ℕ → List ℤ → List ℤ
-padded count numbers = numbers ++ replicate (LONGEST_LIST - count) (pos 0)
+padded count numbers = numbers ++ replicate (longest_list - count) (pos 0)
 
 -- the short list of a count and as many numbers
 abbrev pub list_of : ℕ × List ℤ → Few
@@ -80,7 +80,7 @@ list_of counted = record { count = counted.0; values = padded counted.0 counted.
 
 -- a short list
 unfoldable pub list_at : List ℕ → Result (Few × List ℕ) ℕ
-list_at = made_at list_of (then_at (byte_at (λ count. nat_le count LONGEST_LIST)) numbers_at)
+list_at = made_at list_of (then_at (byte_at (λ count. nat_le count longest_list)) numbers_at)
 
 -- the kind of a dip
 unfoldable pub kind_at : List ℕ → Result (Bool × List ℕ) ℕ

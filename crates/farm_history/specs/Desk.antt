@@ -6,7 +6,7 @@ use Rattle.farm_history.specs.declared.ask.Ask.{Ask}
 use Rattle.farm_history.specs.declared.ask.Ask.TheVariants.{Do, Look}
 use Rattle.farm_history.specs.declared.command.Command.{Command}
 use Rattle.farm_history.specs.declared.entry.Entry.{Entry}
-use Rattle.farm_history.specs.declared.limits.TheConstants.{LAST_MOMENT}
+use Rattle.farm_history.specs.Limits.{latest_moment}
 use Rattle.farm_history.specs.declared.query.Query.{Query}
 use Rattle.farm_history.specs.declared.query.Query.TheVariants as queries
 use Rattle.farm_history.specs.declared.reply.Reply.{Reply}
@@ -28,7 +28,7 @@ IsWellFormedAsk (Look query) = Unit {0}
 
 -- a number of seconds brought into the range of moments
 abbrev pub brought_into_range : ℤ → ℤ
-brought_into_range now = if int_lt now (pos 0) then pos 0 else (if int_lt LAST_MOMENT now then LAST_MOMENT else now)
+brought_into_range now = if int_lt now (pos 0) then pos 0 else (if int_lt latest_moment now then latest_moment else now)
 
 -- the greater of two numbers
 abbrev pub later_of : ℤ → ℤ → ℤ

@@ -2,7 +2,7 @@
 use Rattle.std.specs.Prelude.{◌≢◌, ℕ, ◌&&◌, ◌||◌, ◌==◌, not, Bool, true, false, All, IsTrue, List, [], ◌∷◌, length, Option, ℤ, pos}
 use Rattle.std.specs.List.{list_all}
 use Rattle.farm_fixed.specs.Range.{IsWithin, is_within}
-use Rattle.farm_fixed.specs.declared.limits.TheConstants.{LEAST_DENSITY, LEAST_TEMPERATURE, MOST_DENSITY, MOST_HEIGHT, MOST_SHARE, MOST_TEMPERATURE}
+use Rattle.farm_fixed.specs.Limits.{least_density, least_temperature, most_density, most_height, most_share, most_temperature}
 use Rattle.farm_history.specs.declared.command.Command.{Command}
 use Rattle.farm_history.specs.declared.command.Command.TheVariants.{Gauge, Dip, Sample}
 use Rattle.farm_history.specs.Commands.{numbers_of}
@@ -17,19 +17,19 @@ pub record Field : Type 0 where
 
 -- a field of heights, from 0 to 50,000 mm
 abbrev pub heights : Bool → List ℤ → Field
-heights needed numbers = record { least = pos 0; most = MOST_HEIGHT; holds = numbers; needed = needed }
+heights needed numbers = record { least = pos 0; most = most_height; holds = numbers; needed = needed }
 
 -- a field of temperatures, from -100.00 to 300.00 C, of which there is at least one
 abbrev pub temperatures : List ℤ → Field
-temperatures numbers = record { least = LEAST_TEMPERATURE; most = MOST_TEMPERATURE; holds = numbers; needed = true }
+temperatures numbers = record { least = least_temperature; most = most_temperature; holds = numbers; needed = true }
 
 -- a field of one density, from 400.0 to 1,200.0 kg/m3
 abbrev pub density : ℤ → Field
-density number = record { least = LEAST_DENSITY; most = MOST_DENSITY; holds = number ∷ []; needed = true }
+density number = record { least = least_density; most = most_density; holds = number ∷ []; needed = true }
 
 -- a field of sediment and water, from 0 to 100 percent
 abbrev pub sediment_and_water : ℤ → Field
-sediment_and_water number = record { least = pos 0; most = MOST_SHARE; holds = number ∷ []; needed = true }
+sediment_and_water number = record { least = pos 0; most = most_share; holds = number ∷ []; needed = true }
 
 -- the numbered fields of a command, of which the first has number 1
 abbrev pub fields_of : Command → List Field

@@ -10,7 +10,7 @@ use Rattle.farm_rounding.specs.Table.{Row}
 use Rattle.site_items.specs.declared.records.Tank.{Tank}
 use Rattle.farm_history.specs.declared.command.Command.{Command}
 use Rattle.farm_history.specs.declared.command.Command.TheVariants.{Gauge, Dip}
-use Rattle.farm_history.specs.declared.rule.TheConstants.{BELOW_DATUM, TAPE_COUNT, TAPE_SPREAD, WATER_TAPE_COUNT, WATER_TAPE_SPREAD}
+use Rattle.farm_history.specs.TapeFaults.{fault_of_below_datum, fault_of_tape_count, fault_of_tape_spread, fault_of_water_tape_count, fault_of_water_tape_spread}
 use Rattle.farm_history.specs.Commands.{numbers_of, tank_of}
 use Rattle.farm_history.specs.History.{History, before, entry_at, tank_after}
 
@@ -23,7 +23,7 @@ tapes_numbered count spread (Err Spread) = Err spread
 -- an innage, or the number of an outage above the reference height
 abbrev pub innage_numbered : Result ℤ BelowDatum → Result ℤ ℕ
 innage_numbered (Ok innage) = Ok innage
-innage_numbered (Err fault) = Err BELOW_DATUM
+innage_numbered (Err fault) = Err fault_of_below_datum
 
 -- the level of a dip: the reading of its tapes, and where that is an outage the innage that it stands for
 abbrev pub dip_level : ℤ → Bool → ℤ → Result ℤ ℕ
@@ -33,12 +33,12 @@ dip_level height false tape = Ok tape
 -- the free water of a dip: the reading of its water tapes, 0 where there are none
 abbrev pub dip_water : List Row → List ℤ → Result ℤ ℕ
 dip_water rounding [] = Ok (pos 0)
-dip_water rounding (tape ∷ tapes) = tapes_numbered WATER_TAPE_COUNT WATER_TAPE_SPREAD (tape_reading rounding (tape ∷ tapes))
+dip_water rounding (tape ∷ tapes) = tapes_numbered fault_of_water_tape_count fault_of_water_tape_spread (tape_reading rounding (tape ∷ tapes))
 
 -- the reading of a dip in a tank of this reference height, or the number of the first thing that is wrong with its tapes
 unfoldable pub dip_reading : List Row → ℤ → Bool → List ℤ → List ℤ → List ℤ → ℤ → Result Reading ℕ
 dip_reading rounding height outage tapes water temperatures ambient = do
-  tape ← tapes_numbered TAPE_COUNT TAPE_SPREAD (tape_reading rounding tapes)
+  tape ← tapes_numbered fault_of_tape_count fault_of_tape_spread (tape_reading rounding tapes)
   level ← dip_level height outage tape
   water ← dip_water rounding water
   Ok (record { level = level; water = water; liquid = mean_temperature rounding temperatures; ambient = ambient })
@@ -69,9 +69,9 @@ pub record HasLevel (rounding : List Row) (height : ℤ) (outage : Bool) (tapes 
 -- and those give no reading: that of their count or of their spread.
 abbrev pub IsDipFault : List Row → ℤ → Bool → List ℤ → List ℤ → ℕ → Type 0
 IsDipFault rounding height outage tapes water number =
-    IsTapeNumber TAPE_COUNT TAPE_SPREAD rounding tapes number
-    ⊎ (IsTooLow rounding height outage tapes × (number ≡ BELOW_DATUM))
-    ⊎ (HasLevel rounding height outage tapes × (water ≢ []) × IsTapeNumber WATER_TAPE_COUNT WATER_TAPE_SPREAD rounding water number)
+    IsTapeNumber fault_of_tape_count fault_of_tape_spread rounding tapes number
+    ⊎ (IsTooLow rounding height outage tapes × (number ≡ fault_of_below_datum))
+    ⊎ (HasLevel rounding height outage tapes × (water ≢ []) × IsTapeNumber fault_of_water_tape_count fault_of_water_tape_spread rounding water number)
 
 -- the reading of an automatic gauge, whose one temperature is rounded as a mean is
 unfoldable pub gauge_reading : List Row → ℤ → ℤ → ℤ → ℤ → Reading

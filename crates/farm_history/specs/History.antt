@@ -4,7 +4,7 @@ use Rattle.farm_fixed.specs.Range.{IsWithin}
 use Rattle.farm_site.specs.Described.{Described, tank_numbered}
 use Rattle.site_items.specs.declared.records.Tank.{Tank}
 use Rattle.farm_history.specs.declared.entry.Entry.{Entry}
-use Rattle.farm_history.specs.declared.limits.TheConstants.{LAST_MOMENT}
+use Rattle.farm_history.specs.Limits.{latest_moment}
 use Rattle.farm_history.specs.Commands.{IsWellFormedCommand}
 
 -- a history
@@ -14,7 +14,7 @@ pub record History : Type 0 where
 
 -- a moment that an entry may have
 abbrev pub IsMoment : ℤ → Type 0
-IsMoment moment = IsWithin (pos 0) LAST_MOMENT moment
+IsMoment moment = IsWithin (pos 0) latest_moment moment
 
 -- an entry's command is well formed, and its moment is one that an entry may have
 pub record IsWellFormed (entry : Entry) : Type 0 where

@@ -1,4 +1,6 @@
 -- The definitions of `farm_history`, by subject.
+pub mod TapeFaults
+pub mod Limits
 pub mod Commands
 pub mod Places
 pub mod Given

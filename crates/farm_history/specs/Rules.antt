@@ -9,7 +9,7 @@ use Rattle.site_items.specs.declared.records.Tank.{Tank}
 use Rattle.strap_table.specs.Capacity.{top_of}
 use Rattle.farm_history.specs.declared.command.Command.{Command}
 use Rattle.farm_history.specs.declared.entry.Entry.{Entry}
-use Rattle.farm_history.specs.declared.limits.TheConstants.{STOPS_BEYOND_LIMIT}
+use Rattle.farm_history.specs.Limits.{stops_beyond_limit}
 use Rattle.farm_history.specs.declared.rule.Rule.{Rule}
 use Rattle.farm_history.specs.declared.rule.Rule.TheVariants.{KeyReused, HistoryFull, UnknownTank, OutOfRange, Tape, AboveTable, WaterAboveLevel}
 use Rattle.farm_history.specs.Commands.{is_stop, is_same_command, tanks_given}
@@ -34,7 +34,7 @@ key_reused history entry = option_map KeyReused (first_place (has_same_key entry
 -- a history of this many entries doesn't take the command: it has its limit and the command is no Stop, or it has its limit and as
 -- many more as may be Stops
 abbrev pub is_full : ℕ → ℕ → Bool → Bool
-is_full limit entries stop = nat_le (limit + STOPS_BEYOND_LIMIT) entries || (nat_le limit entries && not stop)
+is_full limit entries stop = nat_le (limit + stops_beyond_limit) entries || (nat_le limit entries && not stop)
 
 -- the history is full
 unfoldable pub history_full : ℕ → History → Command → Option Rule

@@ -1,4 +1,5 @@
 -- The definitions of `farm_http`, by subject.
+pub mod Limits
 pub mod Members
 pub mod Objects
 pub mod Requests

@@ -8,7 +8,7 @@ use Rattle.serde_json.specs.Read.{read}
 use Rattle.farm_base.specs.Options.{◌>>=◌}
 use Rattle.farm_fixed.specs.Range.{is_within}
 use Rattle.farm_history.specs.declared.few.Few.{Few}
-use Rattle.farm_history.specs.declared.limits.TheConstants.{LONGEST_LIST}
+use Rattle.farm_history.specs.Limits.{longest_list}
 
 -- the value that bytes are: UTF-8, and a JSON text that nests at most 127 deep
 unfoldable pub value_of : List ℕ → Option Data
@@ -42,8 +42,8 @@ wholes_of (item value items) = option_and_then (λ number. option_map (λ number
 -- a short list of at most eight numbers
 abbrev pub few_of : List ℤ → Option Few
 few_of numbers =
-    if nat_lt LONGEST_LIST (length numbers) then None
-    else Some (record { count = length numbers; values = numbers ++ replicate (LONGEST_LIST - length numbers) (pos 0) })
+    if nat_lt longest_list (length numbers) then None
+    else Some (record { count = length numbers; values = numbers ++ replicate (longest_list - length numbers) (pos 0) })
 
 -- the short list that items are
 unfoldable pub few_of_items : Items → Option Few

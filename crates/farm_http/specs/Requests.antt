@@ -16,15 +16,15 @@ use Rattle.farm_http.specs.Members.{few_at, natural_at, text_at, value_of, whole
 use Rattle.serde_json.specs.Find.{get}
 use Rattle.farm_http.specs.declared.requests.LineAsked.{LineAsked}
 use Rattle.farm_http.specs.declared.requests.LineAsked.TheVariants as lines
-use Rattle.farm_http.specs.declared.requests.TheConstants.{GREATEST_ACCOUNT, GREATEST_KEY, GREATEST_PARTY, GREATEST_PLACE, GREATEST_TANK}
+use Rattle.farm_http.specs.Limits.{greatest_account, greatest_key, greatest_party, greatest_place, greatest_tank}
 
 -- the number of a tank
 unfoldable pub tank_at : List ℕ → Data → Option ℕ
-tank_at name value = natural_at name 0 GREATEST_TANK value
+tank_at name value = natural_at name 0 greatest_tank value
 
 -- a place of the history
 unfoldable pub place_at : List ℕ → Data → Option ℕ
-place_at name value = natural_at name 0 GREATEST_PLACE value
+place_at name value = natural_at name 0 greatest_place value
 
 -- what is named for a tank: the place of a reading and that of a sample
 unfoldable pub gauged_at : List ℕ → List ℕ → Data → Option Gauged
@@ -71,7 +71,7 @@ sample_of value = do
 unfoldable pub outside_of : Way → Data → Option Command
 outside_of way value = do
   tank ← tank_at (codes "tank") value
-  party ← natural_at (codes "party") 0 GREATEST_PARTY value
+  party ← natural_at (codes "party") 0 greatest_party value
   gauged ← gauged_at (codes "reading") (codes "sample") value
   Some (Opening (Outside way tank party gauged))
 
@@ -145,8 +145,8 @@ command_of word value =
 -- a command that is to be done: an account from 1 to 999,999, a key from 0 to 2^63 - 1, and the command of the word
 unfoldable pub do_of : List ℕ → Data → Option Ask
 do_of word value = do
-  account ← natural_at (codes "account") 1 GREATEST_ACCOUNT value
-  key ← natural_at (codes "key") 0 GREATEST_KEY value
+  account ← natural_at (codes "account") 1 greatest_account value
+  key ← natural_at (codes "key") 0 greatest_key value
   command ← command_of word value
   Some (Do account key command)
 

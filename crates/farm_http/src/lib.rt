@@ -7,12 +7,14 @@
 mod answers;
 mod commands;
 mod members;
+mod number_laws;
 mod objects;
 mod page;
 mod requests;
 mod tickets;
 
 pub use answers::{body, laws};
+pub use number_laws::defined_numbers;
 pub use page::{Allow, Page};
 pub use requests::{
     GREATEST_ACCOUNT, GREATEST_KEY, GREATEST_PARTY, GREATEST_PLACE, GREATEST_TANK, LineAsked, line,

@@ -1,2 +1,3 @@
 -- The definitions of `farm_readings`, by subject.
+pub mod Limits
 pub mod Readings

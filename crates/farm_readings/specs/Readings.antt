@@ -4,12 +4,11 @@ use Rattle.std.specs.Int.RustNames.{int_lt, unsigned_abs}
 use Rattle.std.specs.Ordering.{int_eq}
 use Rattle.farm_rounding.specs.Multiple.{IsNearest}
 use Rattle.farm_rounding.specs.Table.{Row, row_at, rounded}
-use Rattle.farm_rounding.specs.declared.table.TheConstants.{LIQUID_TEMPERATURE, TAPE_MEAN}
+use Rattle.farm_rounding.specs.RowNumbers.{row_of_liquid_temperature, row_of_tape_mean}
 use Rattle.farm_readings.specs.declared.datum.BelowDatum.{BelowDatum}
 use Rattle.farm_readings.specs.declared.tapes.TapeFault.{TapeFault}
 use Rattle.farm_readings.specs.declared.tapes.TapeFault.TheVariants.{Count, Spread}
-use Rattle.farm_readings.specs.declared.tapes.TheConstants.{MOST_SPREAD}
-use Rattle.farm_readings.specs.declared.temperatures.TheConstants.{MOST_TEMPERATURES}
+use Rattle.farm_readings.specs.Limits.{most_spread, most_temperatures}
 
 -- by how many mm two tapes differ
 abbrev pub apart : ℤ → ℤ → ℕ
@@ -17,7 +16,7 @@ apart first second = unsigned_abs (first -ℤ second)
 
 -- two of three tapes differ by at most 3 mm
 abbrev pub is_close : ℤ → ℤ → Bool
-is_close first second = nat_le (apart first second) MOST_SPREAD
+is_close first second = nat_le (apart first second) most_spread
 
 -- each two of three tapes do
 abbrev pub are_close : ℤ → ℤ → ℤ → Bool
@@ -30,7 +29,7 @@ tape_of_two first second = if int_eq first second then Ok first else Err Spread
 -- three tapes have their mean, rounded, unless two of them differ too much
 abbrev pub tape_of_three : List Row → ℤ → ℤ → ℤ → Result ℤ TapeFault
 tape_of_three rounding first second third =
-    if are_close first second third then Ok (rounded rounding TAPE_MEAN (first +ℤ second +ℤ third) 3) else Err Spread
+    if are_close first second third then Ok (rounded rounding row_of_tape_mean (first +ℤ second +ℤ third) 3) else Err Spread
 
 -- the reading of tapes, of which there are two or three
 abbrev pub tape_reading : List Row → List ℤ → Result ℤ TapeFault
@@ -40,19 +39,19 @@ tape_reading rounding tapes = Err Count
 
 -- each two of three tapes differ by at most 3 mm
 pub record AreClose (first second third : ℤ) : Type 0 where
-  pub first_second : apart first second ≤ MOST_SPREAD
-  pub second_third : apart second third ≤ MOST_SPREAD
-  pub first_third : apart first third ≤ MOST_SPREAD
+  pub first_second : apart first second ≤ most_spread
+  pub second_third : apart second third ≤ most_spread
+  pub first_third : apart first third ≤ most_spread
 
 -- some two of three tapes differ by more
 abbrev pub AreApart : ℤ → ℤ → ℤ → Type 0
 AreApart first second third =
-    (MOST_SPREAD < apart first second) ⊎ (MOST_SPREAD < apart second third) ⊎ (MOST_SPREAD < apart first third)
+    (most_spread < apart first second) ⊎ (most_spread < apart second third) ⊎ (most_spread < apart first third)
 
 -- the reading is the nearest multiple to the mean of three tapes, by the rounding of tape means
 abbrev pub IsMeanOfThree : List Row → ℤ → ℤ → ℤ → ℤ → Type 0
 IsMeanOfThree rounding first second third reading =
-    IsNearest (row_at rounding TAPE_MEAN).1 (first +ℤ second +ℤ third) 3 (row_at rounding TAPE_MEAN).0 reading
+    IsNearest (row_at rounding row_of_tape_mean).1 (first +ℤ second +ℤ third) 3 (row_at rounding row_of_tape_mean).0 reading
 
 -- The rule of tapes. A reading: both of two tapes are it, or three are close and it is the nearest to their mean. Spread:
 -- two that differ, or three of which two differ by more than 3 mm. Count: neither two nor three.
@@ -73,7 +72,7 @@ innage_of height outage = if int_lt height outage then Err (record {}) else Ok (
 -- a list that has a mean: 1 to 8 temperatures
 pub record AreTemperatures (list : List ℤ) : Type 0 where
   pub some : 1 ≤ length list
-  pub few : length list ≤ MOST_TEMPERATURES
+  pub few : length list ≤ most_temperatures
 
 -- the sum of whole numbers
 abbrev pub total : List ℤ → ℤ
@@ -82,4 +81,4 @@ total (number ∷ numbers) = number +ℤ total numbers
 
 -- the mean of temperatures, by the rounding of liquid temperatures
 abbrev pub mean_temperature : List Row → List ℤ → ℤ
-mean_temperature rounding list = rounded rounding LIQUID_TEMPERATURE (total list) (length list)
+mean_temperature rounding list = rounded rounding row_of_liquid_temperature (total list) (length list)

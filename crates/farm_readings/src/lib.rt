@@ -5,9 +5,11 @@
 #![tactic(auto)]
 
 mod datum;
+mod number_laws;
 mod tapes;
 mod temperatures;
 
 pub use datum::{BelowDatum, innage};
+pub use number_laws::defined_numbers;
 pub use tapes::{MOST_SPREAD, TapeFault, tape};
 pub use temperatures::{MOST_TEMPERATURES, mean_temp};

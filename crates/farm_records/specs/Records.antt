@@ -4,7 +4,7 @@ use Rattle.farm_disk.specs.Images.{State}
 use Rattle.farm_book.specs.Kept.{Kept}
 use Rattle.farm_history.specs.Encoding.{IsTyped, entry_encoding}
 use Rattle.farm_history.specs.History.{History, last_place}
-use Rattle.farm_history.specs.declared.limits.TheConstants.{GREATEST_LIMIT, MOST_ENTRY_BYTES, STOPS_BEYOND_LIMIT}
+use Rattle.farm_history.specs.Limits.{greatest_limit, most_entry_bytes, stops_beyond_limit}
 use Rattle.farm_history.specs.declared.entry.Entry.{Entry}
 use Rattle.farm_journal.specs.Standing.{JournalState, Stands}
 use Rattle.farm_site.specs.Encoding.{site_encoding}
@@ -32,7 +32,7 @@ pub record IsReady (limit : ℕ) (entry : Entry) (book : Kept) (bytes : List ℕ
   pub spare : 1 ≤ book.spare
   pub bytes_are : bytes ≡ entry_encoding entry
   pub room_is : length bytes ≤ room
-  pub few : length bytes ≤ MOST_ENTRY_BYTES
+  pub few : length bytes ≤ most_entry_bytes
   pub typed : IsTyped entry
-  pub limit_within : limit ≤ GREATEST_LIMIT
-  pub places : last_place book.history ≤ limit + STOPS_BEYOND_LIMIT
+  pub limit_within : limit ≤ greatest_limit
+  pub places : last_place book.history ≤ limit + stops_beyond_limit

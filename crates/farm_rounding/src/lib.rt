@@ -8,11 +8,13 @@
 mod arithmetic;
 mod mode;
 mod multiple;
+mod number_laws;
 mod table;
 
 pub use arithmetic::{difference, negated, product, sum, wide_difference};
 pub use mode::Mode;
 pub use multiple::nearest;
+pub use number_laws::defined_numbers;
 pub use table::{
     BadRow, DEADWOOD_PART, FACTOR_TIES, GROSS_OBSERVED, GROSS_STANDARD, LIQUID_TEMPERATURE, MASS,
     NET_STANDARD, ROOF_ADJUSTMENT, ROUNDING_ROWS, RoundTable, SHELL_CORRECTION, STRAPPED_ROW,

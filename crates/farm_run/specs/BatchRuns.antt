@@ -16,7 +16,7 @@ use Rattle.farm_history.specs.History.{History, last_place}
 use Rattle.farm_journal.specs.declared.faults.RecoverFault.{RecoverFault}
 use Rattle.farm_journal.specs.declared.faults.RecoverFault.TheVariants.{NotJournal, Damaged, DiskFault, NoMemory}
 use Rattle.farm_journal.specs.Recovery.{IsNotJournal}
-use Rattle.farm_run.specs.declared.limits.TheConstants.{BOOK_LIMIT}
+use Rattle.farm_run.specs.Limits.{book_limit}
 use Rattle.farm_run.specs.Disks.{IsLater}
 use Rattle.farm_run.specs.Runs.{LacksMemory, Output, Puts, Refuses, Says, given}
 use Rattle.farm_run.specs.Texts.{disk_fault_line, journal_damaged_text, no_memory_line, not_journal_line, port_fault_line, too_long_text}
@@ -49,9 +49,9 @@ faults_at_end false = 0
 -- What a batch on a recovered history left on the disk, with its last entry in doubt or not.
 pub record LeavesOnDisk (found : History) (steps : List Step) (doubt : Bool) (moment : ℕ) (trace : Option (List State)) (disk : Count) : Type 0 where
   -- each image at a moment since the recovery stands for a front of the history, with all that was recovered
-  pub since : EachFrom trace moment (RecoversFront BOOK_LIMIT (history_after found steps) (last_place found))
+  pub since : EachFrom trace moment (RecoversFront book_limit (history_after found steps) (last_place found))
   -- each image now stands for the history, or where its last entry is in doubt for that or for the history without it
-  pub now : EachNow trace (RecoversNow BOOK_LIMIT doubt (history_after found steps))
+  pub now : EachNow trace (RecoversNow book_limit doubt (history_after found steps))
   -- no reply rests on an entry in doubt
   pub acknowledged : AreAcknowledged (certain doubt (history_after found steps)) steps
   -- the disk counted just as many faults as lines were answered with one, and one more where an entry is in doubt
@@ -65,7 +65,7 @@ pub record DeskBatch (may_give : ℤ → Type 0) (found : History) (moment : ℕ
   pub taken : List ℕ
   pub in_hand : List ℕ
   pub moved : Takes from to taken
-  pub asks : Asks may_give BOOK_LIMIT found taken in_hand to steps
+  pub asks : Asks may_give book_limit found taken in_hand to steps
   pub doubt : Bool
   pub left : LeavesOnDisk found steps doubt moment trace disk
   pub statuses : (status ≡ 0) ⊎ (status ≡ 4) ⊎ (status ≡ 5) ⊎ (status ≡ 6) ⊎ (status ≡ 7)
@@ -85,7 +85,7 @@ pub record DeskBatch (may_give : ℤ → Type 0) (found : History) (moment : ℕ
   pub least : 5 < status → (doubt ≡ false) ⊎ IsTooMuch (lines_of steps) in_hand
   -- where nothing failed and there was memory, what was put depends on the history and the input alone
   pub function : status < 5 → ¬ (HasRisen output.count) → WereAnswered steps → WhereKnown (given from to) (λ text.
-      Adds output.old output.new (printed (outcome BOOK_LIMIT found text)))
+      Adds output.old output.new (printed (outcome book_limit found text)))
 
 -- What is reported of how a batch ended, with an entry in doubt or none: a line too many first, then an entry in doubt, then a port that failed.
 abbrev pub EndReported : {E : Type 0} → Result BatchEnd E → Bool → Output → ℕ → Type 0
@@ -107,7 +107,7 @@ NotRecovered NoMemory output status = LacksMemory output status
 abbrev pub RefusesJournal : Option (List State) → Output → RecoverFault → Type 0
 RefusesJournal trace output NotJournal = WhereKnown trace (λ states. IsNotJournal (present states).seen) × Says output [] [] not_journal_line
 RefusesJournal trace output (Damaged place) =
-    WhereKnown trace (λ states. IsDamagedAt BOOK_LIMIT place (present states).seen) × Says output [] [] (journal_damaged_text place)
+    WhereKnown trace (λ states. IsDamagedAt book_limit place (present states).seen) × Says output [] [] (journal_damaged_text place)
 RefusesJournal trace output DiskFault = ⊥
 RefusesJournal trace output NoMemory = ⊥
 
@@ -116,7 +116,7 @@ pub record NoDesk (old new : Option (List State)) (disk : Count) (from to : Opti
   pub statuses : (status ≡ 3) ⊎ (status ≡ 5) ⊎ (status ≡ 6) ⊎ (status ≡ 7)
   pub refused : status ≡ 3 → (why : RecoverFault) × RefusesJournal new output why
   -- bytes that stand for a history aren't refused
-  pub refused_only : (history : History) → WhereKnown new (λ states. Recovers BOOK_LIMIT history (present states).seen → status ≢ 3)
+  pub refused_only : (history : History) → WhereKnown new (λ states. Recovers book_limit history (present states).seen → status ≢ 3)
   pub disk_failed : status ≡ 5 → HasRisen disk × Says output [] [] disk_fault_line
   pub faulted : status ≡ 6 → HasRisen output.count × Says output [] (no_memory_line ∷ []) port_fault_line
   pub memory_only : status ≡ 7 → IsQuiet output.count × Says output [] [] no_memory_line
@@ -130,7 +130,7 @@ pub record OnDesk {D : Type 0} (trace : D → Option (List State)) (moment fault
     (from to : Option Stream) (source : Count) (output : Output) (status : ℕ) : Type 0 where
   pub recovered : D
   pub found : History
-  pub recovers : WhereKnown (trace recovered) (λ states. Recovers BOOK_LIMIT found (present states).seen)
+  pub recovers : WhereKnown (trace recovered) (λ states. Recovers book_limit found (present states).seen)
   pub wrote_nothing : WritesNothing (trace old) (trace recovered)
   pub disk_quiet : faults recovered ≡ faults old
   pub goes_on : IsLater (trace recovered) (trace new) (moment recovered) (moment new) (count_of faults recovered new)

@@ -14,7 +14,7 @@ use Rattle.farm_ports.specs.Folders.{File}
 use Rattle.site_keys.specs.declared.fault.SiteFault.{SiteFault}
 use Rattle.site_keys.specs.Faults.{Refusal}
 use Rattle.farm_site.specs.Described.{Described, site_of_files}
-use Rattle.farm_run.specs.declared.limits.TheConstants.{BOOK_LIMIT}
+use Rattle.farm_run.specs.Limits.{book_limit}
 use Rattle.farm_run.specs.Answers.{text_or_fault}
 use Rattle.farm_run.specs.Runs.{LacksMemory, OneAnswerRun, Output, Says}
 use Rattle.farm_run.specs.Texts.{disk_fault_line, no_memory_line, not_empty_line, port_fault_line, site_refused_text}
@@ -57,7 +57,7 @@ NotCreated NoMemory output status = LacksMemory output status
 pub record SiteInit (site : Described) (old new : Option (List State)) (disk : Count) (output : Output) (status : ℕ) : Type 0 where
   pub statuses : (status ≡ 0) ⊎ (status ≡ 3) ⊎ (status ≡ 5) ⊎ (status ≡ 6) ⊎ (status ≡ 7)
   -- the disk was empty, nothing was printed, and whatever a crash leaves stands for the history of the site without an entry
-  pub made : status ≡ 0 → WasEmpty old new × EachNow new (Recovers BOOK_LIMIT (empty_history site)) × Adds output.old output.new []
+  pub made : status ≡ 0 → WasEmpty old new × EachNow new (Recovers book_limit (empty_history site)) × Adds output.old output.new []
   pub not_empty : status ≡ 3 → HasBytes old new × Says output [] [] not_empty_line
   pub disk_failed : status ≡ 5 → HasRisen disk × Says output [] [] disk_fault_line
   -- there was no memory, which comes before the disk's first call; it couldn't be put where the output failed
@@ -65,7 +65,7 @@ pub record SiteInit (site : Described) (old new : Option (List State)) (disk : C
   pub memory_only : status ≡ 7 → IsQuiet output.count × Says output [] [] no_memory_line
   pub disk_quiet : status ≢ 5 → IsQuiet disk
   -- whatever a crash leaves at a moment of the run is no journal, or stands for the history of the site without an entry
-  pub crash_safe : IsCrashSafe BOOK_LIMIT site old new
+  pub crash_safe : IsCrashSafe book_limit site old new
 
 -- a site was read, and its journal was made or not
 pub record OnSite (files : Option (List File)) (folder : Count) (old new : Option (List State)) (disk : Count) (output : Output) (status : ℕ) : Type 0 where

@@ -1,4 +1,5 @@
 -- The definitions of `farm_run`, by subject.
+pub mod Limits
 pub mod Texts
 pub mod Answers
 pub mod Disks

@@ -10,11 +10,13 @@ mod boxed_disk;
 mod done;
 mod init_run;
 mod limits;
+mod number_laws;
 mod program;
 mod reports;
 mod texts;
 
 pub use done::Done;
 pub use limits::BOOK_LIMIT;
+pub use number_laws::defined_numbers;
 pub use program::run;
 pub use reports::report_no_memory;

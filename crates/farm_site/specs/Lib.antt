@@ -1,4 +1,5 @@
 -- The definitions of `farm_site`, by subject.
+pub mod Limits
 pub mod Rounding
 pub mod Described
 pub mod Members

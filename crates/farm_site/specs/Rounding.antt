@@ -7,13 +7,13 @@ use Rattle.farm_base.specs.Steps.{◌>>=◌}
 use Rattle.farm_rounding.specs.declared.mode.Mode.{Mode}
 use Rattle.farm_rounding.specs.declared.mode.Mode.TheVariants.{HalfAway, TowardZero}
 use Rattle.farm_rounding.specs.Table.{Row, is_row, usual_rows}
-use Rattle.site_keys.specs.declared.codes.TheConstants.{FIELD, RANGE}
+use Rattle.site_keys.specs.Codes.{code_of_field, code_of_range}
 use Rattle.site_keys.specs.declared.fault.SiteFault.{SiteFault}
 use Rattle.site_keys.specs.Faults.{bad, needed}
 use Rattle.site_keys.specs.Keys.{array_at, has}
 use Rattle.site_items.specs.declared.formats.Format.{Format}
 use Rattle.site_items.specs.declared.formats.Format.TheVariants.{One}
-use Rattle.farm_rounding.specs.declared.table.TheConstants.{ROUNDING_ROWS}
+use Rattle.farm_rounding.specs.RowNumbers.{rounding_rows}
 
 -- a step of the rounding table, as it is written
 abbrev pub step_of : List ℕ → Option ℕ
@@ -50,7 +50,7 @@ row_in format n text = row_with n (step_of (before_first (λ byte. byte == 32) t
 
 -- a row that is there
 abbrev pub row_ranged : Option Row → Result Row SiteFault
-row_ranged None = bad RANGE 0 0
+row_ranged None = bad code_of_range 0 0
 row_ranged (Some row) = Ok row
 
 -- row n of the rounding table
@@ -68,7 +68,7 @@ rows_after format done (value ∷ values) = do
 
 -- the twelve rows of values
 abbrev pub twelve_rows : Format → List Data → Result (List Row) SiteFault
-twelve_rows format values = if length values == ROUNDING_ROWS then rows_after format [] values else bad FIELD 0 0
+twelve_rows format values = if length values == rounding_rows then rows_after format [] values else bad code_of_field 0 0
 
 -- the rounding table: twelve rows, or the usual ones where the list is missing
 unfoldable pub rounding_at : Format → Data → Result (List Row) SiteFault

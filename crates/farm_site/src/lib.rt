@@ -8,11 +8,13 @@
 mod decoding;
 mod encoding;
 mod lists;
+mod number_laws;
 mod rounding;
 mod site;
 
 pub use encoding::MOST_SITE_BYTES;
 pub use lists::{Lines, Parties, Products, Tanks};
+pub use number_laws::defined_numbers;
 pub use site::Site;
 pub use site_decoding::SiteBytesFault;
 pub use site_items::{Format, Name, Party, Product, Tank};

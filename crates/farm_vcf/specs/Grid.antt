@@ -1,7 +1,7 @@
 -- A grid of volume correction factors: densities in 0.1 kg/m3 at 15 C, temperatures in 0.01 C, factors in 0.00001.
 use Rattle.std.specs.Prelude.{◌≡◌, ℕ, ◌+◌, ◌*◌, ◌≤◌, Bool, ◌&&◌, ◌==◌, nat_le, if◌then◌else◌, List, length, Option, Some, None, ℤ}
 use Rattle.farm_rounding.specs.declared.mode.Mode.{Mode}
-use Rattle.farm_vcf.specs.declared.grid.TheConstants.{MOST_FACTORS}
+use Rattle.farm_vcf.specs.Limits.{most_factors}
 use Rattle.farm_vcf.specs.Closest.{IsClosest, IsCovered, Rises, closest, is_covered, listed_at}
 
 -- the listed densities and temperatures, and a factor for each, by density and then temperature
@@ -20,12 +20,12 @@ pub record IsGrid (grid : Grid) : Type 0 where
   pub temperatures_rise : Rises grid.temperatures
   pub one_for_each : length grid.factors ≡ length grid.densities * length grid.temperatures
   pub some : 1 ≤ length grid.factors
-  pub not_too_many : length grid.factors ≤ MOST_FACTORS
+  pub not_too_many : length grid.factors ≤ most_factors
 
 -- the test of the numbers of densities, temperatures and factors
 abbrev pub is_full : ℕ → ℕ → ℕ → Bool
 is_full densities temperatures factors =
-    nat_le 1 factors && nat_le factors MOST_FACTORS && (factors == densities * temperatures)
+    nat_le 1 factors && nat_le factors most_factors && (factors == densities * temperatures)
 
 -- the factor in a row, of one density, and a column, of one temperature, both counted from 0
 abbrev pub factor_at : Grid → ℕ → ℕ → ℤ

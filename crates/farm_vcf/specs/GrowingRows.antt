@@ -7,7 +7,7 @@ use Rattle.farm_vcf.specs.Closest.{listed_at}
 use Rattle.farm_vcf.specs.Faults.{FactorFault, NotGrid}
 use Rattle.farm_vcf.specs.Grid.{Grid, grid_from}
 use Rattle.farm_vcf.specs.Rows.{continues, grid_of_rows, next_column}
-use Rattle.farm_vcf.specs.declared.grid.TheConstants.{MOST_FACTORS}
+use Rattle.farm_vcf.specs.Limits.{most_factors}
 
 -- The rows so far: their densities, the temperatures of the first block, their factors, the density of the last row, the
 -- temperature of the last row of the first block, and the column of the next row, 0 where it may begin a block.
@@ -95,5 +95,5 @@ grown_on grown (row ∷ rows) = grown_then (grown_by grown row) (length grown.fa
 -- end with the last block short.
 abbrev pub Finishes : Grown → Option Grid → Type 0
 Finishes grown made =
-    (row : Listed) (rows : List Listed) → length rows < MOST_FACTORS → grid_of_rows (row ∷ rows) ≡ grown_on grown [] →
+    (row : Listed) (rows : List Listed) → length rows < most_factors → grid_of_rows (row ∷ rows) ≡ grown_on grown [] →
     MatchOption made (grid_of_rows (row ∷ rows) ≡ Err (NotGrid (length grown.factors + 1))) (λ grid. grid_of_rows (row ∷ rows) ≡ Ok grid)

@@ -1,4 +1,5 @@
 -- The definitions of `farm_vcf`, by subject.
+pub mod Limits
 pub mod Closest
 pub mod Grid
 pub mod Faults

@@ -2,11 +2,11 @@
 use Rattle.std.specs.Prelude.{◌≡◌, ℕ, ◌+◌, ◌<◌, ◌≤◌, ◌++◌, All, IsSome, IsTrue, nat_lt, if◌then◌else◌, List, [], ◌∷◌, length, Option, Some, None, Result, Ok, Err, ℤ}
 use Rattle.farm_fixed.specs.declared.fault.ReadFault.{ReadFault}
 use Rattle.farm_fixed.specs.Parsing.{quantity_of}
-use Rattle.farm_fixed.specs.declared.limits.TheConstants.{LEAST_DENSITY, LEAST_FACTOR, LEAST_TEMPERATURE, MOST_DENSITY, MOST_FACTOR, MOST_TEMPERATURE}
+use Rattle.farm_fixed.specs.Limits.{least_density, least_factor, least_temperature, most_density, most_factor, most_temperature}
 use Rattle.farm_csv.specs.Blanks.{without_blanks}
 use Rattle.farm_csv.specs.Records.{have_equal_lengths, records_of}
 use Rattle.farm_csv.specs.Rows.{below_header}
-use Rattle.farm_vcf.specs.declared.grid.TheConstants.{MOST_FACTORS}
+use Rattle.farm_vcf.specs.Limits.{most_factors}
 use Rattle.farm_vcf.specs.declared.rows.Listed.{Listed}
 use Rattle.farm_vcf.specs.Faults.{FactorFault, Csv, BadField, TooMany, NotGrid}
 use Rattle.farm_vcf.specs.Grid.{Grid}
@@ -24,9 +24,9 @@ row_from (Err fault) temperature factor = None
 abbrev pub row_of_fields : List ℕ → List ℕ → List ℕ → Option Listed
 row_of_fields density temperature factor =
     row_from
-    (quantity_of 1 LEAST_DENSITY MOST_DENSITY (without_blanks density))
-    (quantity_of 2 LEAST_TEMPERATURE MOST_TEMPERATURE (without_blanks temperature))
-    (quantity_of 5 LEAST_FACTOR MOST_FACTOR (without_blanks factor))
+    (quantity_of 1 least_density most_density (without_blanks density))
+    (quantity_of 2 least_temperature most_temperature (without_blanks temperature))
+    (quantity_of 5 least_factor most_factor (without_blanks factor))
 
 -- the row of a record
 unfoldable pub row_of : List (List ℕ) → Option Listed
@@ -50,7 +50,7 @@ rows_from number (fields ∷ records) = with_row number (row_of fields) (rows_fr
 -- the grid of rows, of which there may be at most 100,000
 abbrev pub grid_of_few : Result (List Listed) FactorFault → Result Grid FactorFault
 grid_of_few (Err fault) = Err fault
-grid_of_few (Ok rows) = if nat_lt MOST_FACTORS (length rows) then Err TooMany else grid_of_rows rows
+grid_of_few (Ok rows) = if nat_lt most_factors (length rows) then Err TooMany else grid_of_rows rows
 
 -- the rows of the records below the header
 abbrev pub rows_below_header : List (List (List ℕ)) → Result (List Listed) FactorFault
@@ -77,7 +77,7 @@ pub record AreRowsOf (text : List ℕ) (rows : List Listed) : Type 0 where
 pub record IsGridOfText (text : List ℕ) (grid : Grid) : Type 0 where
   pub rows : List Listed
   pub read : AreRowsOf text rows
-  pub few : length rows ≤ MOST_FACTORS
+  pub few : length rows ≤ most_factors
   pub grid_of : IsGridOf rows grid
 
 -- some record has another number of fields than the header
@@ -103,13 +103,13 @@ pub record IsFirstBadRecord (records : List (List (List ℕ))) (n : ℕ) : Type 
 pub record HasTooManyRows (text : List ℕ) : Type 0 where
   pub rows : List Listed
   pub read : AreRowsOf text rows
-  pub many : MOST_FACTORS < length rows
+  pub many : most_factors < length rows
 
 -- a number is that of the first row of a text at which the blocks break
 pub record IsFirstBreakOfText (text : List ℕ) (number : ℕ) : Type 0 where
   pub rows : List Listed
   pub read : AreRowsOf text rows
-  pub few : length rows ≤ MOST_FACTORS
+  pub few : length rows ≤ most_factors
   pub breaks : IsFirstBreak rows number
 
 -- a text has a fault, and none of a kind before it

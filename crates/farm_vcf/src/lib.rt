@@ -8,11 +8,13 @@ mod closest;
 mod fault;
 mod grid;
 mod growing;
+mod number_laws;
 mod records;
 mod rows;
 
 pub use fault::{BadGrid, NoEntry, VcfFault};
 pub use grid::{MOST_FACTORS, Vcf};
 pub use growing::Growing;
+pub use number_laws::defined_numbers;
 pub use records::row_of_fields;
 pub use rows::{Listed, grid_of_rows};

@@ -5,7 +5,7 @@ use Rattle.farm_base.specs.Steps.{or_else}
 use Rattle.modbus_frame.specs.declared.expect.Expect.{Expect}
 use Rattle.modbus_frame.specs.declared.frame.Frame.{Frame}
 use Rattle.modbus_frame.specs.declared.frame.Frame.TheVariants.{Need, Words, Exception, Wrong}
-use Rattle.modbus_frame.specs.declared.response.TheConstants.{EXCEPTION, EXCEPTION_LENGTH}
+use Rattle.modbus_frame.specs.Limits.{exception_bit, exception_length}
 use Rattle.modbus_frame.specs.Frames.{length_given, registers_of, still_needed}
 
 -- the number of two bytes at an offset
@@ -22,12 +22,12 @@ wrong_where field end bytes disagrees = if not (nat_lt (length bytes) end) && di
 
 -- a length is neither that of an exception nor that of a response with the registers
 abbrev pub is_wrong_length : Expect → ℕ → Bool
-is_wrong_length expect size = not (size == EXCEPTION_LENGTH || size == 3 + 2 * expect.quantity)
+is_wrong_length expect size = not (size == exception_length || size == 3 + 2 * expect.quantity)
 
 -- a function is neither the one asked for, with the length of the registers, nor that of an exception, with an exception's length
 abbrev pub is_wrong_function : Expect → ℕ → ℕ → Bool
 is_wrong_function expect size function =
-    not ((function == expect.function && size == 3 + 2 * expect.quantity) || (function == expect.function + EXCEPTION && size == EXCEPTION_LENGTH))
+    not ((function == expect.function && size == 3 + 2 * expect.quantity) || (function == expect.function + exception_bit && size == exception_length))
 
 -- the byte count after the function asked for isn't that of the registers
 abbrev pub is_wrong_count : Expect → ℕ → ℕ → Bool

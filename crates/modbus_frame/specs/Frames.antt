@@ -6,7 +6,7 @@ use Rattle.modbus_frame.specs.declared.frame.Frame.{Frame}
 use Rattle.modbus_frame.specs.declared.frame.Frame.TheVariants.{Need, Words, Exception, Wrong}
 use Rattle.modbus_frame.specs.declared.frame.Registers.{Registers}
 use Rattle.modbus_frame.specs.Responses.{IsGoodResponse, exception_response, words_response}
-use Rattle.modbus_frame.specs.declared.expect.TheConstants.{MOST_QUANTITY}
+use Rattle.modbus_frame.specs.Limits.{most_quantity}
 
 -- how many bytes a frame has up to the end of a field: 1 the transaction, 2 the protocol, 3 the length, 4 the unit, 5 the function and
 -- 6 the byte count
@@ -43,7 +43,7 @@ pub record BeginsWith (response bytes : List ℕ) (used : ℕ) : Type 0 where
 
 -- registers are these words, and zeros after them
 abbrev pub registers_of : List ℕ → Registers
-registers_of words = record { count = length words; words = words ++ replicate (MOST_QUANTITY - length words) 0 }
+registers_of words = record { count = length words; words = words ++ replicate (most_quantity - length words) 0 }
 
 -- bytes begin with a whole response with these registers
 pub record IsWords (expect : Expect) (bytes : List ℕ) (registers : Registers) (used : ℕ) : Type 0 where

@@ -1,4 +1,5 @@
 -- The definitions of `modbus_frame`, by subject.
+pub mod Limits
 pub mod Requests
 pub mod Responses
 pub mod Frames

@@ -2,13 +2,13 @@
 use Rattle.std.specs.Prelude.{◌≡◌, ◌⊎◌, ℕ, ◌≤◌, List, [], ◌∷◌, ◌++◌}
 use Rattle.std.specs.Int.{w16, to_be_bytes}
 use Rattle.modbus_frame.specs.declared.expect.Expect.{Expect}
-use Rattle.modbus_frame.specs.declared.expect.TheConstants.{LEAST_QUANTITY, MOST_QUANTITY, READ_HOLDING_REGISTERS, READ_INPUT_REGISTERS}
+use Rattle.modbus_frame.specs.Limits.{least_quantity, most_quantity, read_holding_registers, read_input_registers}
 
 -- the function reads holding registers or input registers, from 1 to 125 of them
 pub record IsExpect (expect : Expect) : Type 0 where
-  pub function : (expect.function ≡ READ_HOLDING_REGISTERS) ⊎ (expect.function ≡ READ_INPUT_REGISTERS)
-  pub least : LEAST_QUANTITY ≤ expect.quantity
-  pub most : expect.quantity ≤ MOST_QUANTITY
+  pub function : (expect.function ≡ read_holding_registers) ⊎ (expect.function ≡ read_input_registers)
+  pub least : least_quantity ≤ expect.quantity
+  pub most : expect.quantity ≤ most_quantity
 
 -- the header of a frame: the transaction, the protocol 0, the length of what follows, and the unit
 abbrev pub header : Expect → ℕ → List ℕ

@@ -3,7 +3,7 @@ use Rattle.std.specs.Prelude.{◌≡◌, ◌⊎◌, ℕ, ◌+◌, ◌*◌, ◌<�
 use Rattle.std.specs.Int.{w16, to_be_bytes}
 use Rattle.std.specs.List.{flat_map}
 use Rattle.modbus_frame.specs.declared.expect.Expect.{Expect}
-use Rattle.modbus_frame.specs.declared.response.TheConstants.{EXCEPTION, EXCEPTION_LENGTH}
+use Rattle.modbus_frame.specs.Limits.{exception_bit, exception_length}
 use Rattle.modbus_frame.specs.Requests.{header}
 
 -- the response with these registers: the header, the function, the number of bytes of the registers, and the registers
@@ -13,7 +13,7 @@ words_response expect words =
 
 -- the response with this exception code: the header, the function with its highest bit set, and the code
 unfoldable pub exception_response : Expect → ℕ → List ℕ
-exception_response expect code = header expect EXCEPTION_LENGTH ++ (expect.function + EXCEPTION) ∷ code ∷ []
+exception_response expect code = header expect exception_length ++ (expect.function + exception_bit) ∷ code ∷ []
 
 -- bytes are a response with as many registers as were asked for, of any values
 pub record IsWordsResponse (expect : Expect) (bytes : List ℕ) : Type 0 where

@@ -7,6 +7,7 @@
 
 mod expect;
 mod frame;
+mod number_laws;
 mod request;
 mod response;
 
@@ -14,5 +15,6 @@ pub use expect::{
     Expect, LEAST_QUANTITY, MOST_QUANTITY, READ_HOLDING_REGISTERS, READ_INPUT_REGISTERS,
 };
 pub use frame::{Frame, Registers};
+pub use number_laws::defined_numbers;
 pub use request::write_request;
 pub use response::read_response;

@@ -15,9 +15,9 @@ const LEAST_FRAME: usize = 9;
 // How many bytes come before what the length counts.
 const BEFORE_LENGTH: usize = 6;
 // How many bytes follow the length in a response with an exception code: the unit, the function and the code.
-const EXCEPTION_LENGTH: u16 = 3;
+pub(crate) const EXCEPTION_LENGTH: u16 = 3;
 // What a response with an exception code adds to the function.
-const EXCEPTION: u8 = 128;
+pub(crate) const EXCEPTION: u8 = 128;
 
 /// What the bytes that were received so far are as a response to a request.
 ///

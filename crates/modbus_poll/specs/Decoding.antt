@@ -3,7 +3,7 @@ use Rattle.std.specs.Prelude.{ℕ, ◌^◌, ◌+◌, ◌*◌, ◌≤◌, ◌==�
 use Rattle.std.specs.Int.{bit_at, cast_signed, w16, w32}
 use Rattle.farm_rounding.specs.declared.mode.Mode.TheVariants.{HalfAway}
 use Rattle.farm_rounding.specs.Multiple.{nearest_multiple}
-use Rattle.modbus_poll.specs.declared.limits.TheConstants.{MOST_MULTIPLIER}
+use Rattle.modbus_poll.specs.Limits.{most_multiplier}
 use Rattle.modbus_poll.specs.declared.map.Field.{Field}
 use Rattle.modbus_poll.specs.declared.map.GaugeMap.{GaugeMap}
 use Rattle.modbus_poll.specs.declared.map.Valid.{Valid}
@@ -35,9 +35,9 @@ number_of field words = if field.signed then signed_number field (raw_of field w
 
 -- a field's factors are those that a site may have
 pub record IsScaled (field : Field) : Type 0 where
-  pub mul : field.mul ≤ MOST_MULTIPLIER
+  pub mul : field.mul ≤ most_multiplier
   pub div_least : 1 ≤ field.div
-  pub div_most : field.div ≤ MOST_MULTIPLIER
+  pub div_most : field.div ≤ most_multiplier
 
 -- the number times mul over div, rounded to the nearest whole number, half away from zero
 unfoldable pub quantity_of : Field → List ℕ → ℤ

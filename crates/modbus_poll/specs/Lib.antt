@@ -1,4 +1,5 @@
 -- The definitions of `modbus_poll`, by subject.
+pub mod Limits
 pub mod Maps
 pub mod Decoding
 pub mod Deadbands

@@ -13,6 +13,7 @@ mod deadband;
 mod decoding;
 mod limits;
 mod map;
+mod number_laws;
 mod polled;
 mod poller;
 mod raw;
@@ -24,6 +25,7 @@ pub use limits::{
     MOST_MULTIPLIER, MOST_WORDS, REGISTERS,
 };
 pub use map::{Field, GaugeMap, Gauges, Host, LineMap, Valid};
+pub use number_laws::defined_numbers;
 pub use polled::Polled;
 pub use poller::Poller;
 pub use raw::Raw;

@@ -1,4 +1,5 @@
 -- The definitions of `site_bytes`, by subject.
+pub mod Limits
 pub mod Encoding
 pub mod Buffers
 pub mod Sizes

@@ -1,60 +1,60 @@
 -- How large the items of a site are: what keeps their counts and numbers within their bytes, and the most bytes that each may have.
 use Rattle.std.specs.Prelude.{ℕ, ◌+◌, ◌*◌, ◌≤◌, All, IfSome, length, pos}
 use Rattle.farm_fixed.specs.Range.{IsWithin}
-use Rattle.farm_fixed.specs.declared.limits.TheConstants.{LEAST_TEMPERATURE, MOST_COEFFICIENT, MOST_ROOF_MASS, MOST_TEMPERATURE}
-use Rattle.farm_vcf.specs.declared.grid.TheConstants.{MOST_FACTORS}
+use Rattle.farm_fixed.specs.Limits.{least_temperature, most_coefficient, most_roof_mass, most_temperature}
+use Rattle.farm_vcf.specs.Limits.{most_factors}
 use Rattle.modbus_poll.specs.declared.map.GaugeMap.{GaugeMap}
 use Rattle.modbus_poll.specs.declared.map.LineMap.{LineMap}
-use Rattle.site_items.specs.declared.names.TheConstants.{LONGEST_NAME}
+use Rattle.site_items.specs.Limits.{longest_name}
 use Rattle.site_items.specs.declared.records.Party.{Party}
 use Rattle.site_items.specs.declared.records.Product.{Product}
 use Rattle.site_items.specs.declared.records.Tank.{Tank}
-use Rattle.modbus_poll.specs.declared.limits.TheConstants.{LONGEST_HOST, MOST_GAUGES}
-use Rattle.strap_table.specs.declared.faults.TheConstants.{MOST_ROWS}
+use Rattle.modbus_poll.specs.Limits.{longest_host, most_gauges}
+use Rattle.strap_table.specs.Limits.{most_rows}
 use Rattle.strap_table.specs.declared.tank.Roof.{Roof}
 
 -- a product's name has at most 32 bytes
 abbrev pub IsNamedProduct : Product → Type 0
-IsNamedProduct product = length product.name ≤ LONGEST_NAME
+IsNamedProduct product = length product.name ≤ longest_name
 
 -- a party's name has at most 32 bytes
 abbrev pub IsNamedParty : Party → Type 0
-IsNamedParty party = length party.name ≤ LONGEST_NAME
+IsNamedParty party = length party.name ≤ longest_name
 
 -- a roof has a mass
 abbrev pub IsRoofWithMass : Roof → Type 0
-IsRoofWithMass roof = IsWithin (pos 1) MOST_ROOF_MASS roof.mass
+IsRoofWithMass roof = IsWithin (pos 1) most_roof_mass roof.mass
 
 -- a tank has a coefficient, and a roof with a mass or none
 pub record IsTankInRange (tank : Tank) : Type 0 where
-  pub coefficient : IsWithin (pos 0) MOST_COEFFICIENT tank.spec.shell.coefficient
+  pub coefficient : IsWithin (pos 0) most_coefficient tank.spec.shell.coefficient
   pub roof : IfSome tank.spec.roof IsRoofWithMass
 
 -- a gauge's fixed ambient temperature is from -100.00 to 300.00 C
 abbrev pub IsGaugeInRange : GaugeMap → Type 0
-IsGaugeInRange gauge = IsWithin LEAST_TEMPERATURE MOST_TEMPERATURE gauge.ambient_fixed
+IsGaugeInRange gauge = IsWithin least_temperature most_temperature gauge.ambient_fixed
 
 -- a line has a host of at most 64 bytes and at most 16 gauges
 pub record IsLineInRange (line : LineMap) : Type 0 where
-  pub host : length line.host ≤ LONGEST_HOST
-  pub few : length line.gauges ≤ MOST_GAUGES
+  pub host : length line.host ≤ longest_host
+  pub few : length line.gauges ≤ most_gauges
   pub gauges : All IsGaugeInRange line.gauges
 
 -- the most bytes of a grid
 abbrev pub most_grid_bytes : ℕ
-most_grid_bytes = 8 + 8 * MOST_FACTORS
+most_grid_bytes = 8 + 8 * most_factors
 
 -- the most bytes of a product
 abbrev pub most_product_bytes : ℕ
-most_product_bytes = 3 + LONGEST_NAME + most_grid_bytes
+most_product_bytes = 3 + longest_name + most_grid_bytes
 
 -- the most bytes of a party
 abbrev pub most_party_bytes : ℕ
-most_party_bytes = 3 + LONGEST_NAME
+most_party_bytes = 3 + longest_name
 
 -- the most bytes of a tank
 abbrev pub most_tank_bytes : ℕ
-most_tank_bytes = 38 + 4 * MOST_ROWS
+most_tank_bytes = 38 + 4 * most_rows
 
 -- the most bytes of a gauge
 abbrev pub most_gauge_bytes : ℕ
@@ -62,4 +62,4 @@ most_gauge_bytes = 62
 
 -- the most bytes of a line
 abbrev pub most_line_bytes : ℕ
-most_line_bytes = 68 + MOST_GAUGES * most_gauge_bytes
+most_line_bytes = 68 + most_gauges * most_gauge_bytes

@@ -2,7 +2,7 @@
 -- the facts of a site's items.
 use Rattle.std.specs.Prelude.{◌<◌, ◌^◌, All, IfSome, pos}
 use Rattle.farm_fixed.specs.Range.{IsWithin}
-use Rattle.farm_fixed.specs.declared.limits.TheConstants.{LEAST_DENSITY, LEAST_FACTOR, LEAST_TEMPERATURE, MOST_DENSITY, MOST_FACTOR, MOST_HEIGHT, MOST_TEMPERATURE}
+use Rattle.farm_fixed.specs.Limits.{least_density, least_factor, least_temperature, most_density, most_factor, most_height, most_temperature}
 use Rattle.farm_vcf.specs.Grid.{Grid, IsGrid}
 use Rattle.modbus_poll.specs.declared.map.GaugeMap.{GaugeMap}
 use Rattle.modbus_poll.specs.declared.map.LineMap.{LineMap}
@@ -14,9 +14,9 @@ use Rattle.strap_table.specs.Capacity.{IsCapTable}
 -- densities from 400.0 to 1200.0 kg/m3, temperatures from -100.00 to 300.00 C and factors from 0.50000 to 1.50000 that are a grid
 pub record IsTypedGrid (grid : Grid) : Type 0 where
   pub is_grid : IsGrid grid
-  pub densities : All (IsWithin LEAST_DENSITY MOST_DENSITY) grid.densities
-  pub temperatures : All (IsWithin LEAST_TEMPERATURE MOST_TEMPERATURE) grid.temperatures
-  pub factors : All (IsWithin LEAST_FACTOR MOST_FACTOR) grid.factors
+  pub densities : All (IsWithin least_density most_density) grid.densities
+  pub temperatures : All (IsWithin least_temperature most_temperature) grid.temperatures
+  pub factors : All (IsWithin least_factor most_factor) grid.factors
 
 -- a product has a grid
 abbrev pub IsTypedProduct : Product → Type 0
@@ -24,12 +24,12 @@ IsTypedProduct product = IsTypedGrid product.vcf
 
 -- the ends of a roof's zone are heights
 pub record IsTypedRoof (roof : Roof) : Type 0 where
-  pub low : IsWithin (pos 0) MOST_HEIGHT roof.low
-  pub high : IsWithin (pos 0) MOST_HEIGHT roof.high
+  pub low : IsWithin (pos 0) most_height roof.low
+  pub high : IsWithin (pos 0) most_height roof.high
 
 -- a tank has a reference temperature, a roof or none, and a capacity table
 pub record IsTypedTank (tank : Tank) : Type 0 where
-  pub reference : IsWithin LEAST_TEMPERATURE MOST_TEMPERATURE tank.spec.shell.reference
+  pub reference : IsWithin least_temperature most_temperature tank.spec.shell.reference
   pub roof : IfSome tank.spec.roof IsTypedRoof
   pub table : IsCapTable tank.table
 

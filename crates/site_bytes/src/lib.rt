@@ -5,11 +5,13 @@
 #![tactic(auto)]
 
 mod encoding;
+mod number_laws;
 
 pub use encoding::{
     len_of_head, len_of_lines, len_of_parties, len_of_products, len_of_tanks, put_head, put_lines,
     put_parties, put_products, put_tanks,
 };
+pub use number_laws::defined_numbers;
 
 /// The first byte of a site's bytes, which names their format.
 pub const FORMAT: u8 = 1;

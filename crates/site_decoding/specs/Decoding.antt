@@ -6,10 +6,10 @@ use Rattle.std.specs.Int.RustNames.{int_lt}
 use Rattle.farm_fixed.specs.Range.{is_within}
 use Rattle.farm_fixed.specs.declared.records.Amount.{Amount}
 use Rattle.farm_fixed.specs.declared.records.Shell.{Shell}
-use Rattle.farm_fixed.specs.declared.limits.TheConstants.{LEAST_DENSITY, LEAST_FACTOR, LEAST_TEMPERATURE, MOST_DENSITY, MOST_FACTOR, MOST_HEIGHT, MOST_TEMPERATURE}
+use Rattle.farm_fixed.specs.Limits.{least_density, least_factor, least_temperature, most_density, most_factor, most_height, most_temperature}
 use Rattle.farm_rounding.specs.declared.mode.Mode.{Mode}
 use Rattle.farm_rounding.specs.declared.mode.Mode.TheVariants.{HalfAway, TowardZero}
-use Rattle.farm_rounding.specs.declared.table.TheConstants.{ROUNDING_ROWS}
+use Rattle.farm_rounding.specs.RowNumbers.{rounding_rows}
 use Rattle.farm_rounding.specs.Table.{Row, first_bad_row}
 use Rattle.farm_vcf.specs.Grid.{Grid, grid_from, is_full}
 use Rattle.modbus_poll.specs.declared.map.Field.{Field}
@@ -27,7 +27,7 @@ use Rattle.site_lines.specs.Lines.{are_lines}
 use Rattle.strap_table.specs.declared.tank.Roof.{Roof}
 use Rattle.strap_table.specs.declared.tank.TankSpec.{TankSpec}
 use Rattle.strap_table.specs.Faults.{first_fault}
-use Rattle.site_bytes.specs.declared.TheConstants.{FORMAT}
+use Rattle.site_bytes.specs.Limits.{format_byte}
 use Rattle.site_decoding.specs.ByteReaders.{Reader, then_at, ◌▸◌, made_at, tested_at, byte_at, byte_up_to, flag_at, number_at, natural_at, signed_at, text_at, option_at, counted_at, short_list_at, list_at}
 use Rattle.site_decoding.specs.declared.decoding.gauges.Fields.{Fields}
 use Rattle.site_lines.specs.declared.gauges.Request.{Request}
@@ -49,25 +49,25 @@ row_at = byte_at ▸ made_at mode_of flag_at
 
 -- the rounding table
 unfoldable pub rounding_at : Reader (List Row)
-rounding_at = tested_at (λ rows. is_none (first_bad_row 1 rows)) (counted_at row_at ROUNDING_ROWS)
+rounding_at = tested_at (λ rows. is_none (first_bad_row 1 rows)) (counted_at row_at rounding_rows)
 
 -- the head of a site: its format, its name and its rounding table
 unfoldable pub head_at : Reader (List ℕ × List Row)
-head_at = made_at (λ head. head.1) (tested_at (λ format. format == FORMAT) byte_at ▸ name_at ▸ rounding_at)
+head_at = made_at (λ head. head.1) (tested_at (λ format. format == format_byte) byte_at ▸ name_at ▸ rounding_at)
 
 -- Products and parties.
 
 -- a density
 unfoldable pub density_at : Reader ℤ
-density_at = tested_at (is_within LEAST_DENSITY MOST_DENSITY) (natural_at w16)
+density_at = tested_at (is_within least_density most_density) (natural_at w16)
 
 -- a temperature
 unfoldable pub temperature_at : Reader ℤ
-temperature_at = tested_at (is_within LEAST_TEMPERATURE MOST_TEMPERATURE) (signed_at w16)
+temperature_at = tested_at (is_within least_temperature most_temperature) (signed_at w16)
 
 -- a factor
 unfoldable pub factor_at : Reader ℤ
-factor_at = tested_at (is_within LEAST_FACTOR MOST_FACTOR) (natural_at w32)
+factor_at = tested_at (is_within least_factor most_factor) (natural_at w32)
 
 -- each number is above the one before
 abbrev pub rises_above : ℤ → List ℤ → Bool
@@ -110,7 +110,7 @@ parties_at = tested_at are_parties (list_at w16 party_at)
 
 -- a height
 unfoldable pub height_at : Reader ℤ
-height_at = tested_at (is_within (pos 0) MOST_HEIGHT) (natural_at w16)
+height_at = tested_at (is_within (pos 0) most_height) (natural_at w16)
 
 -- a shell
 unfoldable pub shell_at : Reader Shell

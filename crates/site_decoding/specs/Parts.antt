@@ -12,7 +12,7 @@ use Rattle.site_items.specs.Names.{is_name}
 use Rattle.site_items.specs.Products.{product_number}
 use Rattle.site_items.specs.Tanks.{tank_number}
 use Rattle.site_lines.specs.Lines.{are_lines}
-use Rattle.site_bytes.specs.declared.TheConstants.{FORMAT}
+use Rattle.site_bytes.specs.Limits.{format_byte}
 use Rattle.site_decoding.specs.Decoding.{head_at, lines_at, parties_at, products_at, tanks_at}
 use Rattle.site_bytes.specs.Encoding.{line_bytes, list_bytes, party_bytes, product_bytes, row_bytes, short_list_bytes, tank_bytes, text_bytes}
 use Rattle.site_decoding.specs.Readers.{IsReader}
@@ -24,7 +24,7 @@ IsHead head = IsTrue (is_name head.0) × IsTable head.1
 
 -- the bytes of a head: the format, the name and the rounding table
 abbrev pub head_bytes : List ℕ × List Row → List ℕ
-head_bytes head = (FORMAT ∷ text_bytes head.0) ++ flat_map row_bytes head.1
+head_bytes head = (format_byte ∷ text_bytes head.0) ++ flat_map row_bytes head.1
 
 -- products that a site may have
 abbrev pub AreProducts : List Product → Type 0

@@ -5,21 +5,19 @@ use Rattle.site_items.specs.declared.records.Party.{Party}
 use Rattle.site_items.specs.declared.records.Product.{Product}
 use Rattle.site_items.specs.declared.records.Tank.{Tank}
 use Rattle.site_keys.specs.Lists.{are_numbered}
-use Rattle.site_items.specs.declared.parties.TheConstants.{MOST_PARTIES}
-use Rattle.site_items.specs.declared.products.TheConstants.{MOST_PRODUCTS}
-use Rattle.site_items.specs.declared.tanks.TheConstants.{MOST_TANKS}
+use Rattle.site_items.specs.Limits.{most_parties, most_products, most_tanks}
 use Rattle.site_items.specs.Parties.{is_party, party_number}
 use Rattle.site_items.specs.Products.{is_product, product_number}
 use Rattle.site_items.specs.Tanks.{is_tank, tank_number}
 
 -- from 1 to 16 products, in strictly rising order of number
 abbrev pub are_products : List Product → Bool
-are_products products = is_between 1 MOST_PRODUCTS (length products) && are_numbered product_number is_product products
+are_products products = is_between 1 most_products (length products) && are_numbered product_number is_product products
 
 -- at most 256 parties, in strictly rising order of number
 abbrev pub are_parties : List Party → Bool
-are_parties parties = nat_le (length parties) MOST_PARTIES && are_numbered party_number is_party parties
+are_parties parties = nat_le (length parties) most_parties && are_numbered party_number is_party parties
 
 -- from 1 to 64 tanks, in strictly rising order of number, each of one of the products of these numbers
 abbrev pub are_tanks : List ℕ → List Tank → Bool
-are_tanks products tanks = is_between 1 MOST_TANKS (length tanks) && are_numbered tank_number (is_tank products) tanks
+are_tanks products tanks = is_between 1 most_tanks (length tanks) && are_numbered tank_number (is_tank products) tanks

@@ -1,4 +1,5 @@
 -- The definitions of `site_items`, by subject.
+pub mod Limits
 pub mod Formats
 pub mod Names
 pub mod Parties

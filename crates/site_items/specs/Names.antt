@@ -6,11 +6,11 @@ use Rattle.site_keys.specs.declared.fault.SiteFault.{SiteFault}
 use Rattle.site_keys.specs.Faults.{ranged}
 use Rattle.site_keys.specs.Keys.{text_at}
 use Rattle.site_keys.specs.Texts.{is_text}
-use Rattle.site_items.specs.declared.names.TheConstants.{LONGEST_NAME}
+use Rattle.site_items.specs.Limits.{longest_name}
 
 -- a name has 1 to 32 bytes, each printable
 abbrev pub is_name : List ℕ → Bool
-is_name name = is_text LONGEST_NAME 32 126 name
+is_name name = is_text longest_name 32 126 name
 
 -- the name of an item
 unfoldable pub name_at : ℕ → Data → Result (List ℕ) SiteFault

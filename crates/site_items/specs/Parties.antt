@@ -5,9 +5,9 @@ use Rattle.toml.specs.Data.{Data}
 use Rattle.farm_fixed.specs.Range.{is_between}
 use Rattle.site_keys.specs.declared.fault.SiteFault.{SiteFault}
 use Rattle.site_items.specs.declared.records.Party.{Party}
-use Rattle.site_keys.specs.declared.lists.TheConstants.{GREATEST_NUMBER}
+use Rattle.site_keys.specs.Limits.{greatest_number}
 use Rattle.site_keys.specs.Lists.{list_at, numbered_from, own_number}
-use Rattle.site_items.specs.declared.parties.TheConstants.{MOST_PARTIES}
+use Rattle.site_items.specs.Limits.{most_parties}
 use Rattle.site_items.specs.Names.{is_name, name_at}
 
 -- the number of a party
@@ -16,7 +16,7 @@ party_number party = party.number
 
 -- a party has a number and a name
 abbrev pub is_party : Party → Bool
-is_party party = is_between 1 GREATEST_NUMBER party.number && is_name party.name
+is_party party = is_between 1 greatest_number party.number && is_name party.name
 
 -- a party of a table, after others
 unfoldable pub party_of : List Party → ℕ → Data → Result Party SiteFault
@@ -28,5 +28,5 @@ party_of earlier item keys = do
 -- the parties, at most 256
 unfoldable pub parties_of : Data → Result (List Party) SiteFault
 parties_of top = do
-  tables ← list_at 0 MOST_PARTIES 0 top (codes "party")
+  tables ← list_at 0 most_parties 0 top (codes "party")
   numbered_from party_number party_of 1 [] tables

@@ -8,15 +8,15 @@ use Rattle.farm_vcf.specs.Grid.{Grid}
 use Rattle.farm_vcf.specs.Records.{vcf_of}
 use Rattle.farm_vcf.specs.Faults.{FactorFault}
 use Rattle.farm_vcf.specs.Faults as factors
-use Rattle.site_keys.specs.declared.codes.TheConstants.{FACTORS, TEXT}
+use Rattle.site_keys.specs.Codes.{code_of_factors, code_of_text}
 use Rattle.site_keys.specs.declared.fault.SiteFault.{SiteFault}
 use Rattle.site_items.specs.declared.records.Product.{Product}
 use Rattle.site_keys.specs.Faults.{Refusal, detail, fault_at, found}
 use Rattle.site_keys.specs.Files.{content}
 use Rattle.site_keys.specs.Keys.{text_at}
-use Rattle.site_keys.specs.declared.lists.TheConstants.{GREATEST_NUMBER}
+use Rattle.site_keys.specs.Limits.{greatest_number}
 use Rattle.site_keys.specs.Lists.{list_at, numbered_from, own_number}
-use Rattle.site_items.specs.declared.products.TheConstants.{MOST_PRODUCTS}
+use Rattle.site_items.specs.Limits.{most_products}
 use Rattle.site_items.specs.Names.{is_name, name_at}
 
 -- the number of a product
@@ -25,14 +25,14 @@ product_number product = product.number
 
 -- a product has a number and a name; its factors are a grid by their own type
 abbrev pub is_product : Product → Bool
-is_product product = is_between 1 GREATEST_NUMBER product.number && is_name product.name
+is_product product = is_between 1 greatest_number product.number && is_name product.name
 
 -- why a factor file is refused
 abbrev pub factors_fault : ℕ → FactorFault → SiteFault
-factors_fault item factors.Csv = fault_at TEXT item 0
-factors_fault item (factors.BadField row) = fault_at FACTORS item (detail row)
-factors_fault item factors.TooMany = fault_at FACTORS item 0
-factors_fault item (factors.NotGrid row) = fault_at FACTORS item (detail row)
+factors_fault item factors.Csv = fault_at code_of_text item 0
+factors_fault item (factors.BadField row) = fault_at code_of_factors item (detail row)
+factors_fault item factors.TooMany = fault_at code_of_factors item 0
+factors_fault item (factors.NotGrid row) = fault_at code_of_factors item (detail row)
 
 -- a grid, or why a file is no grid
 abbrev pub factors_read : ℕ → Result Grid FactorFault → Result Grid SiteFault
@@ -52,5 +52,5 @@ product_of files earlier item keys = do
 -- the products, from 1 to 16
 unfoldable pub products_of : List File → Data → Result (List Product) Refusal
 products_of files top = do
-  tables ← found (list_at 1 MOST_PRODUCTS 0 top (codes "product"))
+  tables ← found (list_at 1 most_products 0 top (codes "product"))
   numbered_from product_number (product_of files) 1 [] tables

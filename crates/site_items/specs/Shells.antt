@@ -3,13 +3,13 @@ use Rattle.std.specs.Prelude.{ℕ, ◌&&◌, ◌||◌, Bool, true, not, if◌the
 use Rattle.std.specs.Int.RustNames.{int_lt}
 use Rattle.toml.specs.Data.{Data}
 use Rattle.farm_base.specs.Steps.{◌>>=◌}
-use Rattle.farm_fixed.specs.declared.limits.TheConstants.{LEAST_TEMPERATURE, MOST_COEFFICIENT, MOST_HEIGHT, MOST_ROOF_MASS, MOST_TEMPERATURE}
+use Rattle.farm_fixed.specs.Limits.{least_temperature, most_coefficient, most_height, most_roof_mass, most_temperature}
 use Rattle.farm_fixed.specs.Range.{is_within}
 use Rattle.farm_fixed.specs.Shells.{insulated_of}
 use Rattle.farm_fixed.specs.declared.records.Shell.{Shell}
 use Rattle.strap_table.specs.declared.tank.Roof.{Roof}
 use Rattle.strap_table.specs.declared.tank.TankSpec.{TankSpec}
-use Rattle.site_keys.specs.declared.codes.TheConstants.{RANGE}
+use Rattle.site_keys.specs.Codes.{code_of_range}
 use Rattle.site_keys.specs.declared.fault.SiteFault.{SiteFault}
 use Rattle.site_keys.specs.Faults.{bad, ranged}
 use Rattle.site_keys.specs.Keys.{has, quantity_at, text_at, whole_at}
@@ -18,7 +18,7 @@ use Rattle.site_items.specs.declared.formats.Format.TheVariants.{One}
 
 -- a kind of shell that there is; any other text is outside its set
 abbrev pub kind_there : ℕ → Option Bool → Result Bool SiteFault
-kind_there item None = bad RANGE item 0
+kind_there item None = bad code_of_range item 0
 kind_there item (Some insulated) = Ok insulated
 
 -- whether a shell is insulated
@@ -30,16 +30,16 @@ unfoldable pub shell_at : ℕ → Data → Result Shell SiteFault
 shell_at item keys = do
   text ← text_at item keys (codes "shell")
   insulated ← shell_kind item text
-  coefficient ← whole_at item keys (codes "coefficient") (pos 0) MOST_COEFFICIENT
-  reference ← quantity_at 2 LEAST_TEMPERATURE MOST_TEMPERATURE item keys (codes "reference_temperature")
+  coefficient ← whole_at item keys (codes "coefficient") (pos 0) most_coefficient
+  reference ← quantity_at 2 least_temperature most_temperature item keys (codes "reference_temperature")
   Ok (record { insulated = insulated; coefficient = coefficient; reference = reference })
 
 -- the floating roof of a tank, once it has one
 unfoldable pub floating_at : ℕ → Data → Result Roof SiteFault
 floating_at item keys = do
-  mass ← whole_at item keys (codes "roof_kg") (pos 1) MOST_ROOF_MASS
-  low ← whole_at item keys (codes "roof_low") (pos 0) MOST_HEIGHT
-  high ← whole_at item keys (codes "roof_high") (pos 0) MOST_HEIGHT
+  mass ← whole_at item keys (codes "roof_kg") (pos 1) most_roof_mass
+  low ← whole_at item keys (codes "roof_low") (pos 0) most_height
+  high ← whole_at item keys (codes "roof_high") (pos 0) most_height
   ranged item (not (int_lt high low)) (record { mass = mass; low = low; high = high })
 
 -- the roof of a tank: it has all three keys of one, or none
@@ -57,15 +57,15 @@ roof_at One item keys = roof_of_three item keys
 unfoldable pub spec_at : Format → ℕ → Data → Result TankSpec SiteFault
 spec_at format item keys = do
   shell ← shell_at item keys
-  height ← whole_at item keys (codes "reference_height") (pos 1) MOST_HEIGHT
+  height ← whole_at item keys (codes "reference_height") (pos 1) most_height
   roof ← roof_at format item keys
   Ok (record { shell = shell; height = height; roof = roof })
 
 -- a roof has a mass, and its zone isn't upside down
 abbrev pub is_roof : Option Roof → Bool
 is_roof None = true
-is_roof (Some roof) = is_within (pos 1) MOST_ROOF_MASS roof.mass && not (int_lt roof.high roof.low)
+is_roof (Some roof) = is_within (pos 1) most_roof_mass roof.mass && not (int_lt roof.high roof.low)
 
 -- what is fixed of a tank is in its ranges
 abbrev pub is_spec : TankSpec → Bool
-is_spec spec = is_within (pos 0) MOST_COEFFICIENT spec.shell.coefficient && is_within (pos 1) MOST_HEIGHT spec.height && is_roof spec.roof
+is_spec spec = is_within (pos 0) most_coefficient spec.shell.coefficient && is_within (pos 1) most_height spec.height && is_roof spec.roof

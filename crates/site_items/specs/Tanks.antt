@@ -6,9 +6,9 @@ use Rattle.farm_fixed.specs.Range.{is_within, is_between}
 use Rattle.farm_fixed.specs.declared.records.Amount.{Amount}
 use Rattle.farm_ports.specs.Folders.{File}
 use Rattle.farm_rounding.specs.Table.{Row}
-use Rattle.site_keys.specs.declared.codes.TheConstants.{FIELD}
+use Rattle.site_keys.specs.Codes.{code_of_field}
 use Rattle.site_keys.specs.declared.fault.SiteFault.{SiteFault}
-use Rattle.site_keys.specs.declared.lists.TheConstants.{GREATEST_NUMBER}
+use Rattle.site_keys.specs.Limits.{greatest_number}
 use Rattle.site_keys.specs.Faults.{Refusal, bad, found}
 use Rattle.site_keys.specs.Files.{content}
 use Rattle.site_keys.specs.Keys.{has, text_at, whole_at}
@@ -17,7 +17,7 @@ use Rattle.site_tables.specs.Strappings.{strapped_file}
 use Rattle.site_tables.specs.Tables.{table_of_file}
 use Rattle.site_items.specs.declared.formats.Format.{Format}
 use Rattle.site_items.specs.declared.records.Tank.{Tank}
-use Rattle.site_items.specs.declared.tanks.TheConstants.{MOST_STOCK, MOST_TANKS}
+use Rattle.site_items.specs.Limits.{most_stock, most_tanks}
 use Rattle.site_items.specs.Shells.{is_spec, spec_at}
 
 -- the number of a tank
@@ -26,10 +26,10 @@ tank_number tank = tank.number
 
 -- whether a tank is strapped: it has one of two files
 abbrev pub is_strapped : ℕ → Bool → Bool → Result Bool SiteFault
-is_strapped item true true = bad FIELD item 0
+is_strapped item true true = bad code_of_field item 0
 is_strapped item true false = Ok false
 is_strapped item false true = Ok true
-is_strapped item false false = bad FIELD item 0
+is_strapped item false false = bad code_of_field item 0
 
 -- the key of the file of a tank
 abbrev pub file_key : Bool → List ℕ
@@ -38,7 +38,7 @@ file_key false = codes "table"
 
 -- a stock, in litres or kilograms
 unfoldable pub stock_at : ℕ → Data → List ℕ → Result ℤ SiteFault
-stock_at item keys key = whole_at item keys key (neg_ℤ MOST_STOCK) MOST_STOCK
+stock_at item keys key = whole_at item keys key (neg_ℤ most_stock) most_stock
 
 -- the opening stock
 unfoldable pub opening_at : ℕ → Data → Result Amount SiteFault
@@ -68,12 +68,12 @@ tank_of files format rounding products earlier item keys = do
 -- the tanks, from 1 to 64
 unfoldable pub tanks_of : List File → Format → List Row → List ℕ → Data → Result (List Tank) Refusal
 tanks_of files format rounding products top = do
-  tables ← found (list_at 1 MOST_TANKS 0 top (codes "tank"))
+  tables ← found (list_at 1 most_tanks 0 top (codes "tank"))
   numbered_from tank_number (tank_of files format rounding products) 1 [] tables
 
 -- a stock is at most 10^9 either way
 abbrev pub is_stock : ℤ → Bool
-is_stock stock = is_within (neg_ℤ MOST_STOCK) MOST_STOCK stock
+is_stock stock = is_within (neg_ℤ most_stock) most_stock stock
 
 -- both parts of an opening stock are
 abbrev pub is_opening : Amount → Bool
@@ -83,4 +83,4 @@ is_opening amount = is_stock amount.litres && is_stock amount.kg
 -- capacity table by its own type
 abbrev pub is_tank : List ℕ → Tank → Bool
 is_tank products tank =
-    is_between 1 GREATEST_NUMBER tank.number && is_among tank.product products && is_spec tank.spec && is_opening tank.opening
+    is_between 1 greatest_number tank.number && is_among tank.product products && is_spec tank.spec && is_opening tank.opening

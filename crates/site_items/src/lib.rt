@@ -6,6 +6,7 @@
 
 mod formats;
 mod names;
+mod number_laws;
 mod parties;
 mod products;
 mod records;
@@ -14,6 +15,7 @@ mod tanks;
 
 pub use formats::{Format, format_at};
 pub use names::{LONGEST_NAME, Name, is_name, name_at};
+pub use number_laws::defined_numbers;
 pub use parties::{MOST_PARTIES, parties_of};
 pub use products::{MOST_PRODUCTS, products_of};
 pub use records::{Party, Product, Tank};

@@ -3,7 +3,7 @@ use Rattle.std.specs.Prelude.{ℕ, min, Bool, true, false, List, Option, Some, N
 use Rattle.farm_base.specs.Steps.{or_fault}
 use Rattle.farm_ports.specs.declared.fault.PortFault.{PortFault}
 use Rattle.farm_ports.specs.declared.fault.PortFault.TheVariants as port
-use Rattle.site_keys.specs.declared.codes.TheConstants.{FIELD, RANGE}
+use Rattle.site_keys.specs.Codes.{code_of_field, code_of_range}
 use Rattle.site_keys.specs.declared.fault.SiteFault.{SiteFault}
 use Rattle.site_keys.specs.declared.fault.SiteReadFault.{SiteReadFault}
 use Rattle.site_keys.specs.declared.fault.SiteReadFault.TheVariants.{NoMemory, Folder, Bad}
@@ -23,12 +23,12 @@ bad code item number = Err (fault_at code item number)
 
 -- what is needed, or the fault that it is missing or of the wrong type
 abbrev pub needed : {A : Type 0} → ℕ → Option A → Result A SiteFault
-needed item value = or_fault (fault_at FIELD item 0) value
+needed item value = or_fault (fault_at code_of_field item 0) value
 
 -- a value that is in its range, or the fault that it isn't
 abbrev pub ranged : {A : Type 0} → ℕ → Bool → A → Result A SiteFault
 ranged item true value = Ok value
-ranged item false value = bad RANGE item 0
+ranged item false value = bad code_of_range item 0
 
 -- a record, row or number as a detail, which has at most 32 bits; no file within the limit has more
 abbrev pub detail : ℕ → ℕ

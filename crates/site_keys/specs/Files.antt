@@ -4,17 +4,17 @@ use Rattle.std.specs.Str.{is_utf8}
 use Rattle.toml.specs.Data.{Data, Members, table}
 use Rattle.toml.specs.Parse.{parse_document}
 use Rattle.farm_ports.specs.Folders.{File, file_named}
-use Rattle.site_keys.specs.declared.codes.TheConstants.{TEXT, TOO_LONG}
+use Rattle.site_keys.specs.Codes.{code_of_text, code_of_too_long}
 use Rattle.site_keys.specs.declared.fault.SiteFault.{SiteFault}
 use Rattle.site_keys.specs.declared.fault.SiteReadFault.{SiteReadFault}
 use Rattle.site_keys.specs.declared.fault.SiteReadFault.TheVariants.{Folder}
-use Rattle.site_keys.specs.declared.files.TheConstants.{LONGEST_FILE}
+use Rattle.site_keys.specs.Limits.{longest_file}
 use Rattle.site_keys.specs.Faults.{Refusal, Faulty, Missing, IsMissing, bad, fault_at}
 
 -- the bytes of a file of this name that isn't too long; or it isn't there
 abbrev pub within_limit : ℕ → List ℕ → Option (List ℕ) → Result (List ℕ) Refusal
 within_limit item name None = Err (Missing name)
-within_limit item name (Some bytes) = if nat_lt LONGEST_FILE (length bytes) then Err (Faulty (fault_at TOO_LONG item 0)) else Ok bytes
+within_limit item name (Some bytes) = if nat_lt longest_file (length bytes) then Err (Faulty (fault_at code_of_too_long item 0)) else Ok bytes
 
 -- the bytes of the file with a name
 abbrev pub content : List File → ℕ → List ℕ → Result (List ℕ) Refusal
@@ -26,9 +26,9 @@ FailsAsMissing known result answer = result ≡ Err Folder → (files : List Fil
 
 -- the table that a document is
 abbrev pub table_of : ℕ → Option Members → Result Data SiteFault
-table_of item None = bad TEXT item 0
+table_of item None = bad code_of_text item 0
 table_of item (Some members) = Ok (table members)
 
 -- the table of a file that is UTF-8 and TOML
 unfoldable pub toml_of : ℕ → List ℕ → Result Data SiteFault
-toml_of item bytes = if is_utf8 bytes then table_of item (parse_document bytes) else bad TEXT item 0
+toml_of item bytes = if is_utf8 bytes then table_of item (parse_document bytes) else bad code_of_text item 0

@@ -8,7 +8,7 @@ use Rattle.farm_fixed.specs.declared.fault.ReadFault.TheVariants as reading
 use Rattle.farm_fixed.specs.Range.{is_within}
 use Rattle.farm_fixed.specs.Parsing.{quantity_of}
 use Rattle.site_keys.specs.declared.fault.SiteFault.{SiteFault}
-use Rattle.site_keys.specs.declared.codes.TheConstants.{FIELD, RANGE}
+use Rattle.site_keys.specs.Codes.{code_of_field, code_of_range}
 use Rattle.site_keys.specs.Faults.{bad, needed, ranged}
 
 -- the table has the key
@@ -42,10 +42,10 @@ text_at item keys key = needed item (option_and_then as_str (get key keys))
 -- a decimal text: outside its range, or none in its form
 abbrev pub decimal_read : ℕ → Result ℤ ReadFault → Result ℤ SiteFault
 decimal_read item (Ok value) = Ok value
-decimal_read item (Err reading.OutOfRange) = bad RANGE item 0
-decimal_read item (Err reading.Empty) = bad FIELD item 0
-decimal_read item (Err (reading.BadByte offset)) = bad FIELD item 0
-decimal_read item (Err reading.TooFine) = bad FIELD item 0
+decimal_read item (Err reading.OutOfRange) = bad code_of_range item 0
+decimal_read item (Err reading.Empty) = bad code_of_field item 0
+decimal_read item (Err (reading.BadByte offset)) = bad code_of_field item 0
+decimal_read item (Err reading.TooFine) = bad code_of_field item 0
 
 -- a quantity of this number of decimals and this range
 unfoldable pub quantity_at : ℕ → ℤ → ℤ → ℕ → Data → List ℕ → Result ℤ SiteFault

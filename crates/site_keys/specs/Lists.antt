@@ -7,9 +7,9 @@ use Rattle.std.specs.Ordering.{int_eq}
 use Rattle.toml.specs.Data.{Data}
 use Rattle.farm_base.specs.Steps.{◌>>=◌}
 use Rattle.farm_fixed.specs.Range.{is_between}
-use Rattle.site_keys.specs.declared.codes.TheConstants.{REPEATED, TOO_MANY, UNKNOWN}
+use Rattle.site_keys.specs.Codes.{code_of_repeated, code_of_too_many, code_of_unknown}
 use Rattle.site_keys.specs.declared.fault.SiteFault.{SiteFault}
-use Rattle.site_keys.specs.declared.lists.TheConstants.{GREATEST_NUMBER}
+use Rattle.site_keys.specs.Limits.{greatest_number}
 use Rattle.site_keys.specs.Faults.{bad}
 use Rattle.site_keys.specs.Keys.{array_or_none, integer_at, natural_at}
 
@@ -17,7 +17,7 @@ use Rattle.site_keys.specs.Keys.{array_or_none, integer_at, natural_at}
 unfoldable pub list_at : ℕ → ℕ → ℕ → Data → List ℕ → Result (List Data) SiteFault
 list_at least most item keys key = do
   values ← array_or_none item keys key
-  if is_between least most (length values) then Ok values else bad TOO_MANY 0 0
+  if is_between least most (length values) then Ok values else bad code_of_too_many 0 0
 
 -- what each value is read as, after what others are; the first fault stops
 abbrev pub read_from : {A E : Type 0} → (Data → Result A E) → List A → List Data → Result (List A) E
@@ -58,12 +58,12 @@ item_numbered number n (item ∷ items) = if number item == n then Some item els
 -- the number of an item, which no earlier one has
 unfoldable pub own_number : List ℕ → ℕ → Data → Result ℕ SiteFault
 own_number earlier item keys = do
-  n ← natural_at item keys (codes "number") 1 GREATEST_NUMBER
-  if is_among n earlier then bad REPEATED item 0 else Ok n
+  n ← natural_at item keys (codes "number") 1 greatest_number
+  if is_among n earlier then bad code_of_repeated item 0 else Ok n
 
 -- a whole number that is one of these
 abbrev pub known : ℕ → List ℕ → ℤ → Result ℕ SiteFault
-known item numbers value = if list_any (λ n. int_eq (pos n) value) numbers then Ok (unsigned_abs value) else bad UNKNOWN item 0
+known item numbers value = if list_any (λ n. int_eq (pos n) value) numbers then Ok (unsigned_abs value) else bad code_of_unknown item 0
 
 -- the number at a key, which is one of these
 unfoldable pub reference_at : ℕ → Data → List ℕ → List ℕ → Result ℕ SiteFault

@@ -15,7 +15,7 @@ use std::alloc::Global;
 use toml::Value;
 
 // A file of a site has at most this many bytes.
-const LONGEST_FILE: usize = 4_194_304;
+pub(crate) const LONGEST_FILE: usize = 4_194_304;
 
 /// The bytes of the file with a name. One byte more than a file may have is asked for, so that a longer one shows.
 pub fn content<F: Folder>(

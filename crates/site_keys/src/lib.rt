@@ -9,6 +9,7 @@ mod fault;
 mod files;
 mod keys;
 mod lists;
+mod number_laws;
 mod texts;
 
 pub use codes::{FACTORS, FIELD, RANGE, REPEATED, STRAP, TABLE, TEXT, TOO_LONG, TOO_MANY, UNKNOWN};
@@ -19,4 +20,5 @@ pub use lists::{
     GREATEST_NUMBER, Numbered, is_among, item_numbered, list_at, own_number, put_by_number,
     reference,
 };
+pub use number_laws::defined_numbers;
 pub use texts::is_text;

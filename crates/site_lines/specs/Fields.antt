@@ -3,11 +3,11 @@ use Rattle.std.specs.Prelude.{ℕ, ◌+◌, ◌-◌, Bool, true, false, nat_le, 
 use Rattle.std.specs.Str.{bytes_eq}
 use Rattle.farm_base.specs.Steps.{◌>>=◌}
 use Rattle.toml.specs.Data.{Data, get, as_bool}
-use Rattle.modbus_frame.specs.declared.expect.TheConstants.{MOST_QUANTITY}
-use Rattle.modbus_poll.specs.declared.limits.TheConstants.{HIGHEST_BIT, MOST_MULTIPLIER, MOST_WORDS}
+use Rattle.modbus_frame.specs.Limits.{most_quantity}
+use Rattle.modbus_poll.specs.Limits.{highest_bit, most_multiplier, most_words}
 use Rattle.modbus_poll.specs.declared.map.Field.{Field}
 use Rattle.modbus_poll.specs.declared.map.Valid.{Valid}
-use Rattle.site_keys.specs.declared.codes.TheConstants.{RANGE}
+use Rattle.site_keys.specs.Codes.{code_of_range}
 use Rattle.site_keys.specs.declared.fault.SiteFault.{SiteFault}
 use Rattle.site_keys.specs.Faults.{bad, needed, ranged}
 use Rattle.site_keys.specs.Keys.{has, natural_at, natural_or, text_at}
@@ -15,7 +15,7 @@ use Rattle.site_keys.specs.Keys.{has, natural_at, natural_or, text_at}
 -- whether the low word of two stands first
 abbrev pub word_order : ℕ → List ℕ → Result Bool SiteFault
 word_order item text =
-    if bytes_eq text (codes "high") then Ok false else (if bytes_eq text (codes "low") then Ok true else bad RANGE item 0)
+    if bytes_eq text (codes "high") then Ok false else (if bytes_eq text (codes "low") then Ok true else bad code_of_range item 0)
 
 -- the order of words, the high one first where it isn't given
 unfoldable pub order_at : ℕ → Data → Result Bool SiteFault
@@ -32,13 +32,13 @@ signed_at item keys =
 -- a field among this number of registers
 unfoldable pub field_of : ℕ → ℕ → Data → Result Field SiteFault
 field_of quantity item keys = do
-  offset ← natural_at item keys (codes "offset") 0 (MOST_QUANTITY - 1)
-  words ← natural_or 1 item keys (codes "words") 1 MOST_WORDS
+  offset ← natural_at item keys (codes "offset") 0 (most_quantity - 1)
+  words ← natural_or 1 item keys (codes "words") 1 most_words
   within ← ranged item (nat_le (offset + words) quantity) offset
   swapped ← order_at item keys
   signed ← signed_at item keys
-  mul ← natural_or 1 item keys (codes "mul") 1 MOST_MULTIPLIER
-  div ← natural_or 1 item keys (codes "div") 1 MOST_MULTIPLIER
+  mul ← natural_or 1 item keys (codes "mul") 1 most_multiplier
+  div ← natural_or 1 item keys (codes "div") 1 most_multiplier
   Ok (record { offset = within; words = words; swapped = swapped; signed = signed; mul = mul; div = div })
 
 -- a field at a key
@@ -57,9 +57,9 @@ field_or_none quantity item keys key =
 -- a bit among this number of registers
 unfoldable pub valid_of : ℕ → ℕ → Data → Result Valid SiteFault
 valid_of quantity item keys = do
-  offset ← natural_at item keys (codes "offset") 0 (MOST_QUANTITY - 1)
+  offset ← natural_at item keys (codes "offset") 0 (most_quantity - 1)
   within ← ranged item (nat_lt offset quantity) offset
-  bit ← natural_at item keys (codes "bit") 0 HIGHEST_BIT
+  bit ← natural_at item keys (codes "bit") 0 highest_bit
   Ok (record { offset = within; bit = bit })
 
 -- the validity bit, if there is one

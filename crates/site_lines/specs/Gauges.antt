@@ -4,57 +4,57 @@ use Rattle.std.specs.List.{list_all}
 use Rattle.farm_base.specs.Steps.{◌>>=◌}
 use Rattle.toml.specs.Data.{Data, get}
 use Rattle.farm_fixed.specs.Range.{is_between}
-use Rattle.farm_fixed.specs.declared.limits.TheConstants.{LEAST_TEMPERATURE, MOST_TEMPERATURE}
-use Rattle.modbus_frame.specs.declared.expect.TheConstants.{LEAST_QUANTITY, MOST_QUANTITY, READ_HOLDING_REGISTERS, READ_INPUT_REGISTERS}
-use Rattle.modbus_poll.specs.declared.limits.TheConstants.{GREATEST_UNIT, MOST_DEADBAND, REGISTERS}
+use Rattle.farm_fixed.specs.Limits.{least_temperature, most_temperature}
+use Rattle.modbus_frame.specs.Limits.{least_quantity, most_quantity, read_holding_registers, read_input_registers}
+use Rattle.modbus_poll.specs.Limits.{greatest_unit, most_deadband, register_count}
 use Rattle.modbus_poll.specs.declared.map.GaugeMap.{GaugeMap}
-use Rattle.site_keys.specs.declared.codes.TheConstants.{REPEATED}
+use Rattle.site_keys.specs.Codes.{code_of_repeated}
 use Rattle.site_keys.specs.declared.fault.SiteFault.{SiteFault}
 use Rattle.site_keys.specs.Faults.{bad, ranged}
 use Rattle.site_keys.specs.Keys.{has, natural_at, natural_or, whole_at}
 use Rattle.site_keys.specs.Lists.{is_among, reference_at}
 use Rattle.site_lines.specs.declared.gauges.Request.{Request}
-use Rattle.site_lines.specs.declared.gauges.TheConstants.{USUAL_AMBIENT, USUAL_DEADBAND_MM, USUAL_DEADBAND_CENTI}
+use Rattle.site_lines.specs.Limits.{usual_ambient, usual_deadband_centi, usual_deadband_mm}
 use Rattle.site_lines.specs.Fields.{field_at, field_or_none, valid_or_none}
 
 -- the ambient temperature where a gauge gives none: 15.00 C where it isn't said
 unfoldable pub ambient_fixed_at : ℕ → Data → Result ℤ SiteFault
 ambient_fixed_at item keys =
-    if has keys (codes "ambient_fixed") then whole_at item keys (codes "ambient_fixed") LEAST_TEMPERATURE MOST_TEMPERATURE
-    else Ok USUAL_AMBIENT
+    if has keys (codes "ambient_fixed") then whole_at item keys (codes "ambient_fixed") least_temperature most_temperature
+    else Ok usual_ambient
 
 -- the tank of a gauge: one of the site that no earlier gauge is on
 unfoldable pub gauged_tank_at : ℕ → List ℕ → List ℕ → Data → Result ℕ SiteFault
 gauged_tank_at item tanks gauged keys = do
   tank ← reference_at item keys (codes "tank") tanks
-  if is_among tank gauged then bad REPEATED item 0 else Ok tank
+  if is_among tank gauged then bad code_of_repeated item 0 else Ok tank
 
 -- how many registers are read from the first
 unfoldable pub quantity_from : ℕ → ℕ → Data → Result ℕ SiteFault
 quantity_from start item keys = do
-  quantity ← natural_at item keys (codes "quantity") LEAST_QUANTITY MOST_QUANTITY
-  ranged item (nat_le (start + quantity) REGISTERS) quantity
+  quantity ← natural_at item keys (codes "quantity") least_quantity most_quantity
+  ranged item (nat_le (start + quantity) register_count) quantity
 
 -- what is asked of a device: the unit and the function, and then the first register and how many are read
 unfoldable pub request_at : ℕ → Data → Result Request SiteFault
 request_at item keys = do
-  unit ← natural_at item keys (codes "unit") 0 GREATEST_UNIT
-  function ← natural_at item keys (codes "function") READ_HOLDING_REGISTERS READ_INPUT_REGISTERS
-  start ← natural_at item keys (codes "start") 0 (REGISTERS - 1)
+  unit ← natural_at item keys (codes "unit") 0 greatest_unit
+  function ← natural_at item keys (codes "function") read_holding_registers read_input_registers
+  start ← natural_at item keys (codes "start") 0 (register_count - 1)
   quantity ← quantity_from start item keys
   Ok (record { unit = unit; function = function; start = start; quantity = quantity })
 
 -- holding or input registers, 1 to 125 of them and none past the last one
 abbrev pub is_request : Request → Bool
 is_request request =
-    is_between READ_HOLDING_REGISTERS READ_INPUT_REGISTERS request.function && is_between LEAST_QUANTITY MOST_QUANTITY request.quantity
-    && nat_le (request.start + request.quantity) REGISTERS
+    is_between read_holding_registers read_input_registers request.function && is_between least_quantity most_quantity request.quantity
+    && nat_le (request.start + request.quantity) register_count
 
 -- the deadbands of the levels and of the temperature, in mm and 0.01 C: 1 mm and 0.05 C where they aren't said
 unfoldable pub deadbands_at : ℕ → Data → Result (ℕ × ℕ) SiteFault
 deadbands_at item keys = do
-  levels ← natural_or USUAL_DEADBAND_MM item keys (codes "deadband_mm") 1 MOST_DEADBAND
-  temperature ← natural_or USUAL_DEADBAND_CENTI item keys (codes "deadband_centi") 1 MOST_DEADBAND
+  levels ← natural_or usual_deadband_mm item keys (codes "deadband_mm") 1 most_deadband
+  temperature ← natural_or usual_deadband_centi item keys (codes "deadband_centi") 1 most_deadband
   Ok (levels, temperature)
 
 -- a gauge of a table, after gauges on these tanks

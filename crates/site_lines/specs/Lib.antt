@@ -1,4 +1,5 @@
 -- The definitions of `site_lines`, by subject.
+pub mod Limits
 pub mod Fields
 pub mod Gauges
 pub mod Lines

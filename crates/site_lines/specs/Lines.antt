@@ -3,14 +3,14 @@ use Rattle.std.specs.Prelude.{ℕ, ◌+◌, ◌&&◌, Bool, nat_le, List, [], �
 use Rattle.std.specs.List.{list_all}
 use Rattle.farm_base.specs.Steps.{◌>>=◌}
 use Rattle.toml.specs.Data.{Data}
-use Rattle.modbus_poll.specs.declared.limits.TheConstants.{GREATEST_PORT, MOST_GAUGES}
+use Rattle.modbus_poll.specs.Limits.{greatest_port, most_gauges}
 use Rattle.modbus_poll.specs.Maps.{is_host, is_line_map}
 use Rattle.modbus_poll.specs.declared.map.LineMap.{LineMap}
 use Rattle.site_keys.specs.declared.fault.SiteFault.{SiteFault}
 use Rattle.site_keys.specs.Faults.{ranged}
 use Rattle.site_keys.specs.Keys.{natural_at, text_at}
 use Rattle.site_keys.specs.Lists.{list_at}
-use Rattle.site_lines.specs.declared.lines.TheConstants.{MOST_LINES}
+use Rattle.site_lines.specs.Limits.{most_lines}
 use Rattle.site_lines.specs.Gauges.{are_gauged, gauges_from, tanks_gauged}
 
 -- a host
@@ -23,8 +23,8 @@ host_at item keys = do
 unfoldable pub line_of : ℕ → List ℕ → List ℕ → Data → Result LineMap SiteFault
 line_of item tanks gauged keys = do
   host ← host_at item keys
-  port ← natural_at item keys (codes "port") 1 GREATEST_PORT
-  tables ← list_at 1 MOST_GAUGES item keys (codes "gauge")
+  port ← natural_at item keys (codes "port") 1 greatest_port
+  tables ← list_at 1 most_gauges item keys (codes "gauge")
   gauges ← gauges_from item tanks gauged [] tables
   Ok (record { host = host; port = port; gauges = gauges })
 
@@ -42,10 +42,10 @@ lines_from tanks item gauged done (keys ∷ others) = do
 
 -- at most 16 lines; each gauge is on one of these tanks, and no two are on one
 abbrev pub are_lines : List ℕ → List LineMap → Bool
-are_lines tanks lines = nat_le (length lines) MOST_LINES && list_all is_line_map lines && are_gauged tanks (all_gauged lines)
+are_lines tanks lines = nat_le (length lines) most_lines && list_all is_line_map lines && are_gauged tanks (all_gauged lines)
 
 -- the lines, at most 16
 unfoldable pub lines_of : List ℕ → Data → Result (List LineMap) SiteFault
 lines_of tanks top = do
-  tables ← list_at 0 MOST_LINES 0 top (codes "line")
+  tables ← list_at 0 most_lines 0 top (codes "line")
   lines_from tanks 1 [] [] tables

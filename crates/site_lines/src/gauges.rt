@@ -22,13 +22,13 @@ use std::alloc::Global;
 use toml::Value;
 
 // The ambient temperature where a gauge gives none and its table doesn't say it, in 0.01 C.
-const USUAL_AMBIENT: i64 = 1_500;
+pub(crate) const USUAL_AMBIENT: i64 = 1_500;
 
 // The deadband of the levels where a gauge's table doesn't say it, in mm.
-const USUAL_DEADBAND_MM: u32 = 1;
+pub(crate) const USUAL_DEADBAND_MM: u32 = 1;
 
 // The deadband of the temperature where a gauge's table doesn't say it, in 0.01 C.
-const USUAL_DEADBAND_CENTI: u32 = 5;
+pub(crate) const USUAL_DEADBAND_CENTI: u32 = 5;
 
 /// The registers that a gauge asks of its device.
 #[derive(Clone, Copy)]

@@ -4,6 +4,8 @@
 mod fields;
 mod gauges;
 mod lines;
+mod number_laws;
 
 pub use gauges::Request;
 pub use lines::{MOST_LINES, is_host, lines_of};
+pub use number_laws::defined_numbers;

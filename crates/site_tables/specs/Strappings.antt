@@ -2,7 +2,7 @@
 use Rattle.std.specs.Prelude.{ℕ, if◌then◌else◌, List, [], ◌∷◌, codes, Option, Some, None, Result, Ok, Err, ℤ, pos}
 use Rattle.farm_base.specs.Steps.{◌>>=◌}
 use Rattle.toml.specs.Data.{Data, as_array, as_integer}
-use Rattle.farm_fixed.specs.declared.limits.TheConstants.{MOST_HEIGHT, MOST_TENTHS}
+use Rattle.farm_fixed.specs.Limits.{most_height, most_tenths}
 use Rattle.farm_fixed.specs.Range.{is_within}
 use Rattle.farm_rounding.specs.Table.{Row}
 use Rattle.strap_courses.specs.Courses.{Point, StrappedTank}
@@ -11,7 +11,7 @@ use Rattle.strap_courses.specs.Faults as strap
 use Rattle.strap_courses.specs.Rows.{strapped_rows}
 use Rattle.strap_courses.specs.declared.parts.Course.{Course}
 use Rattle.strap_courses.specs.declared.parts.Deadwood.{Deadwood}
-use Rattle.site_keys.specs.declared.codes.TheConstants.{FIELD, STRAP}
+use Rattle.site_keys.specs.Codes.{code_of_field, code_of_strap}
 use Rattle.site_keys.specs.declared.fault.SiteFault.{SiteFault}
 use Rattle.site_keys.specs.Faults.{bad, detail, fault_at, needed, ranged}
 use Rattle.site_keys.specs.Files.{toml_of}
@@ -21,7 +21,7 @@ use Rattle.site_tables.specs.Tables.{table_of_rows}
 
 -- a circumference, a deduction or a thickness, in 0.1 mm and up to 500 m
 unfoldable pub length_at : ℕ → Data → List ℕ → Result ℤ SiteFault
-length_at item keys key = quantity_at 1 (pos 0) MOST_TENTHS item keys key
+length_at item keys key = quantity_at 1 (pos 0) most_tenths item keys key
 
 -- a deduction or a thickness; where it is missing, none
 unfoldable pub length_or_none : ℕ → Data → List ℕ → Result ℤ SiteFault
@@ -29,7 +29,7 @@ length_or_none item keys key = if has keys key then length_at item keys key else
 
 -- a height, in mm
 unfoldable pub height_at : ℕ → Data → List ℕ → Result ℤ SiteFault
-height_at item keys key = whole_at item keys key (pos 0) MOST_HEIGHT
+height_at item keys key = whole_at item keys key (pos 0) most_height
 
 -- a course of a table
 unfoldable pub course_of : ℕ → Data → Result Course SiteFault
@@ -63,7 +63,7 @@ deadwood_of item keys = do
 unfoldable pub level_of : ℕ → Data → Result ℤ SiteFault
 level_of item value = do
   height ← needed item (as_integer value)
-  ranged item (is_within (pos 0) MOST_HEIGHT height) height
+  ranged item (is_within (pos 0) most_height height) height
 
 -- a point of a bottom: a pair of a height and litres
 abbrev pub point_of_pair : ℕ → List Data → Result Point SiteFault
@@ -71,7 +71,7 @@ point_of_pair item (height ∷ litres ∷ []) = do
   level ← level_of item height
   volume ← needed item (as_integer litres)
   Ok (level, volume)
-point_of_pair item values = bad FIELD item 0
+point_of_pair item values = bad code_of_field item 0
 
 -- a point of a bottom, as an array of two
 unfoldable pub point_of : ℕ → Data → Result Point SiteFault
@@ -108,13 +108,13 @@ parts_of item keys = do
 
 -- why a strapping is refused
 abbrev pub strap_fault : ℕ → TankFault → SiteFault
-strap_fault item strap.NoCourse = fault_at STRAP item 0
-strap_fault item (strap.BadCourse n) = fault_at STRAP item (detail n)
-strap_fault item (strap.BadDeadwood n) = fault_at STRAP item (detail n)
-strap_fault item (strap.BadBottom n) = fault_at STRAP item (detail n)
-strap_fault item (strap.NotRising row) = fault_at STRAP item (detail row)
-strap_fault item strap.TooTall = fault_at STRAP item 0
-strap_fault item (strap.TooLarge row) = fault_at STRAP item (detail row)
+strap_fault item strap.NoCourse = fault_at code_of_strap item 0
+strap_fault item (strap.BadCourse n) = fault_at code_of_strap item (detail n)
+strap_fault item (strap.BadDeadwood n) = fault_at code_of_strap item (detail n)
+strap_fault item (strap.BadBottom n) = fault_at code_of_strap item (detail n)
+strap_fault item (strap.NotRising row) = fault_at code_of_strap item (detail row)
+strap_fault item strap.TooTall = fault_at code_of_strap item 0
+strap_fault item (strap.TooLarge row) = fault_at code_of_strap item (detail row)
 
 -- rows, or why there are none
 abbrev pub rows_read : ℕ → Result (List ℤ) TankFault → Result (List ℤ) SiteFault

@@ -11,7 +11,7 @@ use Rattle.farm_fixed.specs.Whole.{whole_number}
 use Rattle.strap_table.specs.Faults.{first_fault}
 use Rattle.strap_table.specs.declared.faults.TableFault.{TableFault}
 use Rattle.strap_table.specs.declared.faults.TableFault.TheVariants as rows
-use Rattle.site_keys.specs.declared.codes.TheConstants.{FIELD, TABLE, TEXT}
+use Rattle.site_keys.specs.Codes.{code_of_field, code_of_table, code_of_text}
 use Rattle.site_keys.specs.declared.fault.SiteFault.{SiteFault}
 use Rattle.site_keys.specs.declared.fault.SiteReadFault.{SiteReadFault}
 use Rattle.site_keys.specs.declared.fault.SiteReadFault.TheVariants as read
@@ -37,7 +37,7 @@ litres_of due fields = if length fields == 2 then litres_at due (number_in field
 
 -- the litres that record n gives, if it does
 abbrev pub litres_read : ℕ → ℕ → Option ℤ → Result ℤ SiteFault
-litres_read item n None = bad FIELD item (detail n)
+litres_read item n None = bad code_of_field item (detail n)
 litres_read item n (Some litres) = Ok litres
 
 -- the litres of the records from record n on, after others; their levels are 10 mm apart, and record 1 is due at 0
@@ -59,10 +59,10 @@ litres_under_header item (header ∷ records) = litres_from item records
 -- rows that are a capacity table, or why they aren't
 abbrev pub table_read : ℕ → List ℤ → Option TableFault → Result (List ℤ) SiteFault
 table_read item litres None = Ok litres
-table_read item litres (Some rows.Short) = bad TABLE item 0
-table_read item litres (Some rows.TooMany) = bad TABLE item 0
-table_read item litres (Some (rows.OutOfRange row)) = bad TABLE item (detail row)
-table_read item litres (Some (rows.Falling row)) = bad TABLE item (detail row)
+table_read item litres (Some rows.Short) = bad code_of_table item 0
+table_read item litres (Some rows.TooMany) = bad code_of_table item 0
+table_read item litres (Some (rows.OutOfRange row)) = bad code_of_table item (detail row)
+table_read item litres (Some (rows.Falling row)) = bad code_of_table item (detail row)
 
 -- the capacity table of rows
 abbrev pub table_of_rows : ℕ → List ℤ → Result (List ℤ) SiteFault
@@ -77,10 +77,10 @@ table_of_records item records = do
 -- the capacity table of a file of levels and litres
 unfoldable pub table_of_file : ℕ → List ℕ → Result (List ℤ) SiteFault
 table_of_file item bytes =
-    if have_equal_lengths (records_of bytes) then table_of_records item (records_of bytes) else bad TEXT item 0
+    if have_equal_lengths (records_of bytes) then table_of_records item (records_of bytes) else bad code_of_text item 0
 
 -- what a fault of the records of a file is reported as
 abbrev pub fault_of : ℕ → CsvFault → SiteReadFault
-fault_of item Uneven = read.Bad (fault_at TEXT item 0)
-fault_of item (NoRow number) = read.Bad (fault_at FIELD item (detail number))
+fault_of item Uneven = read.Bad (fault_at code_of_text item 0)
+fault_of item (NoRow number) = read.Bad (fault_at code_of_field item (detail number))
 fault_of item NoMemory = read.NoMemory

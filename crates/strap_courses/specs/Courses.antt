@@ -4,7 +4,7 @@ use Rattle.std.specs.Prelude.{ℕ, ◌+◌, ◌-◌, ◌*◌, ◌^◌, max, min,
 use Rattle.std.specs.Int.RustNames.{unsigned_abs}
 use Rattle.strap_courses.specs.declared.parts.Course.{Course}
 use Rattle.strap_courses.specs.declared.parts.Deadwood.{Deadwood}
-use Rattle.strap_courses.specs.declared.strapping.TheConstants.{PER_LITRE}
+use Rattle.strap_courses.specs.Limits.{scale_per_litre}
 
 -- a point of a bottom: a height, and the volume up to it
 abbrev pub Point : Type 0
@@ -33,7 +33,7 @@ scaled_circumference course =
 
 -- that squared over this is the volume of one mm of a course: circumference squared over 4 pi
 abbrev pub per_litre : ℕ
-per_litre = PER_LITRE
+per_litre = scale_per_litre
 
 -- how many mm two spans share
 abbrev pub shared_height : ℕ → ℕ → ℕ → ℕ → ℕ

@@ -5,8 +5,8 @@ use Rattle.std.specs.Int.RustNames.{int_lt, unsigned_abs}
 use Rattle.std.specs.Ordering.{int_eq}
 use Rattle.farm_base.specs.Steps.{or_else}
 use Rattle.farm_fixed.specs.Range.{IsWithin, is_within}
-use Rattle.farm_fixed.specs.declared.limits.TheConstants.{MOST_HEIGHT, MOST_LITRES}
-use Rattle.strap_courses.specs.declared.faults.TheConstants.{LEAST_HEIGHT}
+use Rattle.farm_fixed.specs.Limits.{most_height, most_litres}
+use Rattle.strap_courses.specs.Limits.{least_height}
 use Rattle.strap_courses.specs.declared.parts.Course.{Course}
 use Rattle.strap_courses.specs.declared.parts.Deadwood.{Deadwood}
 use Rattle.strap_courses.specs.declared.faults.StrapFault.{StrapFault}
@@ -61,7 +61,7 @@ pub record IsCourse (course : Course) : Type 0 where
 pub record IsDeadwood (top : ℕ) (deadwood : Deadwood) : Type 0 where
   pub high : deadwood.low <ℤ deadwood.high
   pub above : pos top ≤ℤ deadwood.low
-  pub litres : unsigned_abs deadwood.litres ≤ unsigned_abs MOST_LITRES
+  pub litres : unsigned_abs deadwood.litres ≤ unsigned_abs most_litres
 
 -- the point at an index, counted from 0
 abbrev pub point_at : List Point → ℕ → Point
@@ -70,13 +70,13 @@ point_at points index = slice_index_or points index (pos 0, pos 0)
 -- the first point of a bottom is at height 0, with a volume from 0 to 10^9 litres
 pub record IsFirstPoint (point : Point) : Type 0 where
   pub height : point.0 ≡ pos 0
-  pub volume : IsWithin (pos 0) MOST_LITRES point.1
+  pub volume : IsWithin (pos 0) most_litres point.1
 
 -- a later point is higher than the one before it, with no less volume, and at most 10^9 litres
 pub record Follows (before point : Point) : Type 0 where
   pub higher : before.0 <ℤ point.0
   pub no_less : before.1 ≤ℤ point.1
-  pub volume : IsWithin (pos 0) MOST_LITRES point.1
+  pub volume : IsWithin (pos 0) most_litres point.1
 
 -- the point at an index may stand there
 abbrev pub GoesOn : List Point → ℕ → Type 0
@@ -96,8 +96,8 @@ pub record IsFirstBadPoint (points : List Point) (n : ℕ) : Type 0 where
 
 -- the courses are as high as one row or more, at most as high as a tank may be, and not below the bottom's top
 pub record IsHeight (top height : ℕ) : Type 0 where
-  pub least : LEAST_HEIGHT ≤ height
-  pub most : height ≤ unsigned_abs MOST_HEIGHT
+  pub least : least_height ≤ height
+  pub most : height ≤ unsigned_abs most_height
   pub covers : top ≤ height
 
 -- the courses of a tank: at least one, and none bad
@@ -141,7 +141,7 @@ bad_course n (course ∷ courses) = if is_bad_course course then Some n else bad
 -- a deadwood has no height, begins below the top of the bottom, or has over 10^9 litres either way
 abbrev pub is_bad_deadwood : ℕ → Deadwood → Bool
 is_bad_deadwood top deadwood =
-    not (int_lt deadwood.low deadwood.high) || int_lt deadwood.low (pos top) || nat_lt (unsigned_abs MOST_LITRES) (unsigned_abs deadwood.litres)
+    not (int_lt deadwood.low deadwood.high) || int_lt deadwood.low (pos top) || nat_lt (unsigned_abs most_litres) (unsigned_abs deadwood.litres)
 
 -- the first bad deadwood, counted from a number
 abbrev pub bad_deadwood : ℕ → ℕ → List Deadwood → Option ℕ
@@ -150,7 +150,7 @@ bad_deadwood top n (deadwood ∷ deadwoods) = if is_bad_deadwood top deadwood th
 
 -- a volume of a bottom is from 0 to 10^9 litres
 abbrev pub is_bottom_volume : Point → Bool
-is_bottom_volume point = is_within (pos 0) MOST_LITRES point.1
+is_bottom_volume point = is_within (pos 0) most_litres point.1
 
 -- a point follows another: it is higher, and its volume isn't less
 abbrev pub follows : Point → Point → Bool
@@ -178,7 +178,7 @@ no_course (course ∷ courses) = None
 
 -- the courses are lower than one row, higher than a tank may be, or lower than the bottom
 abbrev pub wrong_height : ℕ → ℕ → Option TankFault
-wrong_height top height = if nat_lt height LEAST_HEIGHT || nat_lt (unsigned_abs MOST_HEIGHT) height || nat_lt height top then Some TooTall else None
+wrong_height top height = if nat_lt height least_height || nat_lt (unsigned_abs most_height) height || nat_lt height top then Some TooTall else None
 
 -- why parts are no strapped tank
 unfoldable pub first_fault : StrappedTank → Option TankFault

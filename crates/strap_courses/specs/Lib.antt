@@ -1,4 +1,5 @@
 -- The definitions of `strap_courses`, by subject.
+pub mod Limits
 pub mod Courses
 pub mod Faults
 pub mod Rows

@@ -3,9 +3,9 @@ use Rattle.std.specs.Prelude.{◌≡◌, ℕ, zero, suc, ◌+◌, ◌*◌, ◌/�
 use Rattle.std.specs.Int.RustNames.{int_lt}
 use Rattle.farm_base.specs.Steps.{or_else}
 use Rattle.farm_fixed.specs.Range.{is_within, IsVolume}
-use Rattle.farm_fixed.specs.declared.limits.TheConstants.{MOST_LITRES}
+use Rattle.farm_fixed.specs.Limits.{most_litres}
 use Rattle.farm_rounding.specs.Table.{Row, rounded}
-use Rattle.farm_rounding.specs.declared.table.TheConstants.{DEADWOOD_PART, STRAPPED_ROW}
+use Rattle.farm_rounding.specs.RowNumbers.{row_of_deadwood_part, row_of_strapped_row}
 use Rattle.strap_courses.specs.declared.parts.Deadwood.{Deadwood}
 use Rattle.strap_courses.specs.Faults.{TankFault, NotRising, TooLarge}
 use Rattle.strap_courses.specs.Courses.{Fraction, StrappedTank, deadwood_part, exact_volume, height_of}
@@ -18,12 +18,12 @@ rounded_litres rounding figure fraction = rounded rounding figure fraction.num f
 unfoldable pub deadwood_parts : List Row → ℕ → List Deadwood → ℤ
 deadwood_parts rounding height [] = pos 0
 deadwood_parts rounding height (deadwood ∷ deadwoods) =
-    rounded_litres rounding DEADWOOD_PART (deadwood_part deadwood height) +ℤ deadwood_parts rounding height deadwoods
+    rounded_litres rounding row_of_deadwood_part (deadwood_part deadwood height) +ℤ deadwood_parts rounding height deadwoods
 
 -- row i: bottom and courses up to 10 i mm, less the deadwoods
 unfoldable pub strapped_row : List Row → StrappedTank → ℕ → ℤ
 strapped_row rounding tank i =
-    rounded_litres rounding STRAPPED_ROW (exact_volume tank (10 * i)) -ℤ deadwood_parts rounding (10 * i) tank.deadwoods
+    rounded_litres rounding row_of_strapped_row (exact_volume tank (10 * i)) -ℤ deadwood_parts rounding (10 * i) tank.deadwoods
 
 -- the rows from row i on, as many as this
 abbrev pub rows_from : List Row → StrappedTank → ℕ → ℕ → List ℤ
@@ -37,7 +37,7 @@ row_count tank = height_of tank.courses / 10 + 1
 -- row i is below 0 or over 10^9 litres, or else below the one before it
 abbrev pub wrong_row : ℕ → ℤ → ℤ → Option TankFault
 wrong_row i before row =
-    if not (is_within (pos 0) MOST_LITRES row) then Some (TooLarge i) else (if int_lt row before then Some (NotRising i) else None)
+    if not (is_within (pos 0) most_litres row) then Some (TooLarge i) else (if int_lt row before then Some (NotRising i) else None)
 
 -- the first row from row i on that is wrong
 abbrev pub first_wrong : ℕ → ℤ → List ℤ → Option TankFault

@@ -9,10 +9,12 @@ mod bottom;
 mod deadwood;
 mod faults;
 mod heights;
+mod number_laws;
 mod parts;
 mod shell;
 mod strapping;
 
 pub use faults::StrapFault;
+pub use number_laws::defined_numbers;
 pub use parts::{Course, Deadwood};
 pub use strapping::Strapping;

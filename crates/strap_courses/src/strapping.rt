@@ -21,7 +21,7 @@ use std::alloc::Global;
 use std::marker::Model;
 
 // The square of a scaled circumference over this is what one mm of the course holds, in litres.
-const PER_LITRE: u64 = 64_184_000_000_000;
+pub(crate) const PER_LITRE: u64 = 64_184_000_000_000;
 
 /// A strapped tank: at least one course, what stands inside, and a bottom.
 ///

@@ -3,16 +3,16 @@ use Rattle.std.specs.Prelude.{ℕ, ◌+◌, ◌-◌, ◌<◌, ◌≤◌, nat_lt,
 use Rattle.std.specs.Int.RustNames.{int_lt}
 use Rattle.farm_base.specs.Steps.{or_else}
 use Rattle.farm_fixed.specs.Range.{is_within, IsVolume}
-use Rattle.farm_fixed.specs.declared.limits.TheConstants.{MOST_LITRES}
-use Rattle.strap_table.specs.declared.faults.TheConstants.{FEWEST_ROWS, MOST_ROWS}
+use Rattle.farm_fixed.specs.Limits.{most_litres}
+use Rattle.strap_table.specs.Limits.{fewest_rows, most_rows}
 use Rattle.strap_table.specs.declared.faults.TableFault.{TableFault}
 use Rattle.strap_table.specs.declared.faults.TableFault.TheVariants.{Short, TooMany, OutOfRange, Falling}
 use Rattle.strap_table.specs.Capacity.{row_at}
 
 -- rows are as many as a table may have
 pub record HaveTableLength (rows : List ℤ) : Type 0 where
-  pub fewest : FEWEST_ROWS ≤ length rows
-  pub most : length rows ≤ MOST_ROWS
+  pub fewest : fewest_rows ≤ length rows
+  pub most : length rows ≤ most_rows
 
 -- row i is the first whose volume isn't from 0 to 10^9 litres
 pub record IsFirstOutside (rows : List ℤ) (i : ℕ) : Type 0 where
@@ -29,15 +29,15 @@ pub record IsFirstFalling (rows : List ℤ) (i : ℕ) : Type 0 where
 
 -- rows have a fault, and none of a kind before it
 abbrev pub HaveFault : List ℤ → TableFault → Type 0
-HaveFault rows Short = length rows < FEWEST_ROWS
-HaveFault rows TooMany = MOST_ROWS < length rows
+HaveFault rows Short = length rows < fewest_rows
+HaveFault rows TooMany = most_rows < length rows
 HaveFault rows (OutOfRange i) = HaveTableLength rows × IsFirstOutside rows i
 HaveFault rows (Falling i) = HaveTableLength rows × ((each : ℕ) → IsVolume (row_at rows each)) × IsFirstFalling rows i
 
 -- the first row from number n on that isn't from 0 to 10^9 litres
 abbrev pub first_outside : ℕ → List ℤ → Option ℕ
 first_outside n [] = None
-first_outside n (row ∷ rows) = if is_within (pos 0) MOST_LITRES row then first_outside (n + 1) rows else Some n
+first_outside n (row ∷ rows) = if is_within (pos 0) most_litres row then first_outside (n + 1) rows else Some n
 
 -- the first row from number n on that is below the one before it
 abbrev pub first_falling : ℕ → ℤ → List ℤ → Option ℕ
@@ -51,7 +51,7 @@ falling_row (row ∷ rows) = first_falling 1 row rows
 
 -- too few or too many rows
 abbrev pub wrong_length : ℕ → Option TableFault
-wrong_length n = if nat_lt n FEWEST_ROWS then Some Short else (if nat_lt MOST_ROWS n then Some TooMany else None)
+wrong_length n = if nat_lt n fewest_rows then Some Short else (if nat_lt most_rows n then Some TooMany else None)
 
 -- a row outside the range
 abbrev pub outside : Option ℕ → Option TableFault

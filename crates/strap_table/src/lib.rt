@@ -6,9 +6,11 @@
 
 mod faults;
 mod interpolation;
+mod number_laws;
 mod table;
 mod tank;
 
 pub use faults::{AboveTable, FEWEST_ROWS, MOST_ROWS, TableFault};
+pub use number_laws::defined_numbers;
 pub use table::CapTable;
 pub use tank::{Roof, TankSpec};

@@ -1,0 +1,14 @@
+-- The numbers of the limits.
+use Rattle.std.specs.Prelude.{ℕ}
+
+-- the byte that ends a line
+abbrev pub line_feed : ℕ
+line_feed = 10
+
+-- the most bytes of a line, without its line feed
+abbrev pub longest_line : ℕ
+longest_line = 65536
+
+-- the most bytes of all lines, with their line feeds
+abbrev pub most_bytes : ℕ
+most_bytes = 1073741824

@@ -1,0 +1,12 @@
+//! The numbers of the code are those of the definitions.
+
+ghost use Rattle.std.specs.Prelude.{◌≡◌};
+ghost use Rattle.farm_batch.specs.Limits.{batch_caller, most_lines};
+
+use crate::limits::{BATCH_CALLER, MOST_LINES};
+
+/// Does nothing: its contract is that each number that the definitions state is the code's.
+pub fn defined_numbers()
+    ensures batch_caller { BATCH_CALLER ≡ batch_caller }
+    ensures most_lines { MOST_LINES ≡ most_lines }
+{}

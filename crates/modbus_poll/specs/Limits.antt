@@ -1,0 +1,38 @@
+-- The numbers of the limits.
+use Rattle.std.specs.Prelude.{ℕ}
+
+-- the most bytes of a host
+abbrev pub longest_host : ℕ
+longest_host = 64
+
+-- the greatest port
+abbrev pub greatest_port : ℕ
+greatest_port = 65535
+
+-- the greatest unit identifier
+abbrev pub greatest_unit : ℕ
+greatest_unit = 255
+
+-- the most gauges of a line
+abbrev pub most_gauges : ℕ
+most_gauges = 16
+
+-- how many registers a device numbers for one function, the first being 0
+abbrev pub register_count : ℕ
+register_count = 65536
+
+-- the most registers that a field has
+abbrev pub most_words : ℕ
+most_words = 2
+
+-- the most that a field's number is multiplied or divided by
+abbrev pub most_multiplier : ℕ
+most_multiplier = 1000000
+
+-- the highest bit of a register, the lowest being 0
+abbrev pub highest_bit : ℕ
+highest_bit = 15
+
+-- the greatest deadband, in mm or 0.01 C
+abbrev pub most_deadband : ℕ
+most_deadband = 1000
