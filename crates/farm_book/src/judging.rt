@@ -1,20 +1,20 @@
 //! What the rules say of a further entry, after the entries of a book.
 
-ghost use Rattle.std.specs.Prelude.{◌≡◌, ◌+◌, ◌≤◌, ℕ, if◌then◌else◌, IfSome, None, Some, length, option_and_then};
+ghost use Rattle.std.specs.Prelude.{◌≡◌, ◌+◌, ◌≤◌, ℕ, if◌then◌else◌, IfSome, None, Some, length};
 ghost use Rattle.std.specs.List.{list_any};
 ghost use Rattle.farm_base.specs.Steps.{or_else};
 ghost use Rattle.farm_entries.specs.Pasts.{IsReadable, history_of};
 ghost use Rattle.farm_history.specs.Commands.{IsWellFormedCommand, is_same_command, tanks_given};
-ghost use Rattle.farm_history.specs.Fields.{first_bad_field};
-ghost use Rattle.farm_history.specs.Gauging.{gauging_after};
 ghost use Rattle.farm_history.specs.History.{tank_after};
 ghost use Rattle.farm_history.specs.Places.{first_place};
-ghost use Rattle.farm_history.specs.Rules.{broken_by_command, is_full, is_missing, is_repeat, refused_gauging, has_same_key, unknown_tank};
+ghost use Rattle.farm_history.specs.Rules.{broken_by_command, is_full, is_missing, is_repeat, has_same_key, unknown_tank};
 ghost use Rattle.farm_history.specs.Verdicts.{verdict};
 ghost use Rattle.farm_history.specs.declared.limits.TheConstants.{GREATEST_LIMIT, STOPS_BEYOND_LIMIT};
 
+use crate::field_rule::first_bad_field;
+use crate::gauging_rules::refused_gauging;
 use crate::movement_rules::{broken_by_movement, unknown_party};
-use farm_entries::{Past, first_bad_field, tank_of};
+use farm_entries::Past;
 use farm_history::{Command, Entry, Plan, Rule, STOPS_BEYOND_LIMIT, Verdict};
 
 // Where the account and the key of a further entry stand.
@@ -169,15 +169,4 @@ fn is_missing(past: &Past<'_>, number: u16) -> bool
     ensures missing { result ≡ is_missing (tank_after (history_of past.now.site.now past.now.entries.now) number) }
 {
     past.site.tank(number).is_none()
-}
-
-// Why a gauging is refused: rules 6 to 8.
-#[tactic(auto, unfolding(farm_history::specs::Gauging::gauging_after, farm_history::specs::History::tank_after))]
-fn refused_gauging(past: &Past<'_>, command: &Command) -> Option<Rule>
-    requires command { IsWellFormedCommand command.now }
-    requires in_range { first_bad_field command.now ≡ None }
-    ensures refused { result ≡ option_and_then refused_gauging (gauging_after (history_of past.now.site.now past.now.entries.now) command.now) }
-{
-    let tank = past.site.tank(tank_of(command)?)?;
-    farm_entries::refused_gauging(&past.site.rounding, tank, command)
 }

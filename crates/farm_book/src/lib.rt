@@ -6,7 +6,9 @@
 
 mod book;
 mod entering;
+mod field_rule;
 mod figure_rules;
+mod gauging_rules;
 mod judging;
 mod movement_rules;
 mod named_rules;

@@ -1,44 +1,25 @@
-//! Gaugings: from tapes to a reading, and a reading against its tank.
+//! Gaugings: from tapes to a reading.
 
-ghost use Rattle.std.specs.Prelude.{◌≡◌, IsTrue, None, option_and_then, take, pos};
+ghost use Rattle.std.specs.Prelude.{◌≡◌, IsTrue, None, take, pos};
 ghost use Rattle.std.specs.List.{list_all};
 ghost use Rattle.farm_fixed.specs.Range.{is_within};
 ghost use Rattle.farm_fixed.specs.declared.limits.TheConstants.{LEAST_DENSITY, MOST_DENSITY, MOST_SHARE};
 ghost use Rattle.farm_readings.specs.Readings.{AreTemperatures, tape_reading};
 ghost use Rattle.farm_history.specs.Commands.{IsShortList, IsWellFormedCommand, numbers_of};
 ghost use Rattle.farm_history.specs.Fields.{first_bad_field};
-ghost use Rattle.farm_history.specs.Gauging.{dip_level, dip_reading, dip_water, gauge_reading, gauged, gauging_in, tapes_numbered};
-ghost use Rattle.farm_history.specs.Rules.{refused_gauging, refused_reading};
+ghost use Rattle.farm_history.specs.Gauging.{dip_level, dip_reading, dip_water, gauge_reading, gauged, tapes_numbered};
 
 use farm_fixed::{Centi, Dens, Mm, Permil5, Quantity, Reading, Sample, Unit};
 use farm_history::{
-    BELOW_DATUM, Command, Few, LONGEST_LIST, Rule, TAPE_COUNT, TAPE_SPREAD, WATER_TAPE_COUNT,
+    BELOW_DATUM, Command, Few, LONGEST_LIST, TAPE_COUNT, TAPE_SPREAD, WATER_TAPE_COUNT,
     WATER_TAPE_SPREAD,
 };
 use farm_readings::{TapeFault, innage, mean_temp, tape};
 use farm_rounding::RoundTable;
-use farm_site::Tank;
-use strap_table::CapTable;
 
-/// Why a gauging in a tank is refused. `None` where it isn't refused, and for a command that is no gauging.
-#[tactic(auto, unfolding(farm_history::specs::Rules::refused_gauging))]
-pub fn refused_gauging(rounding: &RoundTable, tank: &Tank, command: &Command) -> Option<Rule>
-    requires well_formed { IsWellFormedCommand command.now }
-    requires in_range { first_bad_field command.now ≡ None }
-    ensures refused_gauging { result ≡ option_and_then refused_gauging (gauging_in rounding.now command.now tank.now) }
-{
-    match gauged(rounding, tank.spec.height, command)? {
-        Ok(reading) => refused_reading(&tank.table, reading),
-        Err(fault) => Some(Rule::Tape(fault)),
-    }
-}
-
-// What a gauging in a tank of this reference height gives. `None` for a command that is no gauging.
-pub(crate) fn gauged(
-    rounding: &RoundTable,
-    height: Mm,
-    command: &Command,
-) -> Option<Result<Reading, u8>>
+/// What a gauging in a tank of this reference height gives: a reading, or the number of what is wrong with its tapes. `None` for a
+/// command that is no gauging.
+pub fn gauged(rounding: &RoundTable, height: Mm, command: &Command) -> Option<Result<Reading, u8>>
     requires well_formed { IsWellFormedCommand command.now }
     requires in_range { first_bad_field command.now ≡ None }
     ensures gauged { result ≡ gauged rounding.now height command.now }
@@ -156,20 +137,6 @@ fn dip_water(rounding: &RoundTable, tapes: &[Mm]) -> Result<Mm, u8>
         return Ok(quantity_of(0));
     }
     tape_numbered::<WATER_TAPE_COUNT, WATER_TAPE_SPREAD>(rounding, tapes)
-}
-
-// Why a reading is refused: it is above the table, or its water above its level.
-fn refused_reading(table: &CapTable, reading: Reading) -> Option<Rule>
-    ensures refused_reading { result ≡ refused_reading table.now reading }
-{
-    let top = table.top() as i64;
-    if top < reading.level.get() {
-        return Some(Rule::AboveTable);
-    }
-    if reading.level.get() < reading.water.get() {
-        return Some(Rule::WaterAboveLevel);
-    }
-    None
 }
 
 // The quantities of a list of a command, and zeros after them.

@@ -5,7 +5,6 @@
 #![tactic(auto)]
 
 mod amounts;
-mod fields;
 mod figures;
 mod gauging;
 mod last_places;
@@ -16,9 +15,8 @@ mod postings;
 mod stocks;
 mod tickets;
 
-pub use fields::first_bad_field;
 pub use figures::{Pairs, tank_of};
-pub use gauging::refused_gauging;
+pub use gauging::gauged;
 pub use last_places::{is_gauging_of, is_sample_of};
 pub use past::Past;
 pub use tickets::{ToClose, goes_wrong};

@@ -8,6 +8,7 @@
 mod expect;
 mod frame;
 mod number_laws;
+mod published;
 mod request;
 mod response;
 
@@ -16,5 +17,6 @@ pub use expect::{
 };
 pub use frame::{Frame, Registers};
 pub use number_laws::defined_numbers;
+pub use published::published_frames;
 pub use request::write_request;
 pub use response::read_response;

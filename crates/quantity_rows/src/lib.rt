@@ -18,3 +18,5 @@ mod roofs;
 mod rounding;
 #[cfg(test)]
 mod strapping;
+#[cfg(test)]
+mod twelve_rows;

@@ -2,7 +2,7 @@
 use Rattle.std.proofs.Common.{◌≡◌, drop}
 use Rattle.std.specs.List.{list_all}
 use Rattle.farm_fixed.specs.Range.{is_within}
-use Rattle.farm_entries.proofs.fields.is_out_of_range.Given as goal
+use Rattle.farm_book.proofs.field_rule.is_out_of_range.Given as goal
 
 abbrev pub invariant-loop-number : goal.invariant-loop-number
 invariant-loop-number g l =

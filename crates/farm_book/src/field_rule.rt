@@ -1,4 +1,4 @@
-//! The ranges of the numbered fields of a command.
+//! The rule on the numbered fields of a command, 5.
 
 ghost use Rattle.std.specs.Prelude.{◌≡◌, ◌≤◌, length};
 ghost use Rattle.farm_history.specs.Commands.{IsShortList, IsWellFormedCommand, numbers_of};
@@ -11,7 +11,7 @@ use farm_fixed::{
 use farm_history::{Command, Few};
 
 // The numbers of a short list.
-pub(crate) fn numbers(few: &Few) -> &[i64]
+fn numbers(few: &Few) -> &[i64]
     requires { IsShortList few.now }
     ensures numbers { result.now ≡ numbers_of few.now }
 {
