@@ -4,4 +4,5 @@ pub mod Pieces
 pub mod Folders
 pub mod Links
 pub mod Objects
+pub mod Copies
 pub mod Wires

@@ -1,10 +1,12 @@
 //! The calls that a link in memory took, as long as there is memory to keep each.
 
-ghost use Rattle.std.specs.Prelude.{◌≡◌, [], ◌∷◌, IfOk, IsOk, IsErr, IsSome, None, OnOk, Some};
+ghost use Rattle.std.specs.Prelude.{◌≡◌, ◌≤◌, ◌+◌, [], ◌∷◌, IfOk, IsOk, IsErr, IsSome, None, OnErr, OnOk, Some, length};
 ghost use Rattle.farm_base.specs.Known.{WhereKnown};
+ghost use Rattle.farm_ports.specs.Copies.{FitsCopy, TakesOne};
 ghost use Rattle.farm_ports.specs.Links.{AddsCalls};
 ghost use Rattle.farm_ports.specs.Wires.{CanKeep, HasRoom};
 
+use crate::copy_room::CopyRoom;
 use crate::{Bytes, LinkCall};
 use farm_base::NoMemory;
 use std::alloc::Global;
@@ -15,6 +17,7 @@ use std::marker::Model;
 pub struct KeptCalls {
     calls: Vec<LinkCall>,
     known: bool,
+    copies: CopyRoom,
 }
 
 impl Model for KeptCalls {
@@ -23,7 +26,7 @@ impl Model for KeptCalls {
 
     ghost Value = { KeptState };
 
-    ghost view = { λ kept. record { calls = if kept.known then Some kept.calls.items else None; room = vec_capacity kept.calls } };
+    ghost view = { λ kept. record { calls = if kept.known then Some kept.calls.items else None; room = vec_capacity kept.calls; copies = kept.copies } };
 }
 
 impl KeptCalls {
@@ -35,6 +38,7 @@ impl KeptCalls {
         Ok(KeptCalls {
             calls: Vec::with_capacity(alloc, 1)?,
             known: true,
+            copies: CopyRoom::none(alloc),
         })
     }
 
@@ -45,12 +49,32 @@ impl KeptCalls {
         &self.calls
     }
 
+    /// Makes room for this many calls and for one pause after them, and for this many bytes of each.
+    ///
+    /// Room for bytes that was there before is given up. Where there is no memory all stays as it was.
+    pub fn reserve(&mut self, alloc: Global, calls: usize, size: usize) -> Result<(), NoMemory>
+        ensures room { OnOk result (HasRoom (calls + 1) self.new.calls self.new.room) }
+        ensures count { OnOk result (self.new.copies.count ≡ calls) }
+        ensures size { OnOk result (self.new.copies.size ≡ size) }
+        ensures stays { self.new.calls ≡ self.old.calls }
+        ensures grows { self.old.room ≤ self.new.room }
+        ensures err { OnErr result (self.new.copies ≡ self.old.copies) }
+    {
+        let copies = CopyRoom::new(alloc, calls, size)?;
+        let more = calls.checked_add(1).ok_or(NoMemory)?;
+        self.calls.reserve(more)?;
+        self.copies = copies;
+        Ok(())
+    }
+
     /// Makes room for a call and for one pause after it.
     pub fn make_room(&mut self) -> Result<(), NoMemory>
         ensures room { OnOk result (HasRoom 2 self.new.calls self.new.room) }
         ensures stays { OnOk result (self.new.calls ≡ self.old.calls) }
         ensures forgotten { IsErr result → self.new.calls ≡ None }
         ensures there { CanKeep 2 self.old.calls self.old.room → IsOk result }
+        ensures grows { self.old.room ≤ self.new.room }
+        ensures copies { self.new.copies ≡ self.old.copies }
     {
         let made = self.calls.reserve(2);
         if made.is_err() {
@@ -65,9 +89,12 @@ impl KeptCalls {
         ensures room { IsOk result → HasRoom 2 self.new.calls self.new.room }
         ensures stays { IsOk result → self.new.calls ≡ self.old.calls }
         ensures forgotten { IsErr result → self.new.calls ≡ None }
+        ensures there { CanKeep 2 self.old.calls self.old.room → FitsCopy (length bytes.now) self.old.copies → IsOk result }
+        ensures grows { self.old.room ≤ self.new.room }
+        ensures one { TakesOne self.old.copies self.new.copies }
     {
         self.make_room()?;
-        let copied = bytes.to_vec(alloc);
+        let copied = self.copies.copy(alloc, bytes);
         if copied.is_err() {
             self.known = false;
         }
@@ -79,6 +106,8 @@ impl KeptCalls {
         ensures added { AddsCalls self.old.calls self.new.calls (call ∷ []) }
         ensures known { CanKeep 1 self.old.calls self.old.room → IsSome self.new.calls }
         ensures room { HasRoom 2 self.old.calls self.old.room → HasRoom 1 self.new.calls self.new.room }
+        ensures grows { self.old.room ≤ self.new.room }
+        ensures copies { self.new.copies ≡ self.old.copies }
     {
         let has_room = self.calls.len() < self.calls.capacity();
         self.known = self.known && has_room && self.calls.push(call).is_ok();
@@ -89,6 +118,8 @@ impl KeptCalls {
         ensures added { AddsCalls self.old.calls self.new.calls (call ∷ []) }
         ensures known { CanKeep 2 self.old.calls self.old.room → IsSome self.new.calls }
         ensures room { HasRoom 1 self.new.calls self.new.room }
+        ensures grows { self.old.room ≤ self.new.room }
+        ensures copies { self.new.copies ≡ self.old.copies }
     {
         if self.make_room().is_ok() {
             self.push(call);

@@ -7,6 +7,7 @@
 #![tactic(auto)]
 
 mod clock;
+mod copy_room;
 mod copying;
 mod dir_folder;
 mod failing_calls;
@@ -25,6 +26,7 @@ mod tcp_link;
 mod wire;
 
 pub use clock::{Clock, Fixed};
+pub use copy_room::CopyRoom;
 pub use copying::{put_all, read_up_to};
 pub use dir_folder::DirFolder;
 pub use failing_calls::FailingCalls;

@@ -1,11 +1,11 @@
 //! A link in memory.
 
-ghost use Rattle.std.specs.Prelude.{◌≡◌, ◌⊎◌, ◌++◌, [], ◌∷◌, drop, length, map, min, take, IfOk, IsErr, IsOk, IsSome, MatchResult, OnOk, Some, if◌then◌else◌, is_ok};
+ghost use Rattle.std.specs.Prelude.{◌≡◌, ◌⊎◌, ◌≤◌, ◌+◌, ◌++◌, [], ◌∷◌, drop, length, map, min, take, IfOk, IsErr, IsOk, IsSome, MatchResult, OnErr, OnOk, Some, if◌then◌else◌, is_ok};
 ghost use Rattle.farm_base.specs.Counts.{HasCause};
 ghost use Rattle.farm_base.specs.Known.{WhereKnown};
 ghost use Rattle.farm_ports.specs.Links.{AddsCalls, Connects, Receives, Sends};
 ghost use Rattle.farm_ports.specs.Objects.{CountsCall, FailsNext};
-ghost use Rattle.farm_ports.specs.Wires.{CanKeep, HasRoom, first_response, responses_after};
+ghost use Rattle.farm_ports.specs.Wires.{CanKeep, HasRoom, HasRoomFor, LeavesRoom, first_response, responses_after};
 
 use crate::failing_calls::FailingCalls;
 use crate::kept_calls::KeptCalls;
@@ -19,7 +19,8 @@ use std::marker::Model;
 ///
 /// Connects, sends and receives are numbered together, from 1; a pause has no number. A call that finds no memory to be kept
 /// fails and counts as a fault, and from then on the calls aren't known. A pause takes no memory: there is room for one after
-/// each numbered call, and after two pauses in a row the calls may not be known.
+/// each numbered call, and after two pauses in a row the calls may not be known. With room from `reserve` a listed call alone fails,
+/// and a receive with nothing left.
 #[derive(Drop)]
 pub struct Wire {
     alloc: Global,
@@ -36,6 +37,7 @@ impl Model for Wire {
     ghost view = { λ wire. record {
       calls = wire.kept.calls;
       room = wire.kept.room;
+      copies = wire.kept.copies;
       responses = wire.responses.coming;
       left = wire.responses.left;
       counted = wire.numbered;
@@ -78,16 +80,35 @@ impl Wire {
         self.numbered.faults()
     }
 
+    /// Makes room for this many calls and for one pause after them, and for this many bytes of each.
+    ///
+    /// Room for bytes that was there before is given up. Where there is no memory all stays as it was.
+    pub fn reserve(&mut self, calls: usize, size: usize) -> Result<(), NoMemory>
+        ensures room { OnOk result (HasRoom (calls + 1) self.new.calls self.new.room) }
+        ensures count { OnOk result (self.new.copies.count ≡ calls) }
+        ensures size { OnOk result (self.new.copies.size ≡ size) }
+        ensures calls { self.new.calls ≡ self.old.calls }
+        ensures grows { self.old.room ≤ self.new.room }
+        ensures err { OnErr result (self.new.copies ≡ self.old.copies) }
+        ensures counted { self.new.counted ≡ self.old.counted }
+        ensures responses { self.new.responses ≡ self.old.responses }
+        ensures left { self.new.left ≡ self.old.left }
+    {
+        self.kept.reserve(self.alloc, calls, size)
+    }
+
     // Counts a receive, and fails it where its number is listed or nothing is left.
     fn begin_recv(&mut self) -> Result<(), Failed>
         ensures listed { FailsNext self.old.counted → IsErr result }
         ensures nothing { self.old.left ≡ [] → IsErr result }
         ensures some { IsOk result → self.old.left ≡ [] → ⊥ }
+        ensures only { IsErr result → FailsNext self.old.counted ⊎ (self.old.left ≡ []) }
         ensures cause { HasCause self.old.counted.faults self.new.counted.faults result }
         ensures quiet { OnOk result (self.new.counted.faults ≡ self.old.counted.faults) }
         ensures counted { CountsCall self.old.counted self.new.counted }
         ensures calls { self.new.calls ≡ self.old.calls }
         ensures room { self.new.room ≡ self.old.room }
+        ensures copies { self.new.copies ≡ self.old.copies }
         ensures responses { self.new.responses ≡ self.old.responses }
         ensures left { self.new.left ≡ self.old.left }
     {
@@ -109,11 +130,15 @@ impl Link for Wire {
         ensures cause { HasCause (⟦<Wire as Link>⟧.faults self.old) (⟦<Wire as Link>⟧.faults self.new) result }
         ensures quiet { OnOk result (⟦<Wire as Link>⟧.faults self.new ≡ ⟦<Wire as Link>⟧.faults self.old) }
 
-        // A listed connect fails, and one that finds no memory. What was left to receive is dropped in each case.
+        // A listed connect fails, and one that finds no memory: with room a listed one alone. What was left to receive is
+        // dropped in each case.
         ensures listed { FailsNext self.old.counted → IsErr result }
+        ensures listed_alone { HasRoomFor (length host.now) self.old → IsErr result → FailsNext self.old.counted }
         ensures counted { CountsCall self.old.counted self.new.counted }
         ensures kept { IsSome self.old.calls → IsOk result → IsSome self.new.calls }
+        ensures kept_in_room { HasRoomFor (length host.now) self.old → IsSome self.new.calls }
         ensures room { HasRoom 1 self.new.calls self.new.room }
+        ensures leaves { LeavesRoom self.old self.new }
         ensures left { self.new.left ≡ [] }
         ensures responses { self.new.responses ≡ self.old.responses }
     {
@@ -136,12 +161,16 @@ impl Link for Wire {
         ensures cause { HasCause (⟦<Wire as Link>⟧.faults self.old) (⟦<Wire as Link>⟧.faults self.new) result }
         ensures quiet { OnOk result (⟦<Wire as Link>⟧.faults self.new ≡ ⟦<Wire as Link>⟧.faults self.old) }
 
-        // A listed send fails, and one that finds no memory; any other takes the whole piece and goes on to the next response.
+        // A listed send fails, and one that finds no memory: with room a listed one alone. Any other takes the whole piece and
+        // goes on to the next response.
         ensures listed { FailsNext self.old.counted → IsErr result }
+        ensures listed_alone { HasRoomFor (length bytes.now) self.old → IsErr result → FailsNext self.old.counted }
         ensures counted { CountsCall self.old.counted self.new.counted }
         ensures kept { IsSome self.old.calls → IsOk result → IsSome self.new.calls }
         ensures kept_failed { CanKeep 2 self.old.calls self.old.room → FailsNext self.old.counted → IsSome self.new.calls }
+        ensures kept_in_room { HasRoomFor (length bytes.now) self.old → IsSome self.new.calls }
         ensures room { HasRoom 1 self.new.calls self.new.room }
+        ensures leaves { LeavesRoom self.old self.new }
         ensures whole { IfOk result (λ count. count ≡ length bytes.now) }
         ensures left { self.new.left ≡ (if is_ok result then first_response self.old.responses else self.old.left) }
         ensures responses { self.new.responses ≡ (if is_ok result then responses_after self.old.responses else self.old.responses) }
@@ -169,14 +198,17 @@ impl Link for Wire {
         ensures cause { HasCause (⟦<Wire as Link>⟧.faults self.old) (⟦<Wire as Link>⟧.faults self.new) result }
         ensures quiet { OnOk result (⟦<Wire as Link>⟧.faults self.new ≡ ⟦<Wire as Link>⟧.faults self.old) }
 
-        // A listed receive fails, one where nothing is left, and one that finds no memory; any other gives as much as there
-        // is room for.
+        // A listed receive fails, one where nothing is left, and one that finds no memory: with room the first two alone. Any
+        // other gives as much as there is room for.
         ensures listed { FailsNext self.old.counted → IsErr result }
+        ensures listed_alone { HasRoomFor (min (length into.old) (length self.old.left)) self.old → IsErr result → FailsNext self.old.counted ⊎ (self.old.left ≡ []) }
         ensures nothing { self.old.left ≡ [] → IsErr result }
         ensures counted { CountsCall self.old.counted self.new.counted }
         ensures kept { IsSome self.old.calls → IsOk result → IsSome self.new.calls }
         ensures kept_failed { CanKeep 2 self.old.calls self.old.room → FailsNext self.old.counted ⊎ (self.old.left ≡ []) → IsSome self.new.calls }
+        ensures kept_in_room { HasRoomFor (min (length into.old) (length self.old.left)) self.old → IsSome self.new.calls }
         ensures room { HasRoom 1 self.new.calls self.new.room }
+        ensures leaves { LeavesRoom self.old self.new }
         ensures whole { IfOk result (λ count. count ≡ min (length into.old) (length self.old.left)) }
         ensures given { IfOk result (λ count. into.new ≡ take count self.old.left ++ drop count into.old) }
         ensures left { MatchResult result (λ count. self.new.left ≡ drop count self.old.left) (λ _. self.new.left ≡ self.old.left) }
@@ -209,6 +241,8 @@ impl Link for Wire {
 
         // It takes no memory, and is kept where there is room for it.
         ensures kept { CanKeep 1 self.old.calls self.old.room → IsSome self.new.calls }
+        ensures grows { self.old.room ≤ self.new.room }
+        ensures copies { self.new.copies ≡ self.old.copies }
         ensures counted { self.new.counted ≡ self.old.counted }
         ensures left { self.new.left ≡ self.old.left }
         ensures responses { self.new.responses ≡ self.old.responses }
