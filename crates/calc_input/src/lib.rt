@@ -2,7 +2,7 @@
 //!
 //! An input is at most 1,048,576 bytes in one of two forms: one line of observed volumes, or levels of a tank with its capacity
 //! table and its correction factors. `figures_of_input` has the figures, and its contract says which line a refusal names, in the
-//! words of the rule (`specs/RefusedLine.antt`). Lines are numbered from 1. docs/definitions.md has the two forms.
+//! words of the rule (`specs/RefusedLine.antt`). Lines are numbered from 1. docs/machine.md has the two forms.
 #![tactic(auto)]
 
 mod answer;

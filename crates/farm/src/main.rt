@@ -1,6 +1,6 @@
 //! `farm`, the custody desk of a tank terminal.
 //!
-//! `main` hands the real ports and the real disk to `farm_run::run`, which does all that the program does. docs/definitions.md states what
+//! `main` hands the real ports and the real disk to `farm_run::run`, which does all that the program does. docs/machine.md states what
 //! each command reads and prints.
 #![tactic(auto)]
 

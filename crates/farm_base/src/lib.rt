@@ -1,7 +1,7 @@
 //! The words that every crate of the custody desk shares: counts of faults, what an object is known to hold, steps that may
 //! fail, blanks and digits, a list that clauses see as a list, and `NoMemory`, the one answer whose cause no clause states.
 //!
-//! The definitions stand in `specs/`; docs/definitions.md reads them aloud. `laws` states what follows from them.
+//! The definitions stand in `specs/`; docs/machine.md reads them aloud. `laws` states what follows from them.
 #![tactic(auto)]
 
 mod bytes;

@@ -1,7 +1,7 @@
 //! The quantities of the custody desk: whole numbers of a unit, each in the range of its type, with one text.
 //!
 //! A quantity is a number of units of 0.01 C, 0.1 kg/m3, one litre and so on. Its text has the unit's decimals;
-//! docs/definitions.md states the grammar under "Texts of numbers". Nothing here reads or prints a floating-point number.
+//! docs/trade.md states the grammar under "Texts of numbers". Nothing here reads or prints a floating-point number.
 #![tactic(auto)]
 
 mod fault;

@@ -2,7 +2,7 @@
 //!
 //! A history is a site and the list of the commands that were accepted, each stamped with its caller, account, key and moment.
 //! The definitions of `specs/` say of each further command whether it repeats an entry, which rule refuses it, or that it is
-//! accepted; and how an entry is written as bytes. docs/definitions.md reads them aloud under "History", docs/formats.md has
+//! accepted; and how an entry is written as bytes. docs/trade.md reads them aloud under "History", docs/formats.md has
 //! the bytes of an entry and the table of rules. Nothing here takes memory but `Entry::write`.
 #![tactic(auto)]
 

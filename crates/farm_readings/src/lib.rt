@@ -1,7 +1,7 @@
 //! Manual gauging: the reading of two or three tapes, the innage of an outage, the mean of temperatures.
 //!
 //! Heights are whole millimetres (`Mm`), temperatures hundredths of a degree Celsius (`Centi`). The rules are in the manner
-//! of API MPMS 3.1A; docs/definitions.md states them under "Readings". Nothing here takes memory.
+//! of API MPMS 3.1A; docs/trade.md states them under "Readings". Nothing here takes memory.
 #![tactic(auto)]
 
 mod datum;

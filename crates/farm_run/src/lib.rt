@@ -1,7 +1,7 @@
 //! The runs of the program's commands over the ports and the disk that they are handed.
 //!
 //! `run` does all that the program does; `main` hands it the real ports and the real disk. Its contract is one record a command
-//! (`specs/`), over what the ports and the disk are known to hold and the counts of their faults. docs/definitions.md says what each
+//! (`specs/`), over what the ports and the disk are known to hold and the counts of their faults. docs/machine.md says what each
 //! command reads and prints, docs/operating.md has the statuses.
 #![tactic(auto)]
 

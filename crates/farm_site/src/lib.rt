@@ -1,8 +1,8 @@
 //! The site: what a terminal's folder says of its products, parties, tanks and gauge lines.
 //!
 //! `Site::read` reads `site.toml` and the files that it names, and answers the site or the first fault, by code, item and
-//! detail. docs/formats.md has each key, its range and its fault; docs/definitions.md has the order in which they are
-//! looked at, under "Site".
+//! detail. docs/formats.md has each key, its range and its fault, and the order in which they are looked at; docs/trade.md
+//! says what a site is, under "Site".
 #![tactic(auto)]
 
 mod decoding;

@@ -1,6 +1,6 @@
 //! Tickets: what moved on each side of a movement, and the line that a ticket is printed as.
 //!
-//! Volumes are whole litres and masses whole kilograms. docs/definitions.md states the rules under "Movements and tickets",
+//! Volumes are whole litres and masses whole kilograms. docs/trade.md states the rules under "Movements and tickets",
 //! docs/formats.md the line under "The ticket line".
 #![tactic(auto)]
 

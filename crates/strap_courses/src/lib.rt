@@ -2,7 +2,7 @@
 //!
 //! Heights are whole millimetres (`Mm`) above the datum plate, circumferences, deductions and thicknesses tenths of one
 //! (`Deci`), volumes whole litres. The volume of a course is that of a circle of its mean internal circumference, after
-//! ISO 7507-1, with pi as 355 / 113. docs/definitions.md states it under "Strapped table".
+//! ISO 7507-1, with pi as 355 / 113. docs/trade.md states it under "Strapped table".
 #![tactic(auto)]
 
 mod bottom;

@@ -1,7 +1,7 @@
 //! The capacity table of a tank, and the tank that it belongs to: from a height to a volume.
 //!
 //! Heights are whole millimetres (`Mm`) above the datum plate, volumes whole litres (`Litres`). A table has one row each 10 mm,
-//! from 0 mm on; between two rows a volume is interpolated and rounded. docs/definitions.md states it under "Capacity table".
+//! from 0 mm on; between two rows a volume is interpolated and rounded. docs/trade.md states it under "Capacity table".
 #![tactic(auto)]
 
 mod faults;
