@@ -5,7 +5,7 @@ ghost use Rattle.farm_fixed.specs.Range.{IsWithin};
 ghost use Rattle.farm_rounding.specs.Table.{usual_rows};
 ghost use Rattle.farm_chain.specs.Reading.{IsFloatingRoof, calculated_quantities};
 ghost use Rattle.calc_input.specs.declared.refusal.Refused.{Refused};
-ghost use Rattle.calc_input.specs.declared.answer.Unanswered.TheVariants as variants;
+ghost use Rattle.calc_input.specs.declared.answer.NoFigures.TheVariants as variants;
 ghost use Rattle.calc_input.specs.VolumesLine.{IsCalculable};
 ghost use Rattle.calc_input.specs.LevelsLine.{IsGauged};
 ghost use Rattle.calc_input.specs.Forms.{CanBeCalculated};
@@ -30,26 +30,26 @@ pub const MOST_INPUT_BYTES: usize = 1_048_576;
 
 /// Why there are no figures.
 #[derive(Clone, Copy, Debug, PartialEq, Eq)]
-pub enum Unanswered {
+pub enum NoFigures {
     /// There was no memory.
     NoMemory,
     /// The input is refused.
     Refused(Refused),
 }
 
-impl From<AllocError> for Unanswered {
+impl From<AllocError> for NoFigures {
     ghost from_gives = { λ _ e. e ≡ variants.NoMemory };
 
     fn from(_: AllocError) -> Self {
-        Unanswered::NoMemory
+        NoFigures::NoMemory
     }
 }
 
-impl From<NoMemory> for Unanswered {
+impl From<NoMemory> for NoFigures {
     ghost from_gives = { λ _ e. e ≡ variants.NoMemory };
 
     fn from(_: NoMemory) -> Self {
-        Unanswered::NoMemory
+        NoFigures::NoMemory
     }
 }
 
@@ -57,11 +57,11 @@ impl From<NoMemory> for Unanswered {
 ///
 /// An input over the limit is refused at the line of the first byte over it, or at an earlier line that is out of form. A front of
 /// an input that holds one byte more than the limit has the refusal of the whole input.
-pub fn figures_of_input(alloc: Global, bytes: &[u8]) -> Result<Quantities, Unanswered>
+pub fn figures_of_input(alloc: Global, bytes: &[u8]) -> Result<Quantities, NoFigures>
     ensures figures { IfOk result (λ figures. answer_of bytes.now ≡ Ok figures) }
-    ensures refused { (why : Refused) → result ≡ Err (Unanswered.Refused why) → answer_of bytes.now ≡ Err why }
+    ensures refused { (why : Refused) → result ≡ Err (NoFigures.Refused why) → answer_of bytes.now ≡ Err why }
     ensures in_form { IfOk result (λ figures. AreInForm bytes.now) }
-    ensures refused_line { (why : Refused) → result ≡ Err (Unanswered.Refused why) → IsRefusal bytes.now why.line why.cause }
+    ensures refused_line { (why : Refused) → result ≡ Err (NoFigures.Refused why) → IsRefusal bytes.now why.line why.cause }
 {
     answer_of(alloc, bytes)
 }
@@ -74,9 +74,9 @@ pub fn laws()
 
 // The figures of an input, or its refusal, by the lines of the input.
 #[tactic(auto, unfolding(crate::specs::Answer::answer_of))]
-fn answer_of(alloc: Global, bytes: &[u8]) -> Result<Quantities, Unanswered>
+fn answer_of(alloc: Global, bytes: &[u8]) -> Result<Quantities, NoFigures>
     ensures figures { IfOk result (λ figures. answer_of bytes.now ≡ Ok figures) }
-    ensures refused { (why : Refused) → result ≡ Err (Unanswered.Refused why) → answer_of bytes.now ≡ Err why }
+    ensures refused { (why : Refused) → result ≡ Err (NoFigures.Refused why) → answer_of bytes.now ≡ Err why }
 {
     if bytes.len() > MOST_INPUT_BYTES {
         let line = over_line(alloc, bytes)?;
@@ -84,16 +84,16 @@ fn answer_of(alloc: Global, bytes: &[u8]) -> Result<Quantities, Unanswered>
     }
     match Input::of_bytes(alloc, bytes) {
         Ok(input) => figures_of_form(&input),
-        Err(FormFault::NoMemory) => Err(Unanswered::NoMemory),
+        Err(FormFault::NoMemory) => Err(NoFigures::NoMemory),
         Err(FormFault::Line(line)) => Err(refused_at(line, Cause::Form)),
     }
 }
 
 // The figures of a form, or the refusal of its last line by the calculation.
-fn figures_of_form(input: &Input) -> Result<Quantities, Unanswered>
+fn figures_of_form(input: &Input) -> Result<Quantities, NoFigures>
     requires { CanBeCalculated input.now }
     ensures figures { IfOk result (λ figures. figures_or_refused (last_line input.now) (figures_of_form input.now) ≡ Ok figures) }
-    ensures refused { (why : Refused) → result ≡ Err (Unanswered.Refused why) → figures_or_refused (last_line input.now) (figures_of_form input.now) ≡ Err why }
+    ensures refused { (why : Refused) → result ≡ Err (NoFigures.Refused why) → figures_or_refused (last_line input.now) (figures_of_form input.now) ≡ Err why }
 {
     match calculated(input) {
         Ok(figures) => Ok(figures),
@@ -113,7 +113,7 @@ fn last_line(input: &Input) -> usize
 
 // Where an input over the limit is refused: at the line of the first byte over it, or at one before that is out of form.
 #[tactic(auto, unfolding(crate::specs::Answer::over_line))]
-fn over_line(alloc: Global, bytes: &[u8]) -> Result<usize, Unanswered>
+fn over_line(alloc: Global, bytes: &[u8]) -> Result<usize, NoFigures>
     requires { MOST_INPUT_BYTES ≤ length bytes.now }
     ensures { MatchResult result (λ line. line ≡ over_line bytes.now) (λ fault. fault ≡ variants.NoMemory) }
 {
@@ -121,7 +121,7 @@ fn over_line(alloc: Global, bytes: &[u8]) -> Result<usize, Unanswered>
     let over = line_feeds(front) + 1;
     match Input::of_bytes(alloc, front) {
         Ok(_) => Ok(over),
-        Err(FormFault::NoMemory) => Err(Unanswered::NoMemory),
+        Err(FormFault::NoMemory) => Err(NoFigures::NoMemory),
         Err(FormFault::Line(line)) => Ok(line.min(over)),
     }
 }
@@ -202,10 +202,10 @@ fn figures_of_volumes(volumes: &Volumes) -> Result<Quantities, ChainRule>
 }
 
 // A refusal at this line.
-fn refused_at(line: usize, cause: Cause) -> Unanswered
-    ensures { result ≡ Unanswered.Refused (record { line = line; cause = cause }) }
+fn refused_at(line: usize, cause: Cause) -> NoFigures
+    ensures { result ≡ NoFigures.Refused (record { line = line; cause = cause }) }
 {
-    Unanswered::Refused(Refused {
+    NoFigures::Refused(Refused {
         line: line as u64,
         cause,
     })

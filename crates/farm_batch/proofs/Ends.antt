@@ -11,7 +11,7 @@ use Rattle.farm_desk.specs.States.{DeskState}
 use Rattle.farm_batch.specs.declared.batch.BatchEnd.{BatchEnd}
 use Rattle.farm_batch.specs.declared.batch.BatchEnd.TheVariants.{Done, Long, Failed}
 use Rattle.farm_batch.specs.declared.limits.TheConstants.{MOST_LINES}
-use Rattle.farm_batch.specs.Answers.{IsCutAtLast, Step, answer_text, answers_text}
+use Rattle.farm_batch.specs.LineAnswers.{IsCutAtLast, Step, answer_text, answers_text}
 use Rattle.farm_batch.specs.Batches.{Answers, Batch, EndsAs, TakesLines, lines_of}
 use Rattle.farm_batch.proofs.MoreSteps.{goes_on-more, length-more}
 use Rattle.farm_batch.proofs.SoFar.{SoFar, WithStep, counts, put_more, risen_since, with_step}

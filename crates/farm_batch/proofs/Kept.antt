@@ -2,7 +2,7 @@
 use Rattle.std.proofs.Common.{ℕ, List, Option, refl, ◌∙◌, arith}
 use Rattle.farm_disk.specs.Images.{State}
 use Rattle.farm_disk.proofs.Extending.{extends_more}
-use Rattle.farm_records.proofs.Traces.{extends_same}
+use Rattle.journaled_book.proofs.Traces.{extends_same}
 use Rattle.farm_desk.specs.States.{DeskState}
 use Rattle.farm_batch.specs.Desks.{KeepsDesk}
 

@@ -1,8 +1,8 @@
 -- What an answer has to be so that it meets the one that is meant.
 use Rattle.std.proofs.Common.{◌≡◌, ◌⊎◌, inl, inr, ℕ, ◌<◌, nat_lt, Bool, true, false, cond, ◌&&◌, List, [], ◌∷◌, length, length-append, Option, None, Some, ℤ, refl, sym, ap, subst, ◌∙◌, arith}
 use Rattle.std.proofs.lemmas.Bool.{le-ltb, lt-ltb}
-use Rattle.farm_records.specs.Answers.{IsAnswered}
-use Rattle.farm_records.specs.declared.answer.Answer.TheVariants as answers
+use Rattle.journaled_book.specs.Replies.{IsAnswered}
+use Rattle.journaled_book.specs.declared.answer.Answer.TheVariants as answers
 use Rattle.farm_history.specs.declared.ask.Ask.{Ask}
 use Rattle.farm_history.specs.declared.ask.Ask.TheVariants.{Do, Look}
 use Rattle.farm_history.specs.declared.entry.Entry.{Entry}
@@ -19,7 +19,7 @@ use Rattle.farm_http.specs.declared.page.Page.TheVariants as pages
 use Rattle.batch_lines.specs.Reader.{kept}
 use Rattle.batch_lines.specs.declared.limits.TheConstants.{LONGEST_LINE}
 use Rattle.farm_batch.specs.declared.limits.TheConstants.{BATCH_CALLER}
-use Rattle.farm_batch.specs.Answers.{LineAnswer, MeetsLine, answer_to, disk_fault, is_accepted_stop, is_stop_ask, line_answer, line_too_long, out_of_memory, unasked}
+use Rattle.farm_batch.specs.LineAnswers.{LineAnswer, MeetsLine, answer_to, disk_fault, is_accepted_stop, is_stop_ask, line_answer, line_too_long, out_of_memory, unasked}
 
 -- a page, the history that was left and whether the batch ends are those of an answer
 pub record IsMeant (meant : LineAnswer) (after : History) (page : Page) (stops : Bool) : Type 0 where

@@ -21,7 +21,7 @@ use Rattle.batch_lines.specs.declared.limits.TheConstants.{LONGEST_LINE}
 use Rattle.farm_batch.specs.declared.limits.TheConstants.{BATCH_CALLER}
 use Rattle.farm_batch.proofs.Timeless.{place_of_image, without_moment, without_moments}
 use Rattle.farm_batch.proofs.TimelessRules.{same_by_command, same_look, same_reply}
-use Rattle.farm_batch.specs.Answers.{LineAnswer, answer_to, line_answer, line_too_long, unasked}
+use Rattle.farm_batch.specs.LineAnswers.{LineAnswer, answer_to, line_answer, line_too_long, unasked}
 
 -- the answer to a line, with the history that it leaves at moment 0
 abbrev pub without_clock : LineAnswer → LineAnswer

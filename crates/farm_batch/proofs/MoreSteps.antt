@@ -8,7 +8,7 @@ use Rattle.batch_lines.specs.Lines.{ended}
 use Rattle.farm_base.proofs.Rises.{faults_add_up}
 use Rattle.farm_base.specs.Counts.{raised}
 use Rattle.farm_history.specs.History.{History, last_place}
-use Rattle.farm_batch.specs.Answers.{AnswersEach, AnswersLine, AreAcknowledged, AsksNothing, IsReply, Step, answer_text, answers_text, faults_in, faults_on_page, history_after}
+use Rattle.farm_batch.specs.LineAnswers.{AnswersEach, AnswersLine, AreAcknowledged, AsksNothing, IsReply, Step, answer_text, answers_text, faults_in, faults_on_page, history_after}
 use Rattle.farm_batch.specs.Batches.{GoesOn, lines_of}
 
 -- the lines of steps and of one more

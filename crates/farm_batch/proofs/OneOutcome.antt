@@ -11,7 +11,7 @@ use Rattle.batch_lines.specs.Reader.{AtEnd}
 use Rattle.farm_batch.specs.declared.batch.BatchEnd.{BatchEnd}
 use Rattle.farm_batch.specs.declared.batch.BatchEnd.TheVariants.{Done, Long, Failed}
 use Rattle.farm_batch.specs.declared.limits.TheConstants.{MOST_LINES}
-use Rattle.farm_batch.specs.Answers.{Step, answers_text}
+use Rattle.farm_batch.specs.LineAnswers.{Step, answers_text}
 use Rattle.farm_batch.specs.Batches.{Asks, EndsAs, IsTooMuch, lines_of}
 use Rattle.farm_batch.specs.Outcomes.{OutcomesAreOne, WereAnswered, ends_here, is_too_much, outcome, outcome_from, size_of}
 use Rattle.farm_batch.proofs.LineParts.{BeginsLine, begins_line, has_part, part_alone, parts_of_lines}

@@ -4,7 +4,7 @@ use Rattle.std.proofs.lemmas.List.Elements.{All-head, All-tail}
 use Rattle.farm_history.specs.History.{History}
 use Rattle.farm_batch.specs.declared.batch.BatchEnd.{BatchEnd}
 use Rattle.farm_batch.specs.declared.batch.BatchEnd.TheVariants.{Done}
-use Rattle.farm_batch.specs.Answers.{AnswersEach, AnswersLine, EndsInStop, LineAnswer, Step, answer_text, answers_text, disk_fault, line_answer, out_of_memory}
+use Rattle.farm_batch.specs.LineAnswers.{AnswersEach, AnswersLine, EndsInStop, LineAnswer, Step, answer_text, answers_text, disk_fault, line_answer, out_of_memory}
 use Rattle.farm_batch.specs.Batches.{GoesOn, lines_of}
 use Rattle.farm_batch.specs.Outcomes.{Outcome, WereAnswered, is_no_line, is_too_much, outcome_from, printed_before, size_of}
 use Rattle.farm_batch.proofs.Moments.{same_answer}

@@ -1,15 +1,15 @@
 -- The page of what the desk answered: what it meets, how many faults it is, and what is acknowledged by it.
 use Rattle.std.proofs.Common.{◌≡◌, ◌≢◌, inl, inr, ℕ, ◌≤◌, nat_lt, Bool, ◌&&◌, Some, ℤ, refl, sym, subst, arith}
 use Rattle.farm_base.specs.Counts.{raised}
-use Rattle.farm_records.specs.Answers.{IsAnswered}
-use Rattle.farm_records.specs.Histories.{certain}
-use Rattle.farm_records.specs.declared.answer.Answer.{Answer}
-use Rattle.farm_records.specs.declared.answer.Answer.TheVariants as answers
+use Rattle.journaled_book.specs.Replies.{IsAnswered}
+use Rattle.journaled_book.specs.Histories.{certain}
+use Rattle.journaled_book.specs.declared.answer.Answer.{Answer}
+use Rattle.journaled_book.specs.declared.answer.Answer.TheVariants as answers
 use Rattle.farm_history.specs.declared.ask.Ask.{Ask}
 use Rattle.farm_history.specs.Desk.{Answered, desk_answer}
 use Rattle.farm_history.specs.History.{History, last_place}
 use Rattle.farm_batch.specs.declared.limits.TheConstants.{BATCH_CALLER}
-use Rattle.farm_batch.specs.Answers.{IsReply, MeetsLine, answer_to, ends_with, faults_on_page, is_stop_ask, page_of}
+use Rattle.farm_batch.specs.LineAnswers.{IsReply, MeetsLine, answer_to, ends_with, faults_on_page, is_stop_ask, page_of}
 use Rattle.farm_batch.proofs.Meant.{done_is_meant, meets, meets_fault, meets_memory}
 
 -- the page of what the desk answered meets what is meant

@@ -4,14 +4,14 @@ use Rattle.std.proofs.lemmas.Bool.{eqb-true}
 use Rattle.farm_base.proofs.BoolTests.{cases_Bool}
 use Rattle.farm_base.specs.Counts.{Count, HasRisen, raised}
 use Rattle.farm_base.specs.Known.{Adds}
-use Rattle.farm_records.specs.Histories.{certain}
+use Rattle.journaled_book.specs.Histories.{certain}
 use Rattle.farm_desk.specs.States.{DeskState}
 use Rattle.farm_history.specs.History.{History, last_place}
 use Rattle.farm_http.specs.declared.page.Page.{Page}
 use Rattle.farm_http.specs.declared.page.Page.TheVariants as pages
 use Rattle.farm_batch.specs.declared.batch.BatchEnd.{BatchEnd}
 use Rattle.farm_batch.specs.declared.batch.BatchEnd.TheVariants.{Done, Failed}
-use Rattle.farm_batch.specs.Answers.{AsksNothing, IsReply, LineAnswer, MeetsLine, Step, answer_text, disk_fault, faults_on_page, line_answer, out_of_memory}
+use Rattle.farm_batch.specs.LineAnswers.{AsksNothing, IsReply, LineAnswer, MeetsLine, Step, answer_text, disk_fault, faults_on_page, line_answer, out_of_memory}
 use Rattle.farm_batch.specs.Batches.{Answers, MayBePut, PutsPage, PutsStep}
 
 -- the step of a line

@@ -6,11 +6,11 @@ use Rattle.farm_base.specs.Counts.{Count, IsQuiet, Rose, raised}
 use Rattle.farm_base.specs.Known.{Adds, Stream}
 use Rattle.farm_base.proofs.Additions.{additions_add_up}
 use Rattle.batch_lines.specs.Reader.{ReaderState, ReadsLine}
-use Rattle.farm_records.specs.Histories.{certain}
+use Rattle.journaled_book.specs.Histories.{certain}
 use Rattle.farm_desk.specs.States.{DeskState}
 use Rattle.farm_history.specs.History.{History, last_place}
 use Rattle.farm_batch.specs.declared.batch.BatchEnd.{BatchEnd}
-use Rattle.farm_batch.specs.Answers.{AnswersEach, AnswersLine, AreAcknowledged, AsksNothing, IsReply, Step, answer_text, answers_text, faults_in, history_after}
+use Rattle.farm_batch.specs.LineAnswers.{AnswersEach, AnswersLine, AreAcknowledged, AsksNothing, IsReply, Step, answer_text, answers_text, faults_in, history_after}
 use Rattle.farm_batch.specs.Batches.{Answers, GoesOn, lines_of}
 use Rattle.farm_batch.proofs.MoreSteps.{acknowledged_more, answers_more, answers_text-more, ask_nothing_more, counted_more, goes_on-more, history_after-more, length-more, lines_of-more}
 use Rattle.farm_batch.proofs.Taken.{IsRead, read_line, read_none}

@@ -2,14 +2,14 @@
 use Rattle.std.specs.Prelude.{◌≡◌, ◌≢◌, ◌⊎◌, ℕ, ◌+◌, ◌≤◌, All, true, false, Bool, List, [], length, take, map, Option, None, Some, Result, Ok, Err, ℤ}
 use Rattle.farm_base.specs.Counts.{Count, HasRisen, IsQuiet, raised}
 use Rattle.farm_base.specs.Known.{Adds, Stream, Takes}
-use Rattle.farm_records.specs.Histories.{certain}
+use Rattle.journaled_book.specs.Histories.{certain}
 use Rattle.farm_desk.specs.States.{DeskState}
 use Rattle.farm_history.specs.History.{History, last_place}
 use Rattle.farm_batch.specs.declared.batch.BatchEnd.{BatchEnd}
 use Rattle.farm_batch.specs.declared.batch.BatchEnd.TheVariants.{Done, Long, Failed}
 use Rattle.farm_batch.specs.Limits.{most_lines}
 use Rattle.farm_http.specs.declared.page.Page.{Page}
-use Rattle.farm_batch.specs.Answers.{AnswersEach, AnswersLine, AreAcknowledged, AsksNothing, EndsInStop, IsCutAtLast, IsReply, Step, answer_text, answers_text, disk_fault, faults_in, faults_on_page, history_after, out_of_memory}
+use Rattle.farm_batch.specs.LineAnswers.{AnswersEach, AnswersLine, AreAcknowledged, AsksNothing, EndsInStop, IsCutAtLast, IsReply, Step, answer_text, answers_text, disk_fault, faults_in, faults_on_page, history_after, out_of_memory}
 use Rattle.batch_lines.specs.Limits.{most_bytes}
 use Rattle.batch_lines.specs.Lines.{BeginsWith, EndsWithin, HasByteTooMany, ended}
 use Rattle.batch_lines.specs.Reader.{AtEnd}

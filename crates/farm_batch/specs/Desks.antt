@@ -3,7 +3,7 @@ use Rattle.std.specs.Prelude.{◌≡◌, ℕ, ◌≤◌, List, Option}
 use Rattle.farm_disk.specs.Images.{State}
 use Rattle.farm_disk.specs.Runs.{Extends}
 use Rattle.farm_desk.specs.Asking.{KeepsAcknowledged}
-use Rattle.farm_records.specs.Histories.{certain}
+use Rattle.journaled_book.specs.Histories.{certain}
 use Rattle.farm_desk.specs.States.{DeskState}
 
 -- From a desk to a desk: it stands as it was made, what a crash left on its disk at a moment it leaves, no fewer of its entries aren't in

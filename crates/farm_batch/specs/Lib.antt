@@ -1,6 +1,6 @@
 -- The definitions of `farm_batch`, by subject.
 pub mod Limits
-pub mod Answers
+pub mod LineAnswers
 pub mod Batches
 pub mod Desks
 pub mod Outcomes

@@ -9,7 +9,7 @@ use Rattle.batch_lines.specs.Limits.{line_feed, most_bytes}
 use Rattle.farm_batch.specs.declared.batch.BatchEnd.{BatchEnd}
 use Rattle.farm_batch.specs.declared.batch.BatchEnd.TheVariants.{Done, Long, Failed}
 use Rattle.farm_batch.specs.Limits.{most_lines}
-use Rattle.farm_batch.specs.Answers.{LineAnswer, Step, answer_text, answers_text, disk_fault, line_answer, out_of_memory}
+use Rattle.farm_batch.specs.LineAnswers.{LineAnswer, Step, answer_text, answers_text, disk_fault, line_answer, out_of_memory}
 use Rattle.farm_batch.specs.Batches.{Asks, EndsAs}
 
 -- what is printed, and how the batch ends

@@ -2,8 +2,8 @@
 
 ghost use Rattle.std.specs.Prelude.{◌≡◌, ◌≢◌, ◌≤◌, ℕ, List, Some, option_map, IfOk, IsFalse, IsTrue, OnErr, OnOk};
 ghost use Rattle.farm_base.specs.Counts.{HasCause, count_of};
-ghost use Rattle.farm_http.specs.Answers.{IsAnswer};
-ghost use Rattle.farm_batch.specs.Answers.{answer_text, disk_fault};
+ghost use Rattle.farm_http.specs.Bodies.{IsAnswer};
+ghost use Rattle.farm_batch.specs.LineAnswers.{answer_text, disk_fault};
 ghost use Rattle.farm_batch.specs.Desks.{KeepsDesk};
 ghost use Rattle.batch_lines.specs.Reader.{kept};
 ghost use Rattle.farm_batch.specs.Batches.{Answers, Batch, PutsPage};

@@ -23,7 +23,7 @@ use Rattle.farm_history.specs.Sites.{AreComputable, AreRising}
 use Rattle.farm_history.specs.Verdicts.{IsNext, verdict}
 use Rattle.farm_history.proofs.Accepted.{unbroken}
 use Rattle.farm_history.proofs.Legal.{empty_is_legal, with_next}
-use Rattle.farm_entries.specs.Pasts.{IsInRange, IsReadable}
+use Rattle.history_lookups.specs.Pasts.{IsInRange, IsReadable}
 use Rattle.farm_book.specs.Kept.{IsSound}
 
 -- a history that isn't full

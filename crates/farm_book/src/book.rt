@@ -5,7 +5,7 @@ ghost use Rattle.farm_stock.specs.Books.{plus};
 ghost use Rattle.farm_stock.specs.Postings.{amount_of, at_tank};
 ghost use Rattle.farm_book.specs.Kept.{IsSound};
 ghost use Rattle.farm_book.specs.Replies.{IsGainReply, IsStockReply, IsTicketReply, IsTotalReply, IssuesAt, SettlesAt};
-ghost use Rattle.farm_entries.specs.Pasts.{IsReadable, history_of};
+ghost use Rattle.history_lookups.specs.Pasts.{IsReadable, history_of};
 ghost use Rattle.farm_history.specs.Commands.{is_settle, issues_ticket};
 ghost use Rattle.farm_history.specs.Conservation.{Moves};
 ghost use Rattle.farm_history.specs.Desk.{looked_up, reply_at};
@@ -20,9 +20,9 @@ ghost use Rattle.farm_site.specs.Sites.{described};
 use crate::judging::verdict_of;
 use crate::tables::table_facts;
 use farm_base::NoMemory;
-use farm_entries::Past;
 use farm_history::{Entry, Query, Reply, Rule, Verdict, laws};
 use farm_site::Site;
+use history_lookups::Past;
 use std::alloc::Global;
 use std::marker::Model;
 
@@ -38,7 +38,7 @@ pub struct Book<const LIMIT: usize> {
 impl<const LIMIT: usize> Model for Book<LIMIT> {
     ghost use Rattle.std.specs.Prelude.{◌-◌, vec_capacity, vec_len};
     ghost use Rattle.farm_book.specs.Kept.{IsSound, Kept};
-    ghost use Rattle.farm_entries.specs.Pasts.{history_of};
+    ghost use Rattle.history_lookups.specs.Pasts.{history_of};
 
     ghost Value = { Kept };
 

@@ -3,15 +3,15 @@
 ghost use Rattle.std.specs.Prelude.{◌≡◌, Bool};
 ghost use Rattle.std.specs.List.{list_any};
 ghost use Rattle.farm_book.specs.Refusals.{passes};
-ghost use Rattle.farm_entries.specs.Pairs.{listed, listed_one};
-ghost use Rattle.farm_entries.specs.Pasts.{IsReadable, history_of};
+ghost use Rattle.history_lookups.specs.Pairs.{listed, listed_one};
+ghost use Rattle.history_lookups.specs.Pasts.{IsReadable, history_of};
 ghost use Rattle.farm_history.specs.Figures.{calculated_at, named_by};
 ghost use Rattle.farm_history.specs.MovementRules.{is_critical_zone, is_negative, is_no_entry, is_refused_with, wrong_way};
 ghost use Rattle.farm_history.specs.Rules.{broken_by_figures};
 
-use farm_entries::{Pairs, Past, goes_wrong};
 use farm_fixed::ChainRule;
 use farm_history::{Command, Named, Rule};
+use history_lookups::{Pairs, Past, goes_wrong};
 
 /// The first rule that the calculations break which a command asks for.
 #[tactic(auto, unfolding(farm_history::specs::Rules::broken_by_figures, farm_history::specs::MovementRules::no_entry, farm_history::specs::MovementRules::critical_zone, farm_history::specs::MovementRules::negative))]

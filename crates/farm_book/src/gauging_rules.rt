@@ -1,17 +1,17 @@
 //! The rules on a gauging, 6 to 8.
 
 ghost use Rattle.std.specs.Prelude.{◌≡◌, None, option_and_then};
-ghost use Rattle.farm_entries.specs.Pasts.{IsReadable, history_of};
+ghost use Rattle.history_lookups.specs.Pasts.{IsReadable, history_of};
 ghost use Rattle.farm_history.specs.Commands.{IsWellFormedCommand};
 ghost use Rattle.farm_history.specs.Fields.{first_bad_field};
 ghost use Rattle.farm_history.specs.Gauging.{gauging_after, gauging_in};
 ghost use Rattle.farm_history.specs.Rules.{refused_gauging, refused_reading};
 
-use farm_entries::{Past, gauged, tank_of};
 use farm_fixed::Reading;
 use farm_history::{Command, Rule};
 use farm_rounding::RoundTable;
 use farm_site::Tank;
+use history_lookups::{Past, gauged, tank_of};
 use strap_table::CapTable;
 
 /// Why a gauging is refused. `None` where it isn't refused, and for a command that is no gauging of a tank of the site.

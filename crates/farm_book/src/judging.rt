@@ -3,7 +3,7 @@
 ghost use Rattle.std.specs.Prelude.{◌≡◌, ◌+◌, ◌≤◌, ℕ, if◌then◌else◌, IfSome, None, Some, length};
 ghost use Rattle.std.specs.List.{list_any};
 ghost use Rattle.farm_base.specs.Steps.{or_else};
-ghost use Rattle.farm_entries.specs.Pasts.{IsReadable, history_of};
+ghost use Rattle.history_lookups.specs.Pasts.{IsReadable, history_of};
 ghost use Rattle.farm_history.specs.Commands.{IsWellFormedCommand, is_same_command, tanks_given};
 ghost use Rattle.farm_history.specs.History.{tank_after};
 ghost use Rattle.farm_history.specs.Places.{first_place};
@@ -14,8 +14,8 @@ ghost use Rattle.farm_history.specs.declared.limits.TheConstants.{GREATEST_LIMIT
 use crate::field_rule::first_bad_field;
 use crate::gauging_rules::refused_gauging;
 use crate::movement_rules::{broken_by_movement, unknown_party};
-use farm_entries::Past;
 use farm_history::{Command, Entry, Plan, Rule, STOPS_BEYOND_LIMIT, Verdict};
+use history_lookups::Past;
 
 // Where the account and the key of a further entry stand.
 #[derive(Drop)]

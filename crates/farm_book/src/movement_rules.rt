@@ -2,7 +2,7 @@
 //! breaks it. Rules 13 to 19 stand in `named_rules` and `figure_rules`.
 
 ghost use Rattle.std.specs.Prelude.{◌≡◌};
-ghost use Rattle.farm_entries.specs.Pasts.{IsReadable, history_of};
+ghost use Rattle.history_lookups.specs.Pasts.{IsReadable, history_of};
 ghost use Rattle.farm_history.specs.Commands.{tanks_needed};
 ghost use Rattle.farm_history.specs.Given.{first_given};
 ghost use Rattle.farm_history.specs.MovementRules.{already_reversed, is_closing, movement_named, no_movement, other_product, same_tank, settled, settled_after, settled_later, tank_busy, unknown_party, unknown_ticket};
@@ -10,9 +10,9 @@ ghost use Rattle.farm_history.specs.Movements.{holding_movement};
 ghost use Rattle.farm_history.specs.Rules.{broken_by_movement, broken_by_names, broken_by_ticket};
 
 use crate::named_rules::broken_by_names;
-use farm_entries::Past;
 use farm_history::{Command, Plan, Rule};
 use farm_ticket::Ticket;
+use history_lookups::Past;
 use site_keys::item_numbered;
 
 /// The first rule on movements and tickets that a command breaks.

@@ -2,16 +2,16 @@
 
 ghost use Rattle.std.specs.Prelude.{◌≡◌, not};
 ghost use Rattle.std.specs.List.{list_any};
-ghost use Rattle.farm_entries.specs.Pairs.{listed, listed_one};
-ghost use Rattle.farm_entries.specs.Pasts.{IsReadable, history_of};
+ghost use Rattle.history_lookups.specs.Pairs.{listed, listed_one};
+ghost use Rattle.history_lookups.specs.Pasts.{IsReadable, history_of};
 ghost use Rattle.farm_history.specs.Figures.{named_by};
 ghost use Rattle.farm_history.specs.Given.{first_given};
 ghost use Rattle.farm_history.specs.MovementRules.{has_reading, has_sample, names_each, names_too_few_or_many, stale_for, stale_reading, unknown_reading, unknown_sample};
 ghost use Rattle.farm_history.specs.Rules.{broken_by_figures, broken_by_names};
 
 use crate::figure_rules::broken_by_figures;
-use farm_entries::{Pairs, Past, is_gauging_of, is_sample_of};
 use farm_history::{Command, Gauged, Named, Plan, Rule};
+use history_lookups::{Pairs, Past, is_gauging_of, is_sample_of};
 
 /// The first rule that is broken by what a command names for its tanks.
 #[tactic(auto, unfolding(farm_history::specs::Rules::broken_by_names))]

@@ -2,7 +2,7 @@
 
 use case_files::{CaseFault, read_file};
 use farm_ports::Folder;
-use row_site::row_files;
+use sample_site::row_files;
 use std::alloc::Global;
 
 /// Whether the site `row` of the cases has the files that the worked rows have.

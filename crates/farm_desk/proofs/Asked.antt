@@ -6,26 +6,26 @@ use Rattle.farm_disk.specs.Runs.{EachSince, Extends}
 use Rattle.farm_history.specs.History.{History}
 use Rattle.farm_history.specs.declared.reply.Reply.{Reply}
 use Rattle.farm_journal.specs.Standing.{JournalState}
-use Rattle.farm_records.specs.Answers.{answer_of, faults_of}
+use Rattle.journaled_book.specs.Replies.{answer_of, faults_of}
 use Rattle.farm_desk.specs.Asking.{KeepsAcknowledged, KeepsFront}
-use Rattle.farm_records.specs.Histories.{HasGrown, RecoversFront, certain}
-use Rattle.farm_records.specs.Records.{AreRecords}
+use Rattle.journaled_book.specs.Histories.{HasGrown, RecoversFront, certain}
+use Rattle.journaled_book.specs.Records.{AreRecords}
 use Rattle.farm_desk.specs.States.{DeskState, IsDesk}
-use Rattle.farm_records.specs.declared.answer.Answer.{Answer}
-use Rattle.farm_records.specs.declared.answer.Answer.TheVariants.{Done, DiskFault, NoMemory}
-use Rattle.farm_records.specs.declared.answer.Unanswered.{Unanswered}
-use Rattle.farm_records.specs.declared.answer.Unanswered.TheVariants as unanswered
-use Rattle.farm_records.proofs.Keeping.{acknowledged_since, since_made}
+use Rattle.journaled_book.specs.declared.answer.Answer.{Answer}
+use Rattle.journaled_book.specs.declared.answer.Answer.TheVariants.{Done, DiskFault, NoMemory}
+use Rattle.journaled_book.specs.declared.answer.NoReply.{NoReply}
+use Rattle.journaled_book.specs.declared.answer.NoReply.TheVariants as unanswered
+use Rattle.journaled_book.proofs.Keeping.{acknowledged_since, since_made}
 
 -- what follows from a fault follows where the answer is one
-pub cause_of : (replied : Result Reply Unanswered) (answer : Answer) (P : Type 0) → answer ≡ answer_of replied → (replied ≡ Err unanswered.DiskFault → P) →
+pub cause_of : (replied : Result Reply NoReply) (answer : Answer) (P : Type 0) → answer ≡ answer_of replied → (replied ≡ Err unanswered.DiskFault → P) →
     answer ≡ DiskFault → P
 cause_of (Ok reply) answer P is follows fault = absurd cc
 cause_of (Err unanswered.DiskFault) answer P is follows fault = follows refl
 cause_of (Err unanswered.NoMemory) answer P is follows fault = absurd cc
 
 -- what follows where there was no fault follows where the answer isn't one
-pub quiet_of : (replied : Result Reply Unanswered) (answer : Answer) (P : Type 0) → answer ≡ answer_of replied → (replied ≢ Err unanswered.DiskFault → P) →
+pub quiet_of : (replied : Result Reply NoReply) (answer : Answer) (P : Type 0) → answer ≡ answer_of replied → (replied ≢ Err unanswered.DiskFault → P) →
     answer ≢ DiskFault → P
 quiet_of (Ok reply) answer P is follows none = follows (λ fault. absurd cc)
 quiet_of (Err unanswered.DiskFault) answer P is follows none = absurd (none is)

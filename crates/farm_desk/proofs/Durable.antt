@@ -3,9 +3,9 @@ use Rattle.std.proofs.Common.{◌≡◌, ℕ, List, Option, subst}
 use Rattle.farm_disk.specs.Images.{State}
 use Rattle.farm_disk.specs.Runs.{EachNow}
 use Rattle.farm_journal.specs.Standing.{JournalState}
-use Rattle.farm_records.specs.Histories.{RecoversNow}
+use Rattle.journaled_book.specs.Histories.{RecoversNow}
 use Rattle.farm_desk.specs.States.{DeskState, IsDesk, IsDurable}
-use Rattle.farm_records.proofs.Settling.{records_now}
+use Rattle.journaled_book.proofs.Settling.{records_now}
 
 -- what holds of a desk holds of it under another name
 pub durable : {D : Type 0} (trace : D → Option (List State)) (faults : D → ℕ) (limit : ℕ) (desk : DeskState D) (journal : JournalState D) →

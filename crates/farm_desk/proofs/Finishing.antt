@@ -5,12 +5,12 @@ use Rattle.farm_disk.specs.Images.{State}
 use Rattle.farm_disk.specs.Runs.{EachNow, EachSince, Extends}
 use Rattle.farm_history.specs.History.{History}
 use Rattle.farm_journal.specs.Standing.{JournalState}
-use Rattle.farm_records.specs.Histories.{RecoversFront, RecoversNow, certain}
-use Rattle.farm_records.specs.Moments.{EachFrom}
-use Rattle.farm_records.specs.Records.{AreRecords}
+use Rattle.journaled_book.specs.Histories.{RecoversFront, RecoversNow, certain}
+use Rattle.journaled_book.specs.Moments.{EachFrom}
+use Rattle.journaled_book.specs.Records.{AreRecords}
 use Rattle.farm_desk.specs.States.{DeskState, IsDesk}
-use Rattle.farm_records.proofs.Keeping.{since_made}
-use Rattle.farm_records.proofs.Settling.{records_now}
+use Rattle.journaled_book.proofs.Keeping.{since_made}
+use Rattle.journaled_book.proofs.Settling.{records_now}
 use Rattle.farm_desk.proofs.Counting.{counted_once_more}
 
 module _ {D : Type 0} (trace : D → Option (List State)) (limit : ℕ) (view desk : DeskState D) (same : view ≡ desk) (settled out : D) (is : out ≡ settled) where

@@ -18,11 +18,11 @@ use Rattle.farm_site.specs.Encoding.{IsSite, site_encoding}
 use Rattle.farm_recovery.specs.Accepting.{accepted_next, taken_of}
 use Rattle.farm_recovery.specs.Recovery.{IsRefused}
 use Rattle.farm_desk.specs.Asking.{IsCrashSafe, IsNoneOrEmpty}
-use Rattle.farm_records.specs.Histories.{IsRecordable, Recovers, RecoversFront, entry_encodings}
-use Rattle.farm_records.specs.Moments.{EachFrom}
-use Rattle.farm_records.specs.Records.{AreRecords}
-use Rattle.farm_records.proofs.Growing.{whole_is_front}
-use Rattle.farm_records.proofs.Traces.{from_now, now_weaker, since_now, since_weaker}
+use Rattle.journaled_book.specs.Histories.{IsRecordable, Recovers, RecoversFront, entry_encodings}
+use Rattle.journaled_book.specs.Moments.{EachFrom}
+use Rattle.journaled_book.specs.Records.{AreRecords}
+use Rattle.journaled_book.proofs.Growing.{whole_is_front}
+use Rattle.journaled_book.proofs.Traces.{from_now, now_weaker, since_now, since_weaker}
 
 -- a journal may keep the history of a site without an entry
 pub empty_recordable : (limit : ℕ) (site : Described) → IsSite site → IsRecordable limit (empty_history site)

@@ -6,8 +6,8 @@ use Rattle.farm_history.specs.History.{History, empty_history}
 use Rattle.farm_journal.specs.Limits.{before_header}
 use Rattle.farm_journal.specs.Recovery.{IsNotJournal}
 use Rattle.farm_site.specs.Described.{Described}
-use Rattle.farm_records.specs.Histories.{Recovers, RecoversAtLeast, RecoversFront, certain}
-use Rattle.farm_records.specs.Moments.{EachFrom}
+use Rattle.journaled_book.specs.Histories.{Recovers, RecoversAtLeast, RecoversFront, certain}
+use Rattle.journaled_book.specs.Moments.{EachFrom}
 use Rattle.farm_desk.specs.States.{DeskState}
 
 -- each image that a crash may leave since a call began stands for a front of the history that it left, with at least the entries that

@@ -5,9 +5,9 @@ use Rattle.farm_disk.specs.Images.{State}
 use Rattle.farm_disk.specs.Runs.{EachNow}
 use Rattle.farm_history.specs.History.{History}
 use Rattle.farm_journal.specs.Standing.{JournalState}
-use Rattle.farm_records.specs.Histories.{RecoversFront, RecoversNow, certain}
-use Rattle.farm_records.specs.Moments.{EachFrom}
-use Rattle.farm_records.specs.Records.{AreRecords}
+use Rattle.journaled_book.specs.Histories.{RecoversFront, RecoversNow, certain}
+use Rattle.journaled_book.specs.Moments.{EachFrom}
+use Rattle.journaled_book.specs.Records.{AreRecords}
 use Rattle.farm_desk.specs.declared.opened.Opened.{Opened}
 
 -- A desk: its disk and its history; whether the last entry is in doubt; how many of its answers were faults of the disk; and how it

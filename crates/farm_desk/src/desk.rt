@@ -6,11 +6,11 @@ ghost use Rattle.farm_disk.specs.Runs.{EachNow, Extends};
 ghost use Rattle.farm_history.specs.Desk.{IsWellFormedAsk, desk_answer};
 ghost use Rattle.farm_history.specs.History.{last_place};
 ghost use Rattle.farm_history.specs.declared.limits.TheConstants.{GREATEST_LIMIT};
-ghost use Rattle.farm_records.specs.Answers.{IsAnswered};
+ghost use Rattle.journaled_book.specs.Replies.{IsAnswered};
 ghost use Rattle.farm_desk.specs.Asking.{KeepsAcknowledged, KeepsFront};
-ghost use Rattle.farm_records.specs.Histories.{RecoversFront, RecoversNow, certain};
-ghost use Rattle.farm_records.specs.Moments.{EachFrom};
-ghost use Rattle.farm_records.specs.Records.{AreRecords};
+ghost use Rattle.journaled_book.specs.Histories.{RecoversFront, RecoversNow, certain};
+ghost use Rattle.journaled_book.specs.Moments.{EachFrom};
+ghost use Rattle.journaled_book.specs.Records.{AreRecords};
 ghost use Rattle.farm_desk.specs.States.{IsDurable, IsJustMade};
 
 use crate::{Answer, Opened};
@@ -18,7 +18,7 @@ use farm_book::Book;
 use farm_disk::Disk;
 use farm_history::Ask;
 use farm_journal::Journal;
-use farm_records::{Records, answer_of};
+use journaled_book::{Records, answer_of};
 use std::marker::Model;
 
 /// A custody desk on a disk: a book of at most `LIMIT` entries, and Stops beyond them, and the journal that keeps it.

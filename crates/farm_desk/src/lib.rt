@@ -10,5 +10,5 @@ mod opened;
 
 pub use desk::Desk;
 pub use farm_journal::{CreateFault, RecoverFault};
-pub use farm_records::Answer;
+pub use journaled_book::Answer;
 pub use opened::Opened;

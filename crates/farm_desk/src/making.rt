@@ -11,7 +11,7 @@ ghost use Rattle.farm_journal.specs.Creating.{IsCreateRefusal, WasEmpty};
 ghost use Rattle.farm_site.specs.Encoding.{IsSite, site_encoding};
 ghost use Rattle.farm_site.specs.Sites.{described};
 ghost use Rattle.farm_desk.specs.Asking.{IsCrashSafe};
-ghost use Rattle.farm_records.specs.Histories.{Recovers};
+ghost use Rattle.journaled_book.specs.Histories.{Recovers};
 ghost use Rattle.farm_recovery.specs.Recovery.{IsRefused};
 ghost use Rattle.farm_desk.specs.States.{IsDurable, IsJustMade, disk_left};
 ghost use Rattle.farm_journal.specs.declared.limits.TheConstants.{MAX_BODY};

@@ -7,7 +7,7 @@ use Rattle.farm_stock.specs.Books as stock
 use Rattle.farm_stock.specs.Books.{plus}
 use Rattle.farm_stock.specs.Laws.{AreThere}
 use Rattle.farm_stock.specs.Postings.{added, all_posted, amount_of, at_tank, posted, raised}
-use Rattle.farm_stock.specs.declared.book.Book.{Book}
+use Rattle.farm_stock.specs.declared.book.TankBook.{TankBook}
 use Rattle.farm_stock.specs.declared.posting.Posting.{Posting}
 use Rattle.farm_stock.proofs.AddUp.{books_add_up, totals_add_up}
 use Rattle.site_items.specs.declared.records.Tank.{Tank}
@@ -39,7 +39,7 @@ openings_total [] = refl
 openings_total (tank ∷ tanks) = ap (plus tank.opening) (openings_total tanks)
 
 -- a tank that isn't there isn't there after an amount was added to that of a tank
-absent_added : (at : ℕ) (amount : Amount) (books : List Book) (tank : ℕ) → stock.book_of tank books ≡ None →
+absent_added : (at : ℕ) (amount : Amount) (books : List TankBook) (tank : ℕ) → stock.book_of tank books ≡ None →
     stock.book_of tank (added at amount books) ≡ None
 absent_added at amount [] tank none = refl
 absent_added at amount (book ∷ books) tank none = by (book.tank == at) (book.tank == tank) none (absent_added at amount books tank)
@@ -62,7 +62,7 @@ absent_added at amount (book ∷ books) tank none = by (book.tank == at) (book.t
         later (book.tank == tank) book.amount (stock.book_of tank books) (stock.book_of tank (added at amount books)) none stays
 
 -- nor is it there after postings
-absent_posted : (books : List Book) (postings : List Posting) (tank : ℕ) → stock.book_of tank books ≡ None →
+absent_posted : (books : List TankBook) (postings : List Posting) (tank : ℕ) → stock.book_of tank books ≡ None →
     stock.book_of tank (all_posted books postings) ≡ None
 absent_posted books [] tank none = none
 absent_posted books (posting ∷ postings) tank none =
@@ -85,7 +85,7 @@ book_agrees : (history : History) (tank : ℕ) →
 unfolding book_of tank_after
 book_agrees history number = by (tank_numbered number history.site.tanks) refl
   where
-    openings : List Book
+    openings : List TankBook
     openings = opening_books history.site.tanks
 
     by : (found : Option Tank) → tank_numbered number history.site.tanks ≡ found →

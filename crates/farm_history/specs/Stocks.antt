@@ -3,7 +3,7 @@ use Rattle.std.specs.Prelude.{◌≡◌, ℕ, ◌-◌, List, map, Option, Some, 
 use Rattle.farm_fixed.specs.declared.records.Amount.{Amount}
 use Rattle.farm_fixed.specs.declared.records.Quantities.{Quantities}
 use Rattle.farm_stock.specs.Books.{opened, sum_of}
-use Rattle.farm_stock.specs.declared.book.Book.{Book}
+use Rattle.farm_stock.specs.declared.book.TankBook.{TankBook}
 use Rattle.farm_stock.specs.declared.posting.Posting.{Posting}
 use Rattle.site_items.specs.declared.records.Tank.{Tank}
 use Rattle.farm_history.specs.declared.command.Command.{Command}
@@ -50,7 +50,7 @@ pub record IsGainAt (history : History) (place : ℕ) (gain : Amount) : Type 0 w
   pub kg : book.kg +ℤ gain.kg ≡ figures.mass
 
 -- the books of tanks before the first posting, as a stock has them
-abbrev pub opening_books : List Tank → List Book
+abbrev pub opening_books : List Tank → List TankBook
 opening_books tanks = opened (map (λ tank. (tank.number, tank.opening)) tanks)
 
 -- the place of the last reading of a tank: of a gauge's reading or a dip

@@ -17,7 +17,7 @@ use Rattle.farm_site.specs.Decoding.{whole_site}
 use Rattle.farm_site.specs.Described.{Described}
 use Rattle.farm_site.proofs.BytesRead.{PartsAreRead, site_found, site_only}
 use Rattle.farm_recovery.specs.Accepting.{accepted_next, is_next, taken_of}
-use Rattle.farm_records.specs.Histories.{IsRecordable}
+use Rattle.journaled_book.specs.Histories.{IsRecordable}
 use Rattle.farm_recovery.specs.Recovery.{IsSiteEncoding}
 use Rattle.farm_recovery.proofs.Decoded.{decoded}
 

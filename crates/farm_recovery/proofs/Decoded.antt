@@ -12,7 +12,7 @@ use Rattle.farm_site.specs.Decoding.{whole_site}
 use Rattle.farm_site.specs.Encoding.{site_encoding}
 use Rattle.farm_site.proofs.BytesRead.{PartsAreRead, site_only}
 use Rattle.farm_recovery.specs.Accepting.{after, entries_of, history_with}
-use Rattle.farm_records.specs.Histories.{IsRecordable, entry_encodings}
+use Rattle.journaled_book.specs.Histories.{IsRecordable, entry_encodings}
 
 -- each entry of a legal history is well formed
 entries_well_formed : (limit : ℕ) (history : History) → IsLegal limit history → All IsWellFormed history.entries

@@ -15,10 +15,10 @@ use Rattle.farm_site.specs.Described.{Described}
 use Rattle.farm_site.specs.Encoding.{IsSite, site_encoding}
 use Rattle.farm_site.proofs.BytesRead.{PartsAreRead}
 use Rattle.farm_recovery.specs.Accepting.{accepted_next, taken_of}
-use Rattle.farm_records.specs.Histories.{IsRecordable}
+use Rattle.journaled_book.specs.Histories.{IsRecordable}
 use Rattle.farm_recovery.specs.Recovery.{IsSiteEncoding}
 use Rattle.farm_recovery.proofs.Acceptance.{accepted_is_next, accepted_is_site, site_is_accepted}
-use Rattle.farm_records.proofs.Growing.{encodings_more, more_recordable}
+use Rattle.journaled_book.proofs.Growing.{encodings_more, more_recordable}
 
 -- what holds of the history of a book that is there holds of the history that is there
 pub of_history : (P : History → Type 0) (book : Option Kept) (recovered : Option History) →

@@ -14,10 +14,10 @@ use Rattle.farm_journal.proofs.OneMeaning.{whole_is_not_refused}
 use Rattle.farm_site.specs.Encoding.{site_encoding}
 use Rattle.farm_site.proofs.BytesRead.{PartsAreRead}
 use Rattle.farm_recovery.specs.Accepting.{taken_of}
-use Rattle.farm_records.specs.Histories.{IsRecordable, Recovers, entry_encodings}
+use Rattle.journaled_book.specs.Histories.{IsRecordable, Recovers, entry_encodings}
 use Rattle.farm_recovery.specs.Laws.{RecoveredIsNotRefused}
 use Rattle.farm_recovery.specs.Recovery.{IsDamagedAfter, IsDamagedAt, IsEntryDamaged, IsSiteDamaged, counting_of}
-use Rattle.farm_records.proofs.Growing.{front_recordable}
+use Rattle.journaled_book.proofs.Growing.{front_recordable}
 use Rattle.farm_recovery.proofs.OneHistory.{among, same_history}
 
 -- a taker that accepts all but these bytes after these

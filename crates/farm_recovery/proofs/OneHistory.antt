@@ -8,7 +8,7 @@ use Rattle.farm_site.specs.Decoding.{whole_site}
 use Rattle.farm_site.specs.Encoding.{site_encoding}
 use Rattle.farm_site.proofs.BytesRead.{PartsAreRead}
 use Rattle.farm_recovery.specs.Accepting.{entries_of, history_with}
-use Rattle.farm_records.specs.Histories.{IsRecordable, entry_encodings}
+use Rattle.journaled_book.specs.Histories.{IsRecordable, entry_encodings}
 use Rattle.farm_recovery.specs.Laws.{OneHistory}
 use Rattle.farm_recovery.proofs.Decoded.{decoded}
 

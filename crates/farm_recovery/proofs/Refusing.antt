@@ -8,7 +8,7 @@ use Rattle.farm_journal.specs.declared.faults.RecoverFault.TheVariants.{NotJourn
 use Rattle.farm_journal.specs.Recovery.{IsDamagedAt as IsJournalDamagedAt, IsHeaderDamaged, IsRecordDamaged, IsRefusal, after_signature, counted_in}
 use Rattle.farm_site.proofs.BytesRead.{PartsAreRead}
 use Rattle.farm_recovery.specs.Accepting.{accepted_next, taken_of}
-use Rattle.farm_records.specs.Histories.{IsRecordable}
+use Rattle.journaled_book.specs.Histories.{IsRecordable}
 use Rattle.farm_recovery.specs.Recovery.{IsDamagedAt, IsEntryDamaged, IsRefused, IsSiteDamaged, counting_of}
 use Rattle.farm_recovery.proofs.Acceptance.{next_is_accepted, site_is_accepted}
 

@@ -10,7 +10,7 @@ use Rattle.farm_site.specs.Decoding.{whole_site}
 use Rattle.farm_site.specs.Described.{Described}
 use Rattle.farm_site.specs.Encoding.{site_encoding}
 use Rattle.site_decoding.specs.declared.fault.SiteBytesFault.{SiteBytesFault}
-use Rattle.farm_records.specs.Histories.{entry_encodings}
+use Rattle.journaled_book.specs.Histories.{entry_encodings}
 
 -- an entry and those after it
 abbrev pub after : Result Entry ℕ → Option (List Entry) → Option (List Entry)

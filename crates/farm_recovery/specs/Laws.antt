@@ -2,7 +2,7 @@
 use Rattle.std.specs.Prelude.{◌≡◌, ℕ, List}
 use Rattle.farm_history.specs.History.{History}
 use Rattle.farm_journal.specs.Recovery.{IsNotJournal}
-use Rattle.farm_records.specs.Histories.{Recovers}
+use Rattle.journaled_book.specs.Histories.{Recovers}
 use Rattle.farm_recovery.specs.Recovery.{IsDamagedAt}
 
 -- bytes stand for one history at most

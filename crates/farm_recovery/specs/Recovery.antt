@@ -8,7 +8,7 @@ use Rattle.farm_journal.specs.Layout.{IsShort, counting}
 use Rattle.farm_journal.specs.Recovery.{IsNotJournal, IsWhole, after_signature, counted_in}
 use Rattle.farm_site.specs.Described.{Described}
 use Rattle.farm_site.specs.Encoding.{IsSite, site_encoding}
-use Rattle.farm_records.specs.Histories.{IsRecordable, entry_encodings}
+use Rattle.journaled_book.specs.Histories.{IsRecordable, entry_encodings}
 
 -- bytes are those of a site
 pub record IsSiteEncoding (bytes : List ℕ) : Type 0 where

@@ -6,7 +6,7 @@ ghost use Rattle.farm_history.specs.declared.limits.TheConstants.{GREATEST_LIMIT
 ghost use Rattle.farm_journal.specs.Recovery.{IsJudged, IsRefusal, TakesNext};
 ghost use Rattle.farm_journal.specs.declared.faults.RecoverFault.{RecoverFault};
 ghost use Rattle.farm_recovery.specs.Accepting.{accepted_next, taken_of};
-ghost use Rattle.farm_records.specs.Histories.{IsRecordable};
+ghost use Rattle.journaled_book.specs.Histories.{IsRecordable};
 ghost use Rattle.farm_recovery.specs.Recovery.{IsRefused};
 
 use farm_book::{Book, EnterFault};
@@ -27,7 +27,7 @@ impl<const LIMIT: usize> Model for Recovering<LIMIT> {
     ghost use Rattle.std.specs.Prelude.{◌≤◌, Option, IfSome, option_map};
     ghost use Rattle.farm_history.specs.History.{History};
     ghost use Rattle.farm_history.specs.declared.limits.TheConstants.{GREATEST_LIMIT};
-    ghost use Rattle.farm_records.specs.Histories.{IsRecordable};
+    ghost use Rattle.journaled_book.specs.Histories.{IsRecordable};
 
     ghost Value = { Option History };
 

@@ -5,10 +5,10 @@ use Rattle.farm_base.specs.Counts.{Count, IsQuiet, raised}
 use Rattle.farm_base.specs.Known.{Stream}
 use Rattle.farm_batch.specs.declared.batch.BatchEnd.{BatchEnd}
 use Rattle.farm_batch.specs.declared.batch.BatchEnd.TheVariants.{Done, Long, Failed}
-use Rattle.farm_batch.specs.Answers.{AreAcknowledged, IsReply, Step, faults_in, history_after}
+use Rattle.farm_batch.specs.LineAnswers.{AreAcknowledged, IsReply, Step, faults_in, history_after}
 use Rattle.farm_batch.specs.Batches.{Batch}
 use Rattle.farm_batch.specs.Outcomes.{OutcomesAreOne}
-use Rattle.farm_records.specs.Histories.{certain}
+use Rattle.journaled_book.specs.Histories.{certain}
 use Rattle.farm_desk.specs.States.{DeskState}
 use Rattle.farm_disk.specs.Images.{State}
 use Rattle.farm_history.specs.History.{last_place}

@@ -4,7 +4,7 @@ use Rattle.farm_base.specs.Counts.{Count, HasRisen, IsQuiet}
 use Rattle.farm_base.specs.Known.{Adds, Stream, Takes, WhereKnown}
 use Rattle.farm_batch.specs.declared.batch.BatchEnd.{BatchEnd}
 use Rattle.farm_batch.specs.declared.batch.BatchEnd.TheVariants.{Done, Long, Failed}
-use Rattle.farm_batch.specs.Answers.{IsCutAtLast, Step, answers_text}
+use Rattle.farm_batch.specs.LineAnswers.{IsCutAtLast, Step, answers_text}
 use Rattle.farm_batch.specs.Batches.{AskedAll, Asks, Batch, EndsAs, IsTooMuch, lines_of}
 use Rattle.farm_batch.specs.Outcomes.{OutcomesAreOne, Outcome, WereAnswered, outcome}
 use Rattle.farm_desk.specs.States.{DeskState}

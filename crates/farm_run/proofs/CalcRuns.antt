@@ -10,7 +10,7 @@ use Rattle.calc_input.specs.declared.answer.TheConstants.{MOST_INPUT_BYTES}
 use Rattle.calc_input.specs.Answer.{answer_of}
 use Rattle.calc_input.proofs.Answering.{front_decides}
 use Rattle.calc_input.proofs.RefusedLines.{refusal_right}
-use Rattle.farm_run.specs.Answers.{calc_of, calc_text, text_of_figures}
+use Rattle.farm_run.specs.OutputTexts.{calc_of, calc_text, text_of_figures}
 use Rattle.farm_run.specs.Texts.{refusal_text}
 use Rattle.farm_run.specs.Runs.{Answers, CalcRun, OneAnswerRun, Output, given}
 use Rattle.farm_run.proofs.Runs.{known_map, run_answering}

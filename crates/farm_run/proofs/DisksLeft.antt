@@ -3,9 +3,9 @@ use Rattle.std.proofs.Common.{◌≡◌, ◌∙◌, ℕ, ◌+◌, ◌≤◌, Boo
 use Rattle.std.proofs.lemmas.List.Elements.{All-weaker}
 use Rattle.farm_base.proofs.Rises.{faults_add_up}
 use Rattle.farm_base.specs.Counts.{raised, count_of}
-use Rattle.farm_batch.specs.Answers.{AreAcknowledged, IsReply, Step, faults_in, history_after}
-use Rattle.farm_records.specs.Histories.{RecoversFront, RecoversNow, certain}
-use Rattle.farm_records.specs.Moments.{EachFrom}
+use Rattle.farm_batch.specs.LineAnswers.{AreAcknowledged, IsReply, Step, faults_in, history_after}
+use Rattle.journaled_book.specs.Histories.{RecoversFront, RecoversNow, certain}
+use Rattle.journaled_book.specs.Moments.{EachFrom}
 use Rattle.farm_desk.specs.States.{DeskState, IsJustMade}
 use Rattle.farm_desk.specs.declared.opened.Opened.{Opened}
 use Rattle.farm_disk.specs.Images.{State}

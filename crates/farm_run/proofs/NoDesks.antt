@@ -3,7 +3,7 @@ use Rattle.std.proofs.Common.{◌≡◌, ◌≢◌, inl, inr, ℕ, List, [], Opt
 use Rattle.farm_base.proofs.Known.{stays_same}
 use Rattle.farm_base.specs.Counts.{Count, HasRisen, IsQuiet}
 use Rattle.farm_base.specs.Known.{Stream, WhereKnown}
-use Rattle.farm_records.specs.Histories.{Recovers}
+use Rattle.journaled_book.specs.Histories.{Recovers}
 use Rattle.farm_recovery.specs.Laws.{RecoveredIsNotRefused}
 use Rattle.farm_recovery.specs.Recovery.{IsRefused}
 use Rattle.farm_disk.specs.Images.{State, present}

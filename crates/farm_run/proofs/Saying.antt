@@ -3,7 +3,7 @@ use Rattle.std.proofs.Common.{zero, suc, ◌≡◌, ◌⊎◌, inl, inr, ℕ, �
 use Rattle.farm_base.specs.Counts.{Count, HasRisen, Rose}
 use Rattle.farm_base.specs.Known.{Adds, Fronts}
 use Rattle.farm_base.proofs.Additions.{additions_add_up}
-use Rattle.farm_batch.specs.Answers.{IsCutAtLast, Step, answers_text}
+use Rattle.farm_batch.specs.LineAnswers.{IsCutAtLast, Step, answers_text}
 use Rattle.farm_run.specs.BatchRuns.{SaysAfter}
 use Rattle.farm_run.specs.Runs.{Output, Says}
 use Rattle.farm_run.proofs.Printing.{output_with, rose_later}

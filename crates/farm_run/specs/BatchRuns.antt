@@ -4,11 +4,11 @@ use Rattle.farm_base.specs.Counts.{Count, HasRisen, IsQuiet, raised, count_of}
 use Rattle.farm_base.specs.Known.{Adds, Fronts, Stream, Takes, WhereKnown}
 use Rattle.farm_batch.specs.declared.batch.BatchEnd.{BatchEnd}
 use Rattle.farm_batch.specs.declared.batch.BatchEnd.TheVariants.{Done, Long, Failed}
-use Rattle.farm_batch.specs.Answers.{AreAcknowledged, IsCutAtLast, Step, answers_text, faults_in, history_after}
+use Rattle.farm_batch.specs.LineAnswers.{AreAcknowledged, IsCutAtLast, Step, answers_text, faults_in, history_after}
 use Rattle.farm_batch.specs.Batches.{AskedAll, Asks, GoesOn, IsTooMuch, lines_of}
 use Rattle.farm_batch.specs.Outcomes.{Outcome, WereAnswered, outcome}
-use Rattle.farm_records.specs.Histories.{Recovers, RecoversFront, RecoversNow, certain}
-use Rattle.farm_records.specs.Moments.{EachFrom}
+use Rattle.journaled_book.specs.Histories.{Recovers, RecoversFront, RecoversNow, certain}
+use Rattle.journaled_book.specs.Moments.{EachFrom}
 use Rattle.farm_recovery.specs.Recovery.{IsDamagedAt}
 use Rattle.farm_disk.specs.Images.{State, present}
 use Rattle.farm_disk.specs.Runs.{EachNow, WritesNothing}

@@ -3,7 +3,7 @@ use Rattle.std.specs.Prelude.{◌≡◌, ◌≢◌, ◌⊎◌, ℕ, List, [], �
 use Rattle.farm_base.specs.Counts.{Count, HasRisen, IsQuiet, count_of}
 use Rattle.farm_base.specs.Known.{Adds, Stays, WhereKnown}
 use Rattle.farm_desk.specs.Asking.{IsCrashSafe}
-use Rattle.farm_records.specs.Histories.{Recovers}
+use Rattle.journaled_book.specs.Histories.{Recovers}
 use Rattle.farm_disk.specs.Images.{State, present}
 use Rattle.farm_disk.specs.Runs.{EachNow}
 use Rattle.farm_history.specs.History.{empty_history}
@@ -15,7 +15,7 @@ use Rattle.site_keys.specs.declared.fault.SiteFault.{SiteFault}
 use Rattle.site_keys.specs.Faults.{Refusal}
 use Rattle.farm_site.specs.Described.{Described, site_of_files}
 use Rattle.farm_run.specs.Limits.{book_limit}
-use Rattle.farm_run.specs.Answers.{text_or_fault}
+use Rattle.farm_run.specs.OutputTexts.{text_or_fault}
 use Rattle.farm_run.specs.Runs.{LacksMemory, OneAnswerRun, Output, Says}
 use Rattle.farm_run.specs.Texts.{disk_fault_line, no_memory_line, not_empty_line, port_fault_line, site_refused_text}
 

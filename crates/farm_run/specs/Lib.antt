@@ -1,7 +1,7 @@
 -- The definitions of `farm_run`, by subject.
 pub mod Limits
 pub mod Texts
-pub mod Answers
+pub mod OutputTexts
 pub mod Disks
 pub mod Runs
 pub mod BatchRuns

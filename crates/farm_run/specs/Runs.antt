@@ -9,7 +9,7 @@ use Rattle.calc_input.specs.declared.refusal.Refused.{Refused}
 use Rattle.calc_input.specs.RefusedLine.{IsRefusal}
 use Rattle.site_keys.specs.Faults.{IsMissing}
 use Rattle.farm_site.specs.Described.{site_of_files}
-use Rattle.farm_run.specs.Answers.{calc_of, table_of}
+use Rattle.farm_run.specs.OutputTexts.{calc_of, table_of}
 use Rattle.farm_run.specs.Texts.{usage_line, no_memory_line, port_fault_line, refusal_text, site_refused_text}
 
 -- whether a command makes calls on the input

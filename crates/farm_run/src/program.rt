@@ -7,7 +7,7 @@ ghost use Rattle.farm_report.specs.Figures.{figures_text};
 ghost use Rattle.farm_report.specs.Issued.{issued_text};
 ghost use Rattle.command_line.specs.Commands.{command_of};
 ghost use Rattle.calc_input.specs.declared.refusal.Refused.{Refused};
-ghost use Rattle.farm_run.specs.Answers.{calc_of, calc_text};
+ghost use Rattle.farm_run.specs.OutputTexts.{calc_of, calc_text};
 ghost use Rattle.farm_run.specs.BatchRuns.{BatchRun};
 ghost use Rattle.farm_run.specs.Disks.{IsLater};
 ghost use Rattle.farm_run.specs.InitRuns.{InitRun};
@@ -21,7 +21,7 @@ use crate::reports::{
     NO_COMMAND, REFUSED, SITE_REFUSED, deliver, refuse, report_fault, report_no_memory, say,
 };
 use crate::texts::{USAGE_LINE, refusal_text, site_refused_text};
-use calc_input::{MOST_INPUT_BYTES, Unanswered, figures_of_input};
+use calc_input::{MOST_INPUT_BYTES, NoFigures, figures_of_input};
 use command_line::Subcommand;
 use farm_base::NoMemory;
 use farm_disk::Disk;
@@ -130,21 +130,21 @@ fn answer_input<K: Sink>(alloc: Global, bytes: &[u8], output: &mut K) -> u8
 {
     match calc_text(alloc, bytes) {
         Ok(text) => deliver(output, &text),
-        Err(Unanswered::Refused(why)) => refuse(refusal_text(alloc, why), REFUSED, output),
-        Err(Unanswered::NoMemory) => report_no_memory(output),
+        Err(NoFigures::Refused(why)) => refuse(refusal_text(alloc, why), REFUSED, output),
+        Err(NoFigures::NoMemory) => report_no_memory(output),
     }
 }
 
 // The ten lines of an input, or its refusal.
-#[tactic(auto, unfolding(crate::specs::Answers::calc_text))]
-fn calc_text(alloc: Global, bytes: &[u8]) -> Result<Vec<u8>, Unanswered>
+#[tactic(auto, unfolding(crate::specs::OutputTexts::calc_text))]
+fn calc_text(alloc: Global, bytes: &[u8]) -> Result<Vec<u8>, NoFigures>
     ensures text { IfOk result (λ text. calc_text bytes.now ≡ Ok text.items) }
-    ensures refused { (why : Refused) → result ≡ Err (Unanswered.Refused why) → calc_text bytes.now ≡ Err why }
+    ensures refused { (why : Refused) → result ≡ Err (NoFigures.Refused why) → calc_text bytes.now ≡ Err why }
 {
     match figures_of_input(alloc, bytes) {
         Ok(figures) => Ok(ten_lines(alloc, &figures)?),
-        Err(Unanswered::Refused(why)) => Err(Unanswered::Refused(why)),
-        Err(Unanswered::NoMemory) => Err(Unanswered::NoMemory),
+        Err(NoFigures::Refused(why)) => Err(NoFigures::Refused(why)),
+        Err(NoFigures::NoMemory) => Err(NoFigures::NoMemory),
     }
 }
 

@@ -11,7 +11,7 @@ use Rattle.site_decoding.specs.declared.fault.SiteBytesFault.{SiteBytesFault}
 use Rattle.site_decoding.specs.declared.fault.SiteBytesFault.TheVariants.{BadSite, NoMemory}
 use Rattle.site_decoding.specs.ByteReaders.{Gives}
 use Rattle.site_decoding.specs.Decoding.{head_at, lines_at, parties_at, products_at, tanks_at}
-use Rattle.site_bytes.specs.Encoding.{line_bytes, list_bytes, party_bytes, product_bytes, row_bytes, short_list_bytes, tank_bytes, text_bytes}
+use Rattle.site_encoding.specs.Encoding.{line_bytes, list_bytes, party_bytes, product_bytes, row_bytes, short_list_bytes, tank_bytes, text_bytes}
 use Rattle.site_decoding.specs.Parts.{HeadsAreRead, LinesAreRead, PartiesAreRead, ProductsAreRead, TanksAreRead, head_bytes}
 use Rattle.site_decoding.specs.Readers.{IsBytes, IsReader}
 use Rattle.site_decoding.proofs.Readers.{bind_ok, made_reader, ok_is, passed, then_reader}

@@ -3,9 +3,9 @@ use Rattle.std.specs.Prelude.{◌≡◌, ℕ, IsTrue, List, ◌∷◌, ◌++◌}
 use Rattle.std.specs.Int.{w16}
 use Rattle.std.specs.List.{flat_map}
 use Rattle.farm_rounding.specs.Table.{IsTable}
-use Rattle.site_bytes.specs.Encoding.{line_bytes, list_bytes, party_bytes, product_bytes, row_bytes, short_list_bytes, tank_bytes, text_bytes}
+use Rattle.site_encoding.specs.Encoding.{line_bytes, list_bytes, party_bytes, product_bytes, row_bytes, short_list_bytes, tank_bytes, text_bytes}
 use Rattle.site_decoding.specs.Parts.{AreLines, AreParties, AreProducts, AreTanks}
-use Rattle.site_bytes.specs.Limits.{format_byte}
+use Rattle.site_encoding.specs.Limits.{format_byte}
 use Rattle.site_items.specs.Names.{is_name}
 use Rattle.farm_site.specs.Described.{Described}
 

@@ -1,14 +1,14 @@
 //! How a site is written as bytes. docs/formats.md has the format.
 
 ghost use Rattle.std.specs.Prelude.{◌≡◌, ◌<◌, IfOk, OnOk, length};
-ghost use Rattle.site_bytes.specs.Buffers.{HasRoom, IsPut};
+ghost use Rattle.site_encoding.specs.Buffers.{HasRoom, IsPut};
 ghost use Rattle.farm_site.specs.Encoding.{IsSite, site_encoding};
 ghost use Rattle.farm_site.specs.Sites.{described};
 ghost use Rattle.farm_site.specs.declared.encoding.TheConstants.{MOST_SITE_BYTES};
 
 use crate::Site;
 use farm_base::NoMemory;
-use site_bytes::{
+use site_encoding::{
     len_of_head, len_of_lines, len_of_parties, len_of_products, len_of_tanks, put_head, put_lines,
     put_parties, put_products, put_tanks,
 };

@@ -3,7 +3,7 @@ use Rattle.std.proofs.Common.{◌≡◌, ◌≢◌, ℕ, Bool, true, false, List
 use Rattle.std.proofs.lemmas.Bool.Decides.{nat_tests}
 use Rattle.std.proofs.lemmas.List.Elements.{All-head, All-tail, All-weaker}
 use Rattle.farm_fixed.specs.declared.records.Amount.{Amount}
-use Rattle.farm_stock.specs.declared.book.Book.{Book}
+use Rattle.farm_stock.specs.declared.book.TankBook.{TankBook}
 use Rattle.farm_stock.specs.declared.posting.Posting.{Posting}
 use Rattle.farm_stock.specs.Books.{book_of, plus, total_of}
 use Rattle.farm_stock.specs.Laws.{AreThere, BooksAddUp, TotalsAddUp}
@@ -31,7 +31,7 @@ books_add_up openings (posting ∷ postings) tank opening there = by (books_add_
         rw e (rest opening (others_stay posting.tank posting.amount openings tank apart ∙ there))
 
 -- a posting leaves each tank there
-still_there : (openings : List Book) (posting : Posting) (tank : ℕ) → IsSome (book_of tank openings) → IsSome (book_of tank (posted openings posting))
+still_there : (openings : List TankBook) (posting : Posting) (tank : ℕ) → IsSome (book_of tank openings) → IsSome (book_of tank (posted openings posting))
 still_there openings posting tank there = by (book_of tank openings) refl there
   where
     by : (o : Option Amount) → book_of tank openings ≡ o → IsSome o → IsSome (book_of tank (posted openings posting))
@@ -39,7 +39,7 @@ still_there openings posting tank there = by (book_of tank openings) refl there
     by (Some opening) found h = rw (books_add_up openings (posting ∷ []) tank opening found) refl
 
 -- and so it leaves the tanks of further postings there
-all_still_there : (openings : List Book) (posting : Posting) (postings : List Posting) → AreThere openings postings →
+all_still_there : (openings : List TankBook) (posting : Posting) (postings : List Posting) → AreThere openings postings →
     AreThere (posted openings posting) postings
 all_still_there openings posting postings there =
     All-weaker (λ (next : Posting). IsSome (book_of next.tank openings)) (λ (next : Posting). IsSome (book_of next.tank (posted openings posting)))

@@ -4,7 +4,7 @@ use Rattle.std.proofs.lemmas.Int.{ints}
 use Rattle.std.proofs.lemmas.List.{at_drop_more}
 use Rattle.std.specs.Int.RustNames.{unsigned_abs}
 use Rattle.farm_fixed.specs.declared.records.Amount.{Amount}
-use Rattle.farm_stock.specs.declared.book.Book.{Book}
+use Rattle.farm_stock.specs.declared.book.TankBook.{TankBook}
 use Rattle.farm_stock.specs.Books.{plus, total_of}
 use Rattle.farm_stock.specs.Sums.{magnitudes}
 
@@ -29,7 +29,7 @@ pub magnitude_of_sum : (first second : ℤ) → unsigned_abs (first +ℤ second)
 magnitude_of_sum first second = omega (arith, ints)
 
 -- a sum so far and that of the books to come still make up the total, one book on
-pub total_more : (books : List Book) (index : ℕ) (default : Book) (before now : Amount) → index < length books →
+pub total_more : (books : List TankBook) (index : ℕ) (default : TankBook) (before now : Amount) → index < length books →
     now ≡ plus before (get_or books index default).amount → plus before (total_of (drop index books)) ≡ total_of books →
     plus now (total_of (drop (index + 1) books)) ≡ total_of books
 total_more books index default before now inside now_is total =
@@ -41,7 +41,7 @@ total_more books index default before now inside now_is total =
     ∙ total
 
 -- and their magnitudes stay within the limit
-pub within_more : (unit : Amount → ℤ) (books : List Book) (index : ℕ) (default : Book) (before now : ℤ) → index < length books →
+pub within_more : (unit : Amount → ℤ) (books : List TankBook) (index : ℕ) (default : TankBook) (before now : ℤ) → index < length books →
     now ≡ before +ℤ unit (get_or books index default).amount →
     unsigned_abs before + magnitudes unit (drop index books) ≤ 10 ^ 18 →
     unsigned_abs now + magnitudes unit (drop (index + 1) books) ≤ 10 ^ 18

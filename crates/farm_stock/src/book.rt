@@ -12,7 +12,7 @@ use std::alloc::{AllocError, Global};
 
 /// A tank and the amount that it holds by the book.
 #[derive(Clone, Copy, Debug, PartialEq, Eq)]
-pub struct Book {
+pub struct TankBook {
     /// The number of the tank.
     pub tank: u16,
     /// What it holds.
@@ -20,12 +20,12 @@ pub struct Book {
 }
 
 /// The books of these tanks, each with its opening.
-pub fn opened(alloc: Global, openings: &[(u16, Amount)]) -> Result<Vec<Book>, AllocError>
+pub fn opened(alloc: Global, openings: &[(u16, Amount)]) -> Result<Vec<TankBook>, AllocError>
     ensures opened { IfOk result (λ books. books.items ≡ opened openings.now) }
 {
     openings
         .iter()
-        .map(|opening| Book {
+        .map(|opening| TankBook {
             tank: opening.0,
             amount: opening.1,
         })
@@ -33,7 +33,7 @@ pub fn opened(alloc: Global, openings: &[(u16, Amount)]) -> Result<Vec<Book>, Al
 }
 
 /// Adds an amount to the book of a tank, which is there.
-pub fn add(books: &mut [Book], tank: u16, amount: Amount)
+pub fn add(books: &mut [TankBook], tank: u16, amount: Amount)
     requires tank { IsSome (book_of tank books.old) }
     requires sums { AreWithinSums (added tank amount books.old) }
     ensures added { books.new ≡ added tank amount books.old }
@@ -45,7 +45,7 @@ pub fn add(books: &mut [Book], tank: u16, amount: Amount)
 }
 
 /// The index of a tank's book among these, None where the tank isn't there.
-pub fn index_of(books: &[Book], tank: u16) -> Option<usize>
+pub fn index_of(books: &[TankBook], tank: u16) -> Option<usize>
     ensures index { MatchOption result (book_of tank books.now ≡ None) (IsIndexOf tank books.now) }
 {
     for (index, book) in books.iter().enumerate() {
@@ -57,7 +57,7 @@ pub fn index_of(books: &[Book], tank: u16) -> Option<usize>
 }
 
 /// What a tank holds by its book among these, None exactly where the tank isn't there.
-pub fn book_of(books: &[Book], tank: u16) -> Option<Amount>
+pub fn book_of(books: &[TankBook], tank: u16) -> Option<Amount>
     ensures book { result ≡ book_of tank books.now }
 {
     let index = index_of(books, tank)?;
@@ -65,7 +65,7 @@ pub fn book_of(books: &[Book], tank: u16) -> Option<Amount>
 }
 
 /// The sum of these books, litres and kg each by itself. Their magnitudes add up to at most 10^18, so that every sum fits.
-pub fn total_of(books: &[Book]) -> Amount
+pub fn total_of(books: &[TankBook]) -> Amount
     requires sums { AddUpTo (10 ^ 18) books.now }
     ensures total { result ≡ total_of books.now }
 {

@@ -9,7 +9,7 @@ mod posting;
 mod stock;
 mod stock_laws;
 
-pub use book::{Book, book_of, plus, total_of};
+pub use book::{TankBook, book_of, plus, total_of};
 pub use posting::{Kind, Posting};
 pub use stock::Stock;
 pub use stock_laws::laws;

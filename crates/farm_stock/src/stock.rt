@@ -7,7 +7,7 @@ ghost use Rattle.farm_stock.specs.Postings.{posted};
 ghost use Rattle.farm_stock.specs.Sums.{AreWithinSums, IsSound};
 
 use crate::Posting;
-use crate::book::{Book, add, book_of, opened, total_of};
+use crate::book::{TankBook, add, book_of, opened, total_of};
 use farm_base::NoMemory;
 use farm_fixed::Amount;
 use std::alloc::Global;
@@ -16,15 +16,15 @@ use std::marker::Model;
 /// The books of the tanks of a site. In a clause it is the list of them, in rising order of the tank.
 #[derive(Debug, Drop)]
 pub struct Stock {
-    books: Vec<Book>,
+    books: Vec<TankBook>,
 }
 
 impl Model for Stock {
     ghost use Rattle.std.specs.Prelude.{List};
-    ghost use Rattle.farm_stock.specs.declared.book.Book.{Book};
+    ghost use Rattle.farm_stock.specs.declared.book.TankBook.{TankBook};
     ghost use Rattle.farm_stock.specs.Sums.{IsSound};
 
-    ghost Value = { List Book };
+    ghost Value = { List TankBook };
 
     ghost view = { λ stock. stock.books.items };
 

@@ -10,7 +10,7 @@ use Rattle.modbus_poll.specs.declared.map.Valid.{Valid}
 use Rattle.site_decoding.specs.declared.decoding.gauges.Fields.{Fields}
 use Rattle.site_lines.specs.declared.gauges.Request.{Request}
 use Rattle.site_decoding.specs.Decoding.{field_at, fields_at, flags_at, gauge_at, gauge_of, line_at, request_at, valid_at}
-use Rattle.site_bytes.specs.Encoding.{field_bytes, flag_byte, gauge_bytes, line_bytes, option_bytes, short_list_bytes, signed_bytes, text_bytes, valid_bytes}
+use Rattle.site_encoding.specs.Encoding.{field_bytes, flag_byte, gauge_bytes, line_bytes, option_bytes, short_list_bytes, signed_bytes, text_bytes, valid_bytes}
 use Rattle.site_decoding.specs.Readers.{IsReader}
 use Rattle.site_decoding.proofs.ListReaders.{AreListed, option_reader, short_list_reader}
 use Rattle.site_decoding.proofs.NumberReaders.{byte_reader, byte_up_to_reader, number16_reader, number32_reader, signed16_reader, text_reader}

@@ -16,7 +16,7 @@ use Rattle.farm_rounding.proofs.Rows.{first_bad_of, table_from_rows}
 use Rattle.site_items.specs.Names.{is_name}
 use Rattle.site_decoding.specs.ByteReaders.{made_at, flag_at}
 use Rattle.site_decoding.specs.Decoding.{head_at, mode_of, name_at, row_at, rounding_at}
-use Rattle.site_bytes.specs.Encoding.{flag_byte, mode_byte, row_bytes, text_bytes}
+use Rattle.site_encoding.specs.Encoding.{flag_byte, mode_byte, row_bytes, text_bytes}
 use Rattle.site_decoding.specs.Parts.{IsHead, head_bytes}
 use Rattle.site_decoding.specs.Readers.{IsReader}
 use Rattle.site_decoding.proofs.ListReaders.{counted_reader}

@@ -23,10 +23,10 @@ use Rattle.site_keys.specs.Lists.{are_numbered, is_among}
 use Rattle.site_lines.specs.Gauges.{are_distinct, are_gauged, tanks_gauged}
 use Rattle.site_lines.specs.Lines.{all_gauged, are_lines}
 use Rattle.site_decoding.specs.Decoding.{lines_at}
-use Rattle.site_bytes.specs.Encoding.{line_bytes, short_list_bytes}
+use Rattle.site_encoding.specs.Encoding.{line_bytes, short_list_bytes}
 use Rattle.site_decoding.specs.Parts.{AreLines}
 use Rattle.site_decoding.specs.Readers.{IsReader}
-use Rattle.site_bytes.specs.Typed.{IsTypedGauge, IsTypedLine}
+use Rattle.site_encoding.specs.Typed.{IsTypedGauge, IsTypedLine}
 use Rattle.site_decoding.proofs.ListReaders.{all_as, all_cons, all_head, all_tail, short_list_reader}
 use Rattle.site_decoding.proofs.ProductReaders.{number_small, numbered_sound}
 use Rattle.site_decoding.proofs.TankReaders.{among_small}

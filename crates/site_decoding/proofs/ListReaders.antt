@@ -5,7 +5,7 @@ use Rattle.std.specs.Int.{Width}
 use Rattle.std.specs.List.{flat_map}
 use Rattle.farm_base.specs.Steps.{◌>>=◌}
 use Rattle.site_decoding.specs.ByteReaders.{Reader, ◌▸◌, counted_at, list_at, option_after, option_at, short_list_at}
-use Rattle.site_bytes.specs.Encoding.{flag_byte, list_bytes, option_bytes, short_list_bytes}
+use Rattle.site_encoding.specs.Encoding.{flag_byte, list_bytes, option_bytes, short_list_bytes}
 use Rattle.site_decoding.specs.Readers.{IsBytes, IsReader, Takes}
 use Rattle.site_decoding.proofs.NumberReaders.{IsWide, byte_reader, flag_reader, number_reader}
 use Rattle.site_decoding.proofs.Readers.{after_reader, bind_ok, ok_is, reader_as, then_reader}

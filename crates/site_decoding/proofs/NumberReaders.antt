@@ -12,7 +12,7 @@ use Rattle.farm_fixed.specs.declared.limits.TheConstants.{LEAST_DENSITY, LEAST_F
 use Rattle.site_decoding.specs.declared.fault.SiteBytesFault.TheVariants.{BadSite}
 use Rattle.site_decoding.specs.ByteReaders.{Reader, byte_at, byte_up_to, bytes_at, flag_at, natural_at, number_at, signed_at, tested_at, text_at}
 use Rattle.site_decoding.specs.Decoding.{density_at, factor_at, height_at, temperature_at}
-use Rattle.site_bytes.specs.Encoding.{flag_byte, natural_bytes, signed_bytes, text_bytes}
+use Rattle.site_encoding.specs.Encoding.{flag_byte, natural_bytes, signed_bytes, text_bytes}
 use Rattle.site_decoding.specs.Readers.{IsBytes, IsReader, Takes}
 use Rattle.site_decoding.proofs.Readers.{IsBytes-drop, IsBytes-take, after_reader, made_reader, ok_is, reader_as, tested_reader}
 

@@ -17,10 +17,10 @@ use Rattle.site_items.specs.Parties.{is_party, party_number}
 use Rattle.site_items.specs.Products.{is_product, product_number}
 use Rattle.site_keys.specs.Lists.{are_numbered, rises}
 use Rattle.site_decoding.specs.Decoding.{grid_at, is_grid, parties_at, party_at, product_at, products_at}
-use Rattle.site_bytes.specs.Encoding.{grid_bytes, list_bytes, natural_bytes, party_bytes, product_bytes, short_list_bytes, signed_bytes, text_bytes}
+use Rattle.site_encoding.specs.Encoding.{grid_bytes, list_bytes, natural_bytes, party_bytes, product_bytes, short_list_bytes, signed_bytes, text_bytes}
 use Rattle.site_decoding.specs.Parts.{AreParties, AreProducts}
 use Rattle.site_decoding.specs.Readers.{IsReader}
-use Rattle.site_bytes.specs.Typed.{IsTypedGrid, IsTypedProduct}
+use Rattle.site_encoding.specs.Typed.{IsTypedGrid, IsTypedProduct}
 use Rattle.site_decoding.proofs.Grids.{is_grid-from, is_grid-true}
 use Rattle.site_decoding.proofs.HeadReaders.{name_length}
 use Rattle.site_decoding.proofs.ListReaders.{AreCounted, AreListed, all_as, counted_reader, list_reader, short_list_reader}

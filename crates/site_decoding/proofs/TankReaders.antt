@@ -31,10 +31,10 @@ use Rattle.strap_table.specs.Faults.{first_fault}
 use Rattle.strap_table.proofs.FirstFault.{fault_is, no_fault}
 use Rattle.strap_table.proofs.Rows.{table_from_rows}
 use Rattle.site_decoding.specs.Decoding.{amount_at, roof_at, shell_at, spec_at, table_at, tank_at, tanks_at}
-use Rattle.site_bytes.specs.Encoding.{amount_bytes, flag_byte, list_bytes, natural_bytes, option_bytes, roof_bytes, shell_bytes, short_list_bytes, signed_bytes, tank_bytes}
+use Rattle.site_encoding.specs.Encoding.{amount_bytes, flag_byte, list_bytes, natural_bytes, option_bytes, roof_bytes, shell_bytes, short_list_bytes, signed_bytes, tank_bytes}
 use Rattle.site_decoding.specs.Parts.{AreTanks}
 use Rattle.site_decoding.specs.Readers.{IsReader}
-use Rattle.site_bytes.specs.Typed.{IsTypedRoof, IsTypedTank}
+use Rattle.site_encoding.specs.Typed.{IsTypedRoof, IsTypedTank}
 use Rattle.site_decoding.proofs.ListReaders.{AreListed, all_as, list_reader, option_reader, short_list_reader}
 use Rattle.site_decoding.proofs.NumberReaders.{IsNatural, flag_reader, height_reader, natural_reader, natural_within, number16_reader, signed64_reader, temperature_reader, wide16, wide32}
 use Rattle.site_decoding.proofs.ProductReaders.{items_fit, number_small, numbered_sound}

@@ -27,7 +27,7 @@ use Rattle.site_lines.specs.Lines.{are_lines}
 use Rattle.strap_table.specs.declared.tank.Roof.{Roof}
 use Rattle.strap_table.specs.declared.tank.TankSpec.{TankSpec}
 use Rattle.strap_table.specs.Faults.{first_fault}
-use Rattle.site_bytes.specs.Limits.{format_byte}
+use Rattle.site_encoding.specs.Limits.{format_byte}
 use Rattle.site_decoding.specs.ByteReaders.{Reader, then_at, ◌▸◌, made_at, tested_at, byte_at, byte_up_to, flag_at, number_at, natural_at, signed_at, text_at, option_at, counted_at, short_list_at, list_at}
 use Rattle.site_decoding.specs.declared.decoding.gauges.Fields.{Fields}
 use Rattle.site_lines.specs.declared.gauges.Request.{Request}

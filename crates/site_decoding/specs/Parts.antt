@@ -12,11 +12,11 @@ use Rattle.site_items.specs.Names.{is_name}
 use Rattle.site_items.specs.Products.{product_number}
 use Rattle.site_items.specs.Tanks.{tank_number}
 use Rattle.site_lines.specs.Lines.{are_lines}
-use Rattle.site_bytes.specs.Limits.{format_byte}
+use Rattle.site_encoding.specs.Limits.{format_byte}
 use Rattle.site_decoding.specs.Decoding.{head_at, lines_at, parties_at, products_at, tanks_at}
-use Rattle.site_bytes.specs.Encoding.{line_bytes, list_bytes, party_bytes, product_bytes, row_bytes, short_list_bytes, tank_bytes, text_bytes}
+use Rattle.site_encoding.specs.Encoding.{line_bytes, list_bytes, party_bytes, product_bytes, row_bytes, short_list_bytes, tank_bytes, text_bytes}
 use Rattle.site_decoding.specs.Readers.{IsReader}
-use Rattle.site_bytes.specs.Typed.{IsTypedLine, IsTypedProduct, IsTypedTank}
+use Rattle.site_encoding.specs.Typed.{IsTypedLine, IsTypedProduct, IsTypedTank}
 
 -- a head has a name and a rounding table
 abbrev pub IsHead : List ℕ × List Row → Type 0

@@ -1,6 +1,6 @@
 //! The items of a site, read from bytes.
 //!
-//! An item is read from the front of bytes exactly where they begin with its bytes, as `site_bytes` states them, and it is one that a
+//! An item is read from the front of bytes exactly where they begin with its bytes, as `site_encoding` states them, and it is one that a
 //! site may have. `specs/Parts` states it of the five parts of a site. docs/formats.md has the format, field by field.
 #![tactic(auto)]
 

@@ -4,13 +4,13 @@ ghost use Rattle.std.specs.Prelude.{◌≡◌, ◌==◌, Ok, Err, if◌then◌el
 ghost use Rattle.farm_rounding.specs.Table.{first_bad_row};
 ghost use Rattle.site_decoding.specs.ByteReaders.{Gives, byte_at, counted_at, tested_at};
 ghost use Rattle.site_decoding.specs.Decoding.{mode_of, name_at, row_at, rounding_at};
-ghost use Rattle.site_bytes.specs.declared.TheConstants.{FORMAT};
+ghost use Rattle.site_encoding.specs.declared.TheConstants.{FORMAT};
 
 use super::numbers::{byte_at, flag_at, text_at};
 use crate::SiteBytesFault;
 use crate::SiteBytesFault::BadSite;
 use farm_rounding::{Mode, ROUNDING_ROWS, RoundTable};
-use site_bytes::FORMAT;
+use site_encoding::FORMAT;
 use site_items::{Name, is_name};
 use std::alloc::Global;
 

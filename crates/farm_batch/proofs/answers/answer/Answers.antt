@@ -3,7 +3,7 @@ use Rattle.std.proofs.Common.{◌≡◌, List, ℕ, ℤ, None, Some, Bor, refl, 
 use Rattle.std.specs.Int.{w64}
 use Rattle.std.proofs.lemmas.Int.{to_z-of_z}
 use Rattle.batch_lines.specs.Reader.{kept}
-use Rattle.farm_batch.specs.Answers.{MeetsLine, answer_to}
+use Rattle.farm_batch.specs.LineAnswers.{MeetsLine, answer_to}
 use Rattle.farm_batch.proofs.Meant.{answered_as, answered_too_long, meets, meets_same}
 use Rattle.farm_batch.proofs.answers.answer.Goals as goal
 

@@ -2,10 +2,10 @@
 use Rattle.std.proofs.Common.{◌≡◌, ◌∙◌, ◌&&◌, Bool, true, false, nat_lt, length, ap, ap₂, sym, subst, w64, ℤ}
 use Rattle.std.proofs.lemmas.Int.{to_z-of_z}
 use Rattle.farm_batch.specs.declared.limits.TheConstants.{BATCH_CALLER}
-use Rattle.farm_records.specs.Answers.{IsAnswered}
+use Rattle.journaled_book.specs.Replies.{IsAnswered}
 use Rattle.farm_history.specs.Desk.{desk_answer}
 use Rattle.farm_history.specs.History.{History, last_place}
-use Rattle.farm_batch.specs.Answers.{is_stop_ask}
+use Rattle.farm_batch.specs.LineAnswers.{is_stop_ask}
 use Rattle.farm_batch.proofs.Pages.{acknowledged_by, answer_meets, counted_by}
 use Rattle.farm_batch.proofs.answers.answer_ask.Goals.{then-is_stop, else-is_stop}
 use Rattle.farm_batch.proofs.answers.answer_ask.Goals as goal

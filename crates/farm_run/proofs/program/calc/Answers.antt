@@ -1,6 +1,6 @@
 -- Answers to the open goals of `calc`.
 use Rattle.std.proofs.Common.{ap, Err, arith}
-use Rattle.farm_run.specs.Answers.{calc_of}
+use Rattle.farm_run.specs.OutputTexts.{calc_of}
 use Rattle.farm_run.specs.Texts.{refusal_text}
 use Rattle.farm_run.proofs.Runs.{run_faulted, run_lacking}
 use Rattle.farm_run.proofs.CalcRuns.{calc_answered, calc_run}

@@ -3,7 +3,7 @@ use Rattle.std.proofs.Common.{ℕ, inl, inr, ap, refl, Some, Ok, Err, arith}
 use Rattle.std.specs.declared.alloc.Global.{Global}
 use Rattle.std.specs.Prelude.{Vec}
 use Rattle.farm_report.specs.Issued.{issued_text}
-use Rattle.farm_run.specs.Answers.{issued_of, table_of}
+use Rattle.farm_run.specs.OutputTexts.{issued_of, table_of}
 use Rattle.farm_run.specs.Texts.{site_refused_text}
 use Rattle.farm_run.proofs.Runs.{answers_delivering, answers_refusing, answers_lacking, delivers_risen, known_map, refused_by, refused_risen, run_answering, run_faulted, run_lacking}
 use Rattle.farm_run.proofs.program.table.Goals as goal

@@ -14,7 +14,7 @@ use Rattle.farm_history.proofs.Repeats.{new_key}
 use Rattle.farm_history.proofs.Totals.{totals_grow}
 use Rattle.farm_book.specs.Kept.{Kept}
 use Rattle.farm_book.specs.Replies.{IsGainReply, IsTicketReply, IssuesAt, SettlesAt}
-use Rattle.farm_entries.specs.Pasts.{history_of}
+use Rattle.history_lookups.specs.Pasts.{history_of}
 use Rattle.farm_book.proofs.Entered.{entered_issues, entered_issues_none, entered_settles, entered_settles_none, where_entered}
 use Rattle.farm_book.proofs.Entries.{sound_more}
 use Rattle.farm_book.proofs.book.Book.commit.Goals as goal

@@ -1,6 +1,6 @@
 -- Answers to the open goals of `past`.
 use Rattle.std.proofs.Common.{subst}
-use Rattle.farm_entries.specs.Pasts.{IsReadable, history_of}
+use Rattle.history_lookups.specs.Pasts.{IsReadable, history_of}
 use Rattle.farm_book.specs.Kept.{IsSound, Kept}
 use Rattle.farm_book.proofs.Entries.{sound_readable}
 use Rattle.farm_book.proofs.book.Book.past.Goals as goal

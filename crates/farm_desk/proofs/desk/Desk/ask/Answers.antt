@@ -3,9 +3,9 @@ use Rattle.std.proofs.Common.{◌≡◌, ◌∙◌, ◌+◌, ◌-◌, ◌^◌, m
 use Rattle.std.proofs.lemmas.Int.{to_z-of_z}
 use Rattle.farm_base.specs.Counts.{Rose, raised}
 use Rattle.farm_history.specs.Desk.{desk_answer}
-use Rattle.farm_records.specs.Answers.{IsAnswered, answer_of}
+use Rattle.journaled_book.specs.Replies.{IsAnswered, answer_of}
 use Rattle.farm_desk.specs.States.{DeskState}
-use Rattle.farm_records.specs.declared.answer.Answer.{Answer}
+use Rattle.journaled_book.specs.declared.answer.Answer.{Answer}
 use Rattle.farm_desk.proofs.Asked.{asked_acknowledged, asked_extends, asked_since, asked_stands, cause_of, counted_on, not_counted, quiet_of}
 use Rattle.farm_desk.proofs.Durable.{durable}
 use Rattle.farm_desk.proofs.desk.Desk.ask.Goals as goal

@@ -3,7 +3,7 @@ use Rattle.std.proofs.Common.{◌∙◌, sym, subst, rules}
 use Rattle.farm_site.specs.Sites.{described}
 use Rattle.farm_desk.specs.Asking.{IsCrashSafe}
 use Rattle.farm_desk.proofs.Made.{crash_safe, created_records, untouched_safe}
-use Rattle.farm_records.proofs.Traces.{extends_same}
+use Rattle.journaled_book.proofs.Traces.{extends_same}
 use Rattle.farm_desk.proofs.desk.Desk.create.Goals as goal
 
 pub returns-in-Err-clause-crash_safe : goal.returns-in-Err-clause-crash_safe

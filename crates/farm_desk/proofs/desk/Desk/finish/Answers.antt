@@ -1,9 +1,9 @@
 -- Answers to the open goals of `finish`.
 use Rattle.std.proofs.Common.{◌∙◌, ap, refl, sym}
 use Rattle.farm_book.specs.Kept.{Kept}
-use Rattle.farm_records.specs.Histories.{certain}
+use Rattle.journaled_book.specs.Histories.{certain}
 use Rattle.farm_desk.proofs.Finishing.{at_err, at_ok, finished_counted, finished_extends, finished_images, finished_now, finished_once, finished_quiet, finished_rose, finished_since}
-use Rattle.farm_records.proofs.Keeping.{acknowledged_since}
+use Rattle.journaled_book.proofs.Keeping.{acknowledged_since}
 use Rattle.farm_desk.proofs.desk.Desk.finish.Goals as goal
 
 pub returns-clause-since : goal.returns-clause-since

@@ -3,7 +3,7 @@ use Rattle.std.proofs.Common.{sym, subst, rules}
 use Rattle.farm_base.specs.Known.{WhereKnown}
 use Rattle.farm_disk.specs.Images.{present}
 use Rattle.farm_history.specs.History.{History}
-use Rattle.farm_records.specs.Histories.{Recovers}
+use Rattle.journaled_book.specs.Histories.{Recovers}
 use Rattle.farm_desk.proofs.Made.{recovered_records, where_recovered, where_refused}
 use Rattle.farm_desk.proofs.desk.Desk.recover.Goals as goal
 

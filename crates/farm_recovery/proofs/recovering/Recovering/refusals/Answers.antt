@@ -1,6 +1,6 @@
 -- Answers to the open goals of `refusals`.
 use Rattle.farm_site.proofs.BytesRead.{PartsAreRead}
-use Rattle.farm_records.specs.Histories.{IsRecordable}
+use Rattle.journaled_book.specs.Histories.{IsRecordable}
 use Rattle.farm_recovery.proofs.Judging.{of_history}
 use Rattle.farm_recovery.proofs.Refusing.{refused_as}
 use Rattle.farm_recovery.proofs.recovering.Recovering.refusals.Goals as goal

@@ -1,9 +1,0 @@
--- The invariants of the loops of `opened`.
-use Rattle.std.proofs.Common.{◌≡◌, [], length, take}
-use Rattle.site_items.specs.declared.tanks.TheConstants.{MOST_TANKS}
-use Rattle.farm_entries.specs.Ledgers.{books_with}
-use Rattle.farm_entries.proofs.ledger.Ledger.opened.Given as goal
-
--- so far each book is its tank's opening
-abbrev pub invariant-loop-index : goal.invariant-loop-index
-invariant-loop-index l = (length l.books ≡ MOST_TANKS) × (take l.index l.books ≡ books_with (take l.index l.tanks) [])

@@ -1,7 +1,0 @@
--- The definitions of `farm_entries`, by subject.
-pub mod Pasts
-pub mod Pairs
-pub mod Sought
-pub mod Bounds
-pub mod Closings
-pub mod Ledgers

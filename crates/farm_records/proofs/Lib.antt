@@ -1,7 +1,0 @@
--- The lemmas of `farm_records`, by topic.
-pub mod Traces
-pub mod Growing
-pub mod Settling
-pub mod Keeping
-pub mod Answered
-pub mod Answering

@@ -1,0 +1,225 @@
+//! Tickets among entries: what a movement was opened on, what it is closed on, and what a Closing or a Reverse issues.
+
+ghost use Rattle.std.specs.Prelude.{◌≡◌, ◌↔◌, IfSome, IsSome};
+ghost use Rattle.farm_chain.specs.Volumes.{AreInRange};
+ghost use Rattle.farm_ticket.specs.Reversing.{SidesAddUp};
+ghost use Rattle.history_lookups.specs.Bounds.{IsClosedInRange, IsOpenedInRange};
+ghost use Rattle.history_lookups.specs.Closings.{closed_by};
+ghost use Rattle.history_lookups.specs.Pasts.{IsReadable, history_of};
+ghost use Rattle.farm_history.specs.Commands.{issues_ticket};
+ghost use Rattle.farm_history.specs.History.{last_place};
+ghost use Rattle.farm_history.specs.Tickets.{any_goes_wrong, closed, closing_ticket, figures_at_closing, issued_by, issued_by_closing, leg_at, movement_of, next_number, plan_to_close, ticket_at, tickets_in, to_close};
+
+use crate::Past;
+use crate::figures::named;
+use farm_fixed::Quantities;
+use farm_history::{Command, Entry, Gauged, Named, Plan};
+use farm_movement::{Leg, OpenMove};
+use farm_ticket::{Ticket, Way};
+
+/// A movement, and the figures of its tanks that it is to be closed on.
+pub type ToClose = (OpenMove, Quantities, Option<Quantities>);
+
+impl Past<'_> {
+    /// The ticket of the entry at a place. `None` where no Closing and no Reverse stands there, and where a figure of its sides isn't
+    /// calculated or a side goes the wrong way, which doesn't occur in a legal history.
+    #[tactic(auto, unfolding(farm_history::specs::Tickets::ticket_at))]
+    pub fn ticket_at(&self, place: u32) -> Option<Ticket>
+        requires readable { IsReadable (history_of self.now.site.now self.now.entries.now) }
+        ensures ticket { result ≡ ticket_at (history_of self.now.site.now self.now.entries.now) place }
+    {
+        let entry = self.entry_at(place)?;
+        self.before(place).issued_by(place, &entry.cmd)
+    }
+
+    // The ticket that a command issues at a place, after these entries.
+    fn issued_by(&self, place: u32, command: &Command) -> Option<Ticket>
+        requires readable { IsReadable (history_of self.now.site.now self.now.entries.now) }
+        ensures ticket { result ≡ issued_by (history_of self.now.site.now self.now.entries.now) place command.now }
+    {
+        let Command::Reverse { ticket } = command else {
+            return self.issued_by_closing(place, command);
+        };
+        let reversed = self.closing_ticket(*ticket)?;
+        Some(reversed.reversal(place, self.next_number()))
+    }
+
+    /// The ticket of the Closing at a place. `None` as for `ticket_at`, and where a Reverse stands there.
+    #[tactic(auto, unfolding(farm_history::specs::Tickets::closing_ticket))]
+    pub fn closing_ticket(&self, place: u32) -> Option<Ticket>
+        requires readable { IsReadable (history_of self.now.site.now self.now.entries.now) }
+        ensures ticket { result ≡ closing_ticket (history_of self.now.site.now self.now.entries.now) place }
+        ensures adds_up { IfSome result SidesAddUp }
+    {
+        let entry = self.entry_at(place)?;
+        self.before(place).issued_by_closing(place, &entry.cmd)
+    }
+
+    // The ticket that a Closing issues at a place, after these entries.
+    fn issued_by_closing(&self, place: u32, command: &Command) -> Option<Ticket>
+        requires readable { IsReadable (history_of self.now.site.now self.now.entries.now) }
+        ensures ticket { result ≡ issued_by_closing (history_of self.now.site.now self.now.entries.now) place command.now }
+        ensures adds_up { IfSome result SidesAddUp }
+    {
+        let (movement, first, second) = self.closed_by(command)?;
+        closed(place, self.next_number(), movement, first, second)
+    }
+
+    // The movement that a Closing names, and the figures that it closes it on. `None` where one of these isn't there, and for a command
+    // that is no Closing.
+    pub(crate) fn closed_by(&self, command: &Command) -> Option<ToClose>
+        requires readable { IsReadable (history_of self.now.site.now self.now.entries.now) }
+        ensures closed_by { result ≡ closed_by (history_of self.now.site.now self.now.entries.now) command.now }
+        ensures sides { IfSome result (λ close. IsSome close.2 ↔ IsSome close.0.second) }
+        ensures range { IfSome result IsClosedInRange }
+    {
+        match command {
+            Command::Closing {
+                movement,
+                first,
+                second,
+            } => self.to_close(*movement, first, second),
+            _ => None,
+        }
+    }
+
+    // The number of the next ticket.
+    fn next_number(&self) -> u32
+        requires readable { IsReadable (history_of self.now.site.now self.now.entries.now) }
+        ensures number { result ≡ next_number (history_of self.now.site.now self.now.entries.now) }
+    {
+        let mut count = 0;
+        for entry in self.entries {
+            if issues_ticket(&entry.cmd) {
+                count += 1;
+            }
+        }
+        count + 1
+    }
+
+    /// The movement that a Closing names, and the figures that it closes it on. `None` where one of these isn't there.
+    #[tactic(auto, unfolding(farm_history::specs::Tickets::to_close))]
+    pub fn to_close(
+        &self,
+        movement: u32,
+        first: &Gauged,
+        second: &Option<Gauged>,
+    ) -> Option<ToClose>
+        requires readable { IsReadable (history_of self.now.site.now self.now.entries.now) }
+        ensures to_close { result ≡ to_close (history_of self.now.site.now self.now.entries.now) movement first.now second.now }
+        ensures sides { IfSome result (λ close. IsSome close.2 ↔ IsSome close.0.second) }
+        ensures range { IfSome result IsClosedInRange }
+    {
+        let plan = self.opened_at(movement)?;
+        let opened = self.movement_of(movement, &plan)?;
+        let (first, second) = self.figures_at_closing(first, second, &plan)?;
+        Some((opened, first, second))
+    }
+
+    // The movement that a plan opens at a place.
+    #[tactic(auto, unfolding(farm_history::specs::Tickets::movement_of))]
+    fn movement_of(&self, place: u32, plan: &Plan) -> Option<OpenMove>
+        requires readable { IsReadable (history_of self.now.site.now self.now.entries.now) }
+        ensures movement { result ≡ movement_of (history_of self.now.site.now self.now.entries.now) place plan.now }
+        ensures range { IfSome result IsOpenedInRange }
+    {
+        match plan {
+            Plan::Outside {
+                way,
+                tank,
+                party,
+                gauged,
+            } => {
+                let leg = self.leg_at(*way, &named(*tank, gauged))?;
+                Some(OpenMove::new(place, *party, leg, None))
+            }
+            Plan::Transfer {
+                from,
+                to,
+                from_gauged,
+                to_gauged,
+            } => {
+                let leg = self.leg_at(Way::Outward, &named(*from, from_gauged))?;
+                let other = self.leg_at(Way::Inward, &named(*to, to_gauged))?;
+                Some(OpenMove::new(place, 0, leg, Some(other)))
+            }
+        }
+    }
+
+    // A side of a movement at its opening.
+    #[tactic(auto, unfolding(farm_history::specs::Tickets::leg_at))]
+    fn leg_at(&self, way: Way, pair: &Named) -> Option<Leg>
+        requires readable { IsReadable (history_of self.now.site.now self.now.entries.now) }
+        ensures leg { result ≡ leg_at (history_of self.now.site.now self.now.entries.now) way pair.now }
+        ensures range { IfSome result (λ leg. AreInRange leg.opening) }
+    {
+        let opening = self.figures_at(pair)?;
+        Some(Leg {
+            tank: pair.tank,
+            way,
+            reading: pair.gauged.reading,
+            sample: pair.gauged.sample,
+            opening,
+        })
+    }
+
+    // The figures on what a Closing names for the tanks of a plan.
+    #[tactic(auto, unfolding(farm_history::specs::Tickets::figures_at_closing))]
+    fn figures_at_closing(
+        &self,
+        first: &Gauged,
+        second: &Option<Gauged>,
+        plan: &Plan,
+    ) -> Option<(Quantities, Option<Quantities>)>
+        requires readable { IsReadable (history_of self.now.site.now self.now.entries.now) }
+        ensures figures { result ≡ figures_at_closing (history_of self.now.site.now self.now.entries.now) first.now second.now plan.now }
+        ensures first_range { IfSome result (λ figures. AreInRange figures.0) }
+        ensures second_range { IfSome result (λ figures. IfSome figures.1 AreInRange) }
+    {
+        match (plan, second) {
+            (Plan::Outside { tank, .. }, _) => {
+                let figures = self.figures_at(&named(*tank, first))?;
+                Some((figures, None))
+            }
+            (Plan::Transfer { .. }, None) => None,
+            (Plan::Transfer { from, to, .. }, Some(second)) => {
+                let figures = self.figures_at(&named(*from, first))?;
+                let others = self.figures_at(&named(*to, second))?;
+                Some((figures, Some(others)))
+            }
+        }
+    }
+}
+
+// The ticket of a movement that is closed at a place, with this number. `None` exactly where a side goes the wrong way.
+pub(crate) fn closed(
+    place: u32,
+    number: u32,
+    movement: OpenMove,
+    first: Quantities,
+    second: Option<Quantities>,
+) -> Option<Ticket>
+    requires sides { IsSome second ↔ IsSome movement.second }
+    ensures ticket { result ≡ closed place number (movement, first, second) }
+    ensures adds_up { IfSome result SidesAddUp }
+{
+    match movement.close(place, number, first, second) {
+        Ok(closed) => Some(closed.ticket()),
+        Err(_) => None,
+    }
+}
+
+/// Whether a side of a movement goes the wrong way on these figures.
+pub fn goes_wrong(movement: OpenMove, first: Quantities, second: Option<Quantities>) -> bool
+    requires sides { IsSome second ↔ IsSome movement.second }
+    ensures wrong { result ≡ any_goes_wrong (movement, first, second) }
+{
+    movement.close(0, 0, first, second).is_err()
+}
+
+// Whether a command issues a ticket.
+fn issues_ticket(command: &Command) -> bool
+    ensures issues { result ≡ issues_ticket command.now }
+{
+    matches!(command, Command::Closing { .. } | Command::Reverse { .. })
+}

@@ -1,2 +1,0 @@
--- The definitions of `journal_rows`, by subject.
-pub mod Listing

@@ -1,2 +1,0 @@
--- The definitions of `row_site`, by subject.
-pub mod Files

@@ -1,0 +1,2 @@
+-- The definitions of `sample_site`, by subject.
+pub mod Files

@@ -1,6 +1,0 @@
--- The definitions of `site_bytes`, by subject.
-pub mod Limits
-pub mod Encoding
-pub mod Buffers
-pub mod Sizes
-pub mod Typed

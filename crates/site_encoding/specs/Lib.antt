@@ -1,0 +1,6 @@
+-- The definitions of `site_encoding`, by subject.
+pub mod Limits
+pub mod Encoding
+pub mod Buffers
+pub mod Sizes
+pub mod Typed

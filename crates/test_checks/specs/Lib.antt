@@ -1,0 +1,2 @@
+-- The definitions of `test_checks`, by subject.
+pub mod Counting

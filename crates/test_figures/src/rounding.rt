@@ -1,0 +1,68 @@
+//! Rounding to a multiple with ties, and the rounding table.
+
+use farm_rounding::{
+    BadRow, DEADWOOD_PART, FACTOR_TIES, GROSS_OBSERVED, GROSS_STANDARD, LIQUID_TEMPERATURE, MASS,
+    Mode, NET_STANDARD, ROOF_ADJUSTMENT, RoundTable, SHELL_CORRECTION, STRAPPED_ROW, TABLE_VOLUME,
+    TAPE_MEAN, nearest,
+};
+use std::test::Fail;
+use test_checks::{Checks, shared};
+
+#[test]
+fn nearest_ties(rt: HostRuntime) -> Result<(), Fail> {
+    let mut checks = Checks::new(&rt);
+    let cases = [
+        (5, 10, 1, Mode::HalfAway, 1),
+        (-5, 10, 1, Mode::HalfAway, -1),
+        (5, 10, 1, Mode::TowardZero, 0),
+        (-5, 10, 1, Mode::TowardZero, 0),
+        (1250, 100, 5, Mode::HalfAway, 15),
+    ];
+    for (num, den, step, mode, want) in cases {
+        checks.same_at(num, nearest(num, den, step, mode), want);
+    }
+    Ok(checks.end()?)
+}
+
+#[test]
+fn usual_table_rounds_temperatures_to_five(rt: HostRuntime) -> Result<(), Fail> {
+    let mut checks = Checks::new(&rt);
+    let table = shared(RoundTable::usual());
+    checks.same(table.row(LIQUID_TEMPERATURE), (5, Mode::HalfAway));
+    for n in [
+        TAPE_MEAN,
+        STRAPPED_ROW,
+        DEADWOOD_PART,
+        TABLE_VOLUME,
+        SHELL_CORRECTION,
+        FACTOR_TIES,
+        ROOF_ADJUSTMENT,
+        GROSS_OBSERVED,
+        GROSS_STANDARD,
+        NET_STANDARD,
+        MASS,
+    ] {
+        checks.same_at(n, table.row(n), (1, Mode::HalfAway));
+    }
+    Ok(checks.end()?)
+}
+
+// The row of the mass in the table of these rows, or the first bad row.
+fn mass_row(rows: [(u8, Mode); 12]) -> Result<(i64, Mode), BadRow> {
+    Ok(RoundTable::new(rows)?.row(MASS))
+}
+
+#[test]
+fn a_table_is_refused_at_its_first_bad_row(rt: HostRuntime) -> Result<(), Fail> {
+    let mut checks = Checks::new(&rt);
+    let good = [(1, Mode::TowardZero); 12];
+    let mut odd_step = good;
+    odd_step[0] = (3, Mode::HalfAway);
+    odd_step[9] = (0, Mode::HalfAway);
+    let mut wide_ties = good;
+    wide_ties[6] = (5, Mode::HalfAway);
+    checks.same(mass_row(good), Ok((1, Mode::TowardZero)));
+    checks.same(mass_row(odd_step), Err(BadRow(1)));
+    checks.same(mass_row(wide_ties), Err(shared(BadRow(7))));
+    Ok(checks.end()?)
+}

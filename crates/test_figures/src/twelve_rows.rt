@@ -1,0 +1,106 @@
+//! The figures of a reading under twelve different rounding rows, which docs/trade.md works out by hand.
+
+use farm_chain::quantities;
+use farm_fixed::{
+    Centi, ChainRule, Dens, Fac5, Kg, Mm, Permil5, Quantities, Reading, Sample, Shell,
+};
+use farm_rounding::{Mode, RoundTable};
+use farm_vcf::Vcf;
+use std::alloc::Global;
+use std::test::Fail;
+use strap_table::{CapTable, Roof, TankSpec};
+use test_checks::Checks;
+
+// Each of the twelve rows differs from every other.
+const TWELVE_ROWS: [(u8, Mode); 12] = [
+    (2, Mode::HalfAway),
+    (5, Mode::HalfAway),
+    (2, Mode::TowardZero),
+    (5, Mode::TowardZero),
+    (10, Mode::HalfAway),
+    (1, Mode::TowardZero),
+    (1, Mode::HalfAway),
+    (20, Mode::HalfAway),
+    (50, Mode::HalfAway),
+    (100, Mode::HalfAway),
+    (20, Mode::TowardZero),
+    (50, Mode::TowardZero),
+];
+
+fn table(alloc: Global) -> Result<CapTable, Fail> {
+    let rows = vec![in alloc; 0, 329_780, 657_222, 972_597, 1_281_095]?;
+    Ok(CapTable::from_rows(rows)?)
+}
+
+// A factor of 0.99150 at 850.0 and 25.00 C alone.
+fn vcf(alloc: Global) -> Result<Vcf, Fail> {
+    let densities = vec![in alloc; Dens::new(8_500)?]?;
+    let temperatures = vec![in alloc; Centi::new(2_500)?]?;
+    let factors = vec![in alloc; Fac5::new(99_150)?]?;
+    Ok(Vcf::from_grid(densities, temperatures, factors)?)
+}
+
+// A bare shell, whose roof floats above 20 mm.
+fn tank() -> Result<TankSpec, Fail> {
+    Ok(TankSpec {
+        shell: Shell {
+            insulated: false,
+            coefficient: 112,
+            reference: Centi::new(1_500)?,
+        },
+        height: Mm::new(50)?,
+        roof: Some(Roof {
+            mass: Kg::new(85_000)?,
+            low: Mm::new(10)?,
+            high: Mm::new(20)?,
+        }),
+    })
+}
+
+// A level of 37 mm with 13 mm of water, at 25.00 C and 33.00 C ambient.
+fn reading() -> Result<Reading, Fail> {
+    Ok(Reading {
+        level: Mm::new(37)?,
+        water: Mm::new(13)?,
+        liquid: Centi::new(2_500)?,
+        ambient: Centi::new(3_300)?,
+    })
+}
+
+// The figures of that reading, with 0.250 percent of sediment and water.
+fn figures(alloc: Global) -> Result<Result<Quantities, ChainRule>, Fail> {
+    let sample = Sample {
+        density: Dens::new(8_500)?,
+        sw: Permil5::new(250)?,
+    };
+    let tank = tank()?;
+    let reading = reading()?;
+    let rounding = RoundTable::new(TWELVE_ROWS)?;
+    let table = table(alloc)?;
+    let vcf = vcf(alloc)?;
+    Ok(quantities(&tank, &table, &vcf, &rounding, &reading, &sample))
+}
+
+#[test]
+fn each_figure_is_rounded_by_its_own_row(rt: HostRuntime) -> Result<(), Fail> {
+    let mut checks = Checks::new(&rt);
+    let in_order = figures(rt.alloc())?.map(|q| {
+        [
+            q.tov.get(),
+            q.fw.get(),
+            q.ctsh.get(),
+            q.vcf.get(),
+            q.fra.get(),
+            q.gov.get(),
+            q.gsv.get(),
+            q.nsv.get(),
+            q.swv.get(),
+            q.mass.get(),
+        ]
+    });
+    let expected = [
+        1_188_550, 428_010, 100_024, 99_150, -100_860, 659_850, 654_200, 652_560, 1_640, 554_650,
+    ];
+    checks.same(in_order, Ok(expected));
+    Ok(checks.end()?)
+}

@@ -1,0 +1,2 @@
+-- The lemmas of `test_journals`, by topic.
+pub mod Counts

@@ -1,0 +1,2 @@
+-- The definitions of `test_journals`, by subject.
+pub mod Listing

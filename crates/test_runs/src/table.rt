@@ -1,0 +1,107 @@
+//! `table` on the row site.
+
+use crate::running::{Answer, answer, check_answer};
+use farm_ports::Files;
+use std::alloc::{AllocError, Global};
+use std::test::Fail;
+use test_checks::Checks;
+
+const ROUNDING: &str =
+    "name = \"Rowsite\"\nrounding = [\"3 half\", \"5 half\", \"1 half\", \"1 half\", \"1 half\", \"1 half\", \"1 half\", \"1 half\", \"1 half\", \"1 half\", \"1 half\", \"1 half\"]";
+
+// What `table` answers over a folder.
+fn table_answer(alloc: Global, folder: Files) -> Result<Answer, Fail> {
+    answer(alloc, &["table", "--site", "row"], "", folder)
+}
+
+// The folder of the row site, with a text in one of its files replaced where it stands first.
+fn edited(alloc: Global, name: &str, old: &str, new: &str) -> Result<Files, Fail> {
+    let mut files = sample_site::row_files(alloc)?;
+    for (own, bytes) in &mut files {
+        if own.as_str() == name {
+            *bytes = replaced(alloc, bytes, old, new)?;
+        }
+    }
+    Ok(Files::new(alloc, files, Vec::new(alloc))?)
+}
+
+// The bytes of a text with one replaced by another, where it first stands.
+fn replaced(alloc: Global, bytes: &[u8], old: &str, new: &str) -> Result<Vec<u8>, Fail> {
+    let text = std::str::from_utf8(bytes).ok().ok_or("no text")?;
+    Ok(text.replacen(alloc, old, new, 1)?.into_bytes())
+}
+
+// The issued table of a tank of the row site: a row each 10 mm from 0 to 15,000 mm, of 10,000 litres each.
+fn write_table(out: &mut String, alloc: Global, tank: u16) -> Result<(), AllocError> {
+    out.push_str(format!(in alloc; "tank {tank}\n")?.as_str())?;
+    for row in 0..=1_500_u32 {
+        out.push_str(format!(in alloc; "{} {}\n", 10 * row, 10_000 * row)?.as_str())?;
+    }
+    Ok(())
+}
+
+// The issued tables of the row site.
+fn issued(alloc: Global) -> Result<String, AllocError> {
+    let mut tables = String::new(alloc);
+    for tank in 101..=106 {
+        write_table(&mut tables, alloc, tank)?;
+    }
+    Ok(tables)
+}
+
+#[test]
+fn each_tank_has_its_table_issued(rt: HostRuntime) -> Result<(), Fail> {
+    let mut checks = Checks::new(&rt);
+    let want = issued(rt.alloc())?;
+    let (status, bytes) = table_answer(rt.alloc(), sample_site::row_folder(rt.alloc())?)?;
+    checks.same(status, 0);
+    checks.same(bytes.as_slice() == want.as_bytes(), true);
+    Ok(checks.end()?)
+}
+
+#[test]
+fn site_refusals(rt: HostRuntime) -> Result<(), Fail> {
+    let mut checks = Checks::new(&rt);
+    let cases = [
+        (
+            "site.toml",
+            "number = 102\nproduct = 1",
+            "number = 102\nproduct = 9",
+            2,
+            "site refused: code 5 item 2 detail 0\n",
+        ),
+        (
+            "factors.csv",
+            "860.0,25.00,0.99160\n",
+            "",
+            2,
+            "site refused: code 8 item 1 detail 9\n",
+        ),
+        (
+            "site.toml",
+            "coefficient = 112",
+            "coefficient = 112.0",
+            2,
+            "site refused: code 2 item 1 detail 0\n",
+        ),
+        (
+            "site.toml",
+            "name = \"Rowsite\"",
+            ROUNDING,
+            2,
+            "site refused: code 3 item 0 detail 0\n",
+        ),
+        (
+            "site.toml",
+            "\"factors.csv\"",
+            "\"no.csv\"",
+            6,
+            "port fault\n",
+        ),
+    ];
+    for (name, old, new, want, text) in cases {
+        let answer = table_answer(rt.alloc(), edited(rt.alloc(), name, old, new)?)?;
+        check_answer(&mut checks, old, answer, want, text);
+    }
+    Ok(checks.end()?)
+}

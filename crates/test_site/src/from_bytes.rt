@@ -1,0 +1,102 @@
+//! A site from its bytes, and bytes that are no site's.
+
+use crate::bytes::BYTES;
+use farm_site::{Site, SiteBytesFault};
+use std::alloc::Global;
+use std::test::Fail;
+use test_checks::Checks;
+
+// Where the count of the tanks stands, the tank, the lines, the count of the gauges, and the gauge.
+const TANKS: usize = 66;
+
+const TANK: usize = 67;
+
+const LINES: usize = 113;
+
+const GAUGES: usize = 118;
+
+const GAUGE: usize = 119;
+
+// Some bytes of the site.
+fn bytes_from(start: usize, end: usize) -> &'static [u8] {
+    BYTES.get(start..end).unwrap_or(&[])
+}
+
+// Bytes in a row.
+fn joined(alloc: Global, parts: &[&[u8]]) -> Result<Vec<u8>, Fail> {
+    let mut bytes = Vec::new(alloc);
+    for part in parts {
+        bytes.extend_from_slice(part)?;
+    }
+    Ok(bytes)
+}
+
+// Why these parts in a row are no site's bytes.
+fn fault_of(alloc: Global, parts: &[&[u8]]) -> Result<Option<SiteBytesFault>, Fail> {
+    let bytes = joined(alloc, parts)?;
+    Ok(Site::from_bytes(alloc, &bytes).err())
+}
+
+const BAD: Option<SiteBytesFault> = Some(SiteBytesFault::BadSite);
+
+#[test]
+fn a_site_is_read_from_its_bytes_and_written_as_it_was(rt: HostRuntime) -> Result<(), Fail> {
+    let mut checks = Checks::new(&rt);
+    let site = Site::from_bytes(rt.alloc(), BYTES)?;
+    let bytes = site.to_bytes(rt.alloc());
+    drop(site);
+    checks.same(bytes?.as_slice(), BYTES);
+    Ok(checks.end()?)
+}
+
+#[test]
+fn bytes_are_neither_missing_nor_too_many(rt: HostRuntime) -> Result<(), Fail> {
+    let mut checks = Checks::new(&rt);
+    for length in 0..BYTES.len() {
+        let fault = fault_of(rt.alloc(), &[bytes_from(0, length)])?;
+        checks.same_at(length, fault, BAD);
+    }
+    let fault = fault_of(rt.alloc(), &[BYTES, &[0]])?;
+    checks.same_at("one byte too many", fault, BAD);
+    Ok(checks.end()?)
+}
+
+#[test]
+fn a_byte_that_may_not_stand_there_is_bad(rt: HostRuntime) -> Result<(), Fail> {
+    let mut checks = Checks::new(&rt);
+    let cases: [(usize, u8, &str); 7] = [
+        (0, 2, "another format"),
+        (3, 3, "a step that no row may have"),
+        (4, 2, "another mode"),
+        (70, 2, "a product that the site doesn't have"),
+        (71, 2, "another insulation"),
+        (78, 2, "a roof that is neither there nor missing"),
+        (128, 4, "flags of no field"),
+    ];
+    for (offset, byte, what) in cases {
+        let front = bytes_from(0, offset);
+        let rest = bytes_from(offset + 1, BYTES.len());
+        let fault = fault_of(rt.alloc(), &[front, &[byte], rest])?;
+        checks.same_at(what, fault, BAD);
+    }
+    Ok(checks.end()?)
+}
+
+#[test]
+fn tanks_rise_and_have_one_gauge(rt: HostRuntime) -> Result<(), Fail> {
+    let mut checks = Checks::new(&rt);
+    let alloc = rt.alloc();
+    let front = bytes_from(0, TANKS);
+    let tank = bytes_from(TANK + 2, LINES);
+    let lines = bytes_from(LINES, BYTES.len());
+    let gauge = bytes_from(GAUGE, BYTES.len());
+    let rising = fault_of(alloc, &[front, &[2, 0, 6], tank, &[0, 7], tank, lines])?;
+    checks.same(rising, None);
+    let equal = fault_of(alloc, &[front, &[2, 0, 7], tank, &[0, 7], tank, lines])?;
+    checks.same_at("equal tank numbers", equal, BAD);
+    let falling = fault_of(alloc, &[front, &[2, 0, 7], tank, &[0, 6], tank, lines])?;
+    checks.same_at("tanks in falling order", falling, BAD);
+    let twice = fault_of(alloc, &[bytes_from(0, GAUGES), &[2], gauge, gauge])?;
+    checks.same_at("two gauges on one tank", twice, BAD);
+    Ok(checks.end()?)
+}
