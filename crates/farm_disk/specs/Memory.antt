@@ -1,20 +1,46 @@
 -- What a disk in memory keeps of its writes and syncs: its states follow from the bytes at the start.
-use Rattle.std.specs.Prelude.{◌≡◌, ◌⊎◌, ℕ, Bool, true, false, List, [], ◌∷◌, ◌++◌, Result, Ok, Err}
+use Rattle.std.specs.Prelude.{◌≡◌, ◌⊎◌, ℕ, ◌+◌, ◌<◌, ◌≤◌, Bool, true, false, List, [], ◌∷◌, ◌++◌, length, Result, Ok, Err}
 use Rattle.farm_disk.specs.Images.{State, at_rest, begun, synced, written}
 use Rattle.farm_disk.specs.declared.disk_call.DiskCall.{DiskCall}
 use Rattle.farm_disk.specs.declared.disk_call.DiskCall.TheVariants.{Write, Sync}
+use Rattle.farm_ports.specs.Copies.{Copies, FitsCopy, TakesOne}
 use Rattle.farm_ports.specs.Objects.{Calls}
 
--- the bytes at the start, and the writes and syncs that were begun since, in their order
+-- the memory of a disk in memory: for how many writes and syncs, for copies of what is written, and for how many bytes that
+-- reads give
+pub record Room : Type 0 where
+  pub calls : ℕ
+  pub copies : Copies
+  pub bytes : ℕ
+
+-- the bytes at the start, the writes and syncs that were begun since, in their order, and the room for more
 pub record KeptDisk : Type 0 where
   pub start : List ℕ
   pub calls : List DiskCall
+  pub room : Room
 
--- a disk in memory: the bytes at the start, the writes and syncs that were begun since, and how many calls it has counted
+-- a disk in memory: the bytes at the start, the writes and syncs that were begun since, the room for more, and how many calls it has
+-- counted
 pub record MemState : Type 0 where
   pub start : List ℕ
   pub calls : List DiskCall
+  pub room : Room
   pub counted : Calls
+
+-- after these calls there is room for one more
+abbrev pub HasRoomForCall : List DiskCall → Room → Type 0
+HasRoomForCall calls room = length calls < room.calls
+
+-- after these calls there is room for a write of these bytes at an offset
+abbrev pub HasRoomForWrite : ℕ → List ℕ → List DiskCall → Room → Type 0
+HasRoomForWrite at bytes calls room =
+    HasRoomForCall calls room × FitsCopy (length bytes) room.copies × (at + length bytes ≤ room.bytes)
+
+-- a call took room for one write at most
+pub record LeavesRoom (old new : Room) : Type 0 where
+  pub calls : old.calls ≤ new.calls
+  pub copies : TakesOne old.copies new.copies
+  pub bytes : old.bytes ≤ new.bytes
 
 -- a disk once a call has begun
 abbrev pub call_begun : DiskCall → State → State

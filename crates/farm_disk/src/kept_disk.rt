@@ -1,32 +1,37 @@
 //! What a disk in memory keeps: the bytes at the start, its writes and syncs since, and what reads give.
 
-ghost use Rattle.std.specs.Prelude.{◌≡◌, ◌+◌, ◌*◌, ◌++◌, [], ◌∷◌, IfOk, OnErr, OnOk, length};
-ghost use Rattle.farm_disk.specs.Memory.{seen_of};
+ghost use Rattle.std.specs.Prelude.{◌≡◌, ◌≤◌, ◌+◌, ◌*◌, ◌++◌, [], ◌∷◌, IfOk, IsOk, OnErr, OnOk, length};
+ghost use Rattle.farm_disk.specs.Memory.{HasRoomForCall, HasRoomForWrite, LeavesRoom, seen_of};
 ghost use Rattle.farm_disk.specs.Rebuilt.{found_at, rebuilt};
 
 use crate::overlay::overlay;
 use crate::rebuilding::image_at;
 use crate::{DiskCall, Fill};
 use farm_base::NoMemory;
-use farm_ports::Bytes;
+use farm_ports::{Bytes, CopyRoom};
 use std::alloc::Global;
 use std::marker::Model;
 
-/// The bytes at the start, the writes and syncs in their order, and the bytes that reads give.
+/// The bytes at the start, the writes and syncs in their order, the bytes that reads give, and room for copies of what is written.
 #[derive(Drop)]
 pub struct KeptDisk {
     start: Vec<u8>,
     calls: Vec<DiskCall>,
     seen: Vec<u8>,
+    copies: CopyRoom,
 }
 
 impl Model for KeptDisk {
-    ghost use Rattle.std.specs.Prelude.{◌≡◌};
+    ghost use Rattle.std.specs.Prelude.{◌≡◌, vec_capacity};
     ghost use Rattle.farm_disk.specs.Memory.{KeptDisk as Kept, seen_of};
 
     ghost Value = { Kept };
 
-    ghost view = { λ disk. record { start = disk.start.items; calls = disk.calls.items } };
+    ghost view = { λ disk. record {
+      start = disk.start.items;
+      calls = disk.calls.items;
+      room = record { calls = vec_capacity disk.calls; copies = disk.copies; bytes = vec_capacity disk.seen };
+    } };
 
     ghost invariant = { λ disk. disk.seen.items ≡ seen_of disk.start.items disk.calls.items };
 }
@@ -42,7 +47,31 @@ impl KeptDisk {
             start: bytes.to_vec(alloc)?,
             calls: Vec::new(alloc),
             seen: bytes,
+            copies: CopyRoom::none(alloc),
         })
+    }
+
+    /// Makes room for this many writes and syncs more, for copies of this many bytes of each write, and for this many bytes that
+    /// reads give. Room for copies that was there before is given up.
+    pub fn reserve(
+        &mut self,
+        alloc: Global,
+        calls: usize,
+        size: usize,
+        bytes: usize,
+    ) -> Result<(), NoMemory>
+        ensures room { OnOk result (length self.new.calls + calls ≤ self.new.room.calls) }
+        ensures count { OnOk result (self.new.room.copies.count ≡ calls) }
+        ensures size { OnOk result (self.new.room.copies.size ≡ size) }
+        ensures bytes { OnOk result (bytes ≤ self.new.room.bytes) }
+        ensures calls { self.new.calls ≡ self.old.calls }
+        ensures start { self.new.start ≡ self.old.start }
+    {
+        let copies = CopyRoom::new(alloc, calls, size)?;
+        self.calls.reserve(calls)?;
+        self.seen.reserve(bytes)?;
+        self.copies = copies;
+        Ok(())
     }
 
     /// The bytes that reads give.
@@ -63,8 +92,10 @@ impl KeptDisk {
         ensures kept { OnOk result (self.new.calls ≡ self.old.calls ++ DiskCall.Write at bytes.now done ∷ []) }
         ensures start { self.new.start ≡ self.old.start }
         ensures stays { OnErr result (self.new.calls ≡ self.old.calls) }
+        ensures in_room { HasRoomForWrite at bytes.now self.old.calls self.old.room → IsOk result }
+        ensures leaves { LeavesRoom self.old.room self.new.room }
     {
-        let copy = Bytes::new(bytes.to_vec(alloc)?);
+        let copy = Bytes::new(self.copies.copy(alloc, bytes)?);
         self.calls.reserve(1)?;
         if done {
             overlay(&mut self.seen, at, bytes, 0)?;
@@ -83,6 +114,8 @@ impl KeptDisk {
         ensures kept { OnOk result (self.new.calls ≡ self.old.calls ++ DiskCall.Sync done ∷ []) }
         ensures start { self.new.start ≡ self.old.start }
         ensures stays { OnErr result (self.new.calls ≡ self.old.calls) }
+        ensures in_room { HasRoomForCall self.old.calls self.old.room → IsOk result }
+        ensures leaves { LeavesRoom self.old.room self.new.room }
     {
         Ok(self.calls.push(DiskCall::Sync { done })?)
     }

@@ -1,11 +1,11 @@
 //! A disk in memory.
 
-ghost use Rattle.std.specs.Prelude.{◌≡◌, ◌≤◌, ◌+◌, ◌-◌, ◌*◌, [], ◌∷◌, IfOk, IsErr, OnErr, OnOk, Some, length, min};
+ghost use Rattle.std.specs.Prelude.{◌≡◌, ◌↔◌, ◌≤◌, ◌+◌, ◌-◌, ◌*◌, ◌++◌, [], ◌∷◌, false, IfOk, IsErr, OnErr, OnOk, Some, length, min};
 ghost use Rattle.farm_base.specs.Counts.{HasCause, raised};
 ghost use Rattle.farm_base.specs.Known.{WhereKnown};
 ghost use Rattle.farm_disk.specs.Calls.{Measures, Passes, Reads, Syncs, Writes};
 ghost use Rattle.farm_disk.specs.Images.{IsCrashImage, at_rest, present, state_at};
-ghost use Rattle.farm_disk.specs.Memory.{Keeps, seen_of, states_of};
+ghost use Rattle.farm_disk.specs.Memory.{HasRoomForCall, HasRoomForWrite, Keeps, LeavesRoom, seen_of, states_of};
 ghost use Rattle.farm_disk.specs.Rebuilt.{IsFilled};
 ghost use Rattle.farm_ports.specs.Objects.{CountsCall, FailsNext};
 
@@ -20,7 +20,8 @@ use std::marker::Model;
 /// A disk in memory: it keeps its writes and syncs, and fails the calls that it has in a list.
 ///
 /// Measurings, reads, writes and syncs are numbered together, from 1. A listed write has begun and leaves what reads give as it
-/// was; a listed sync changes nothing. A write or a sync that finds no memory fails, and takes no moment.
+/// was; a listed sync changes nothing. A write or a sync that finds no memory fails, and takes no moment: with room from `reserve`
+/// none does.
 #[derive(Drop)]
 pub struct MemDisk {
     alloc: Global,
@@ -33,7 +34,7 @@ impl Model for MemDisk {
 
     ghost Value = { MemState };
 
-    ghost view = { λ disk. record { start = disk.kept.start; calls = disk.kept.calls; counted = disk.counted } };
+    ghost view = { λ disk. record { start = disk.kept.start; calls = disk.kept.calls; room = disk.kept.room; counted = disk.counted } };
 }
 
 impl MemDisk {
@@ -54,6 +55,21 @@ impl MemDisk {
             kept: KeptDisk::new(alloc, bytes)?,
             counted: FailingCalls::new(fails),
         })
+    }
+
+    /// Makes room for `calls` writes and syncs more, each write of up to `size` bytes, as far as reads give up to `bytes` bytes.
+    ///
+    /// Room for what is written that was there before is given up.
+    pub fn reserve(&mut self, calls: usize, size: usize, bytes: usize) -> Result<(), NoMemory>
+        ensures room { OnOk result (length self.new.calls + calls ≤ self.new.room.calls) }
+        ensures count { OnOk result (self.new.room.copies.count ≡ calls) }
+        ensures size { OnOk result (self.new.room.copies.size ≡ size) }
+        ensures bytes { OnOk result (bytes ≤ self.new.room.bytes) }
+        ensures calls { self.new.calls ≡ self.old.calls }
+        ensures start { self.new.start ≡ self.old.start }
+        ensures counted { self.new.counted ≡ self.old.counted }
+    {
+        self.kept.reserve(self.alloc, calls, size, bytes)
     }
 
     /// The bytes that a crash at a moment leaves, by what it leaves where it may leave any byte.
@@ -81,11 +97,12 @@ impl Disk for MemDisk {
         ensures quiet { OnOk result (⟦<MemDisk as Disk>⟧.faults self.new ≡ ⟦<MemDisk as Disk>⟧.faults self.old) }
         ensures once { OnErr result (⟦<MemDisk as Disk>⟧.faults self.new ≡ raised 1 (⟦<MemDisk as Disk>⟧.faults self.old)) }
 
-        // A listed measuring fails.
-        ensures listed { FailsNext self.old.counted → IsErr result }
+        // A listed measuring fails, and no other.
+        ensures listed { IsErr result ↔ FailsNext self.old.counted }
         ensures counted { CountsCall self.old.counted self.new.counted }
         ensures start { self.new.start ≡ self.old.start }
         ensures calls { self.new.calls ≡ self.old.calls }
+        ensures room { self.new.room ≡ self.old.room }
     {
         self.counted.begin()?;
         Ok(self.kept.seen().len() as u64)
@@ -98,12 +115,13 @@ impl Disk for MemDisk {
         ensures quiet { OnOk result (⟦<MemDisk as Disk>⟧.faults self.new ≡ ⟦<MemDisk as Disk>⟧.faults self.old) }
         ensures once { OnErr result (⟦<MemDisk as Disk>⟧.faults self.new ≡ raised 1 (⟦<MemDisk as Disk>⟧.faults self.old)) }
 
-        // A listed read fails; any other gives as much as there is room for.
-        ensures listed { FailsNext self.old.counted → IsErr result }
+        // A listed read fails, and no other: any other gives as much as there is room for.
+        ensures listed { IsErr result ↔ FailsNext self.old.counted }
         ensures counted { CountsCall self.old.counted self.new.counted }
         ensures whole { IfOk result (λ count. count ≡ min (length into.old) (length (seen_of self.old.start self.old.calls) - at)) }
         ensures start { self.new.start ≡ self.old.start }
         ensures calls { self.new.calls ≡ self.old.calls }
+        ensures room { self.new.room ≡ self.old.room }
     {
         self.counted.begin()?;
         Ok(copy_at(self.kept.seen(), at, into))
@@ -116,12 +134,17 @@ impl Disk for MemDisk {
         ensures quiet { OnOk result (⟦<MemDisk as Disk>⟧.faults self.new ≡ ⟦<MemDisk as Disk>⟧.faults self.old) }
         ensures once { OnErr result (⟦<MemDisk as Disk>⟧.faults self.new ≡ raised 1 (⟦<MemDisk as Disk>⟧.faults self.old)) }
 
-        // A listed write fails, and one that finds no memory, which changes nothing but the count.
+        // A listed write fails, and one that finds no memory, which changes nothing but the count. With room a listed one alone
+        // fails, and has begun.
         ensures listed { FailsNext self.old.counted → IsErr result }
+        ensures listed_alone { HasRoomForWrite at bytes.now self.old.calls self.old.room → IsErr result → FailsNext self.old.counted }
+        ensures begun { HasRoomForWrite at bytes.now self.old.calls self.old.room → IsErr result →
+            self.new.calls ≡ self.old.calls ++ DiskCall.Write at bytes.now false ∷ [] }
         ensures counted { CountsCall self.old.counted self.new.counted }
         ensures kept { Keeps self.old.calls self.new.calls (DiskCall.Write at bytes.now) result }
         ensures unlisted { IsErr result → (FailsNext self.old.counted → ⊥) → self.new.calls ≡ self.old.calls }
         ensures start { self.new.start ≡ self.old.start }
+        ensures leaves { LeavesRoom self.old.room self.new.room }
     {
         let answer = self.counted.begin();
         let kept = self.kept.write(self.alloc, at, bytes, answer.is_ok());
@@ -139,12 +162,16 @@ impl Disk for MemDisk {
         ensures quiet { OnOk result (⟦<MemDisk as Disk>⟧.faults self.new ≡ ⟦<MemDisk as Disk>⟧.faults self.old) }
         ensures once { OnErr result (⟦<MemDisk as Disk>⟧.faults self.new ≡ raised 1 (⟦<MemDisk as Disk>⟧.faults self.old)) }
 
-        // A listed sync fails, and one that finds no memory, which changes nothing but the count.
+        // A listed sync fails, and one that finds no memory, which changes nothing but the count. With room a listed one alone
+        // fails, and has begun.
         ensures listed { FailsNext self.old.counted → IsErr result }
+        ensures listed_alone { HasRoomForCall self.old.calls self.old.room → IsErr result → FailsNext self.old.counted }
+        ensures begun { HasRoomForCall self.old.calls self.old.room → IsErr result → self.new.calls ≡ self.old.calls ++ DiskCall.Sync false ∷ [] }
         ensures counted { CountsCall self.old.counted self.new.counted }
         ensures kept { Keeps self.old.calls self.new.calls DiskCall.Sync result }
         ensures unlisted { IsErr result → (FailsNext self.old.counted → ⊥) → self.new.calls ≡ self.old.calls }
         ensures start { self.new.start ≡ self.old.start }
+        ensures leaves { LeavesRoom self.old.room self.new.room }
     {
         let answer = self.counted.begin();
         let kept = self.kept.sync(answer.is_ok());

@@ -1,6 +1,6 @@
 //! Bytes over others, and bytes out of others, at an offset.
 
-ghost use Rattle.std.specs.Prelude.{◌≡◌, ◌≤◌, ◌++◌, ◌+◌, ◌-◌, OnErr, OnOk, drop, length, min, replicate, take};
+ghost use Rattle.std.specs.Prelude.{◌≡◌, ◌≤◌, ◌++◌, ◌+◌, ◌-◌, IsOk, OnErr, OnOk, drop, length, min, replicate, take, vec_capacity};
 ghost use Rattle.farm_disk.specs.Images.{overlaid};
 
 use farm_base::NoMemory;
@@ -9,6 +9,8 @@ use farm_base::NoMemory;
 fn lengthen(file: &mut Vec<u8>, end: usize, filler: u8) -> Result<(), NoMemory>
     ensures longer { OnOk result (file.new.items ≡ file.old.items ++ replicate (end - length file.old.items) filler) }
     ensures stays { OnErr result (file.new.items ≡ file.old.items) }
+    ensures fits { end ≤ vec_capacity file.old → IsOk result }
+    ensures grows { vec_capacity file.old ≤ vec_capacity file.new }
 {
     if file.len() < end {
         file.resize(end, filler)?;
@@ -30,6 +32,10 @@ fn put(file: &mut [u8], from: usize, bytes: &[u8])
 pub fn overlay(file: &mut Vec<u8>, at: u64, bytes: &[u8], filler: u8) -> Result<(), NoMemory>
     ensures over { OnOk result (file.new.items ≡ overlaid filler at bytes.now file.old.items) }
     ensures stays { OnErr result (file.new.items ≡ file.old.items) }
+
+    // With room it doesn't fail.
+    ensures fits { at + length bytes.now ≤ vec_capacity file.old → IsOk result }
+    ensures grows { vec_capacity file.old ≤ vec_capacity file.new }
 {
     if bytes.is_empty() {
         return Ok(());
