@@ -14,6 +14,7 @@ pub mod Puts
 pub mod SoFar
 pub mod StatusTexts
 pub mod Ends
+pub mod Faults
 pub mod Kept
 pub mod Taken
 pub mod WithinLimits

@@ -19,7 +19,7 @@ use Rattle.farm_http.specs.declared.page.Page.TheVariants as pages
 use Rattle.batch_lines.specs.Reader.{kept}
 use Rattle.batch_lines.specs.declared.limits.TheConstants.{LONGEST_LINE}
 use Rattle.farm_batch.specs.declared.limits.TheConstants.{BATCH_CALLER}
-use Rattle.farm_batch.specs.LineAnswers.{LineAnswer, MeetsLine, answer_to, disk_fault, is_accepted_stop, is_stop_ask, line_answer, line_too_long, out_of_memory, unasked}
+use Rattle.farm_batch.specs.LineAnswers.{AsksNothing, LineAnswer, MeetsLine, answer_to, disk_fault, is_accepted_stop, is_stop_ask, line_answer, line_too_long, out_of_memory, unasked}
 
 -- a page, the history that was left and whether the batch ends are those of an answer
 pub record IsMeant (meant : LineAnswer) (after : History) (page : Page) (stops : Bool) : Type 0 where
@@ -28,17 +28,19 @@ pub record IsMeant (meant : LineAnswer) (after : History) (page : Page) (stops :
   pub stops_is : stops ≡ meant.stops
 
 -- what is an answer meets it
-pub meets : (before after : History) (meant : LineAnswer) (page : Page) (stops : Bool) → IsMeant meant after page stops →
-    MeetsLine before after meant page stops
-meets before after meant page stops is line = inl (record { page = is.page_is; history = is.history_is; stops = is.stops_is })
+pub meets : (line : List ℕ) (before after : History) (meant : LineAnswer) (page : Page) (stops : Bool) → IsMeant meant after page stops →
+    MeetsLine line before after meant page stops
+meets line before after meant page stops is = inl (record { page = is.page_is; history = is.history_is; stops = is.stops_is })
 
 -- what stands in place of an answer where there was no memory meets it
-pub meets_memory : (before after : History) (meant : LineAnswer) → (after ≡ before) ⊎ (after ≡ meant.history) → MeetsLine before after meant out_of_memory false
-meets_memory before after meant left line = inr (inl (record { page_is = refl; history = left; stops = refl }))
+pub meets_memory : (line : List ℕ) (before after : History) (meant : LineAnswer) → (after ≡ before) ⊎ (after ≡ meant.history) →
+    MeetsLine line before after meant out_of_memory false
+meets_memory line before after meant left = inr (inl (record { page_is = refl; history = left; stops = refl }))
 
--- so does what stands where the disk failed
-pub meets_fault : (before after : History) (meant : LineAnswer) → (after ≡ before) ⊎ (after ≡ meant.history) → MeetsLine before after meant disk_fault false
-meets_fault before after meant left line = inr (inr (record { page_is = refl; history = left; stops = refl }))
+-- so does what stands where the disk failed, of a line that asks something
+pub meets_fault : (line : List ℕ) (before after : History) (meant : LineAnswer) → (after ≡ before) ⊎ (after ≡ meant.history) → ¬ (AsksNothing line) →
+    MeetsLine line before after meant disk_fault false
+meets_fault line before after meant left asks = inr (inr (record { page_is = refl; history = left; stops = refl }, asks))
 
 -- the history that an answer left has more entries exactly where its command was accepted
 grown_where_accepted : (history after : History) (entry : Entry) (judged : Verdict) → after ≡ (answered_on history entry judged).history →
@@ -95,6 +97,16 @@ answered_as limit history now line text asked kept_is asks =
     ap (λ long. cond long (unasked history line_too_long) (answer_to limit history now (ask_of_line line))) whole.0
     ∙ ap (λ line. answer_to limit history now (ask_of_line line)) (sym whole.1) ∙ ap (answer_to limit history now) asks
 
+-- a line that isn't too long, and is a request, asks something
+pub asks_something : (line text : List ℕ) (ask : Ask) → kept line ≡ Some text → ask_of_line text ≡ Some ask → ¬ (AsksNothing line)
+asks_something line text ask kept_is asks nothing =
+    let whole = kept_whole (nat_lt LONGEST_LINE (length line)) line text kept_is in
+    let asked : ask_of_line line ≡ Some ask = ap ask_of_line (sym whole.1) ∙ asks in
+    elim nothing [
+      | inl long ↦ let no : false ≡ true = sym whole.0 ∙ long in cc
+      | inr none ↦ let no : Some ask ≡ None = sym asked ∙ none in cc
+    ]
+
 -- the answer to a line that is too long
 pub answered_too_long : (limit : ℕ) (history : History) (now : ℤ) (line : List ℕ) → kept line ≡ None →
     line_answer limit history now line ≡ unasked history line_too_long
@@ -104,7 +116,7 @@ answered_too_long limit history now line kept_is =
     ap (λ long. cond long (unasked history line_too_long) (answer_to limit history now (ask_of_line line))) long
 
 -- what meets an answer meets an equal one
-pub meets_same : (before after : History) (meant other : LineAnswer) (page : Page) (stops : Bool) → other ≡ meant →
-    MeetsLine before after meant page stops → MeetsLine before after other page stops
-meets_same before after meant other page stops same meets =
-    subst (λ (meant : LineAnswer). MeetsLine before after meant page stops) (sym same) meets
+pub meets_same : (line : List ℕ) (before after : History) (meant other : LineAnswer) (page : Page) (stops : Bool) → other ≡ meant →
+    MeetsLine line before after meant page stops → MeetsLine line before after other page stops
+meets_same line before after meant other page stops same meets =
+    subst (λ (meant : LineAnswer). MeetsLine line before after meant page stops) (sym same) meets

@@ -31,7 +31,7 @@ step_of may_give limit before history step same answered was_answered = elim ans
       }
   | inr replaced ↦ elim replaced [
     | inl lacks ↦ absurd (was_answered.0 lacks.page_is)
-    | inr fault ↦ absurd (was_answered.1 fault.page_is)
+    | inr fault ↦ absurd (was_answered.1 fault.0.page_is)
   ]
 ]
 

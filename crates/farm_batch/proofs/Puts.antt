@@ -19,13 +19,13 @@ abbrev step_of : List ℕ → Page → History → Bool → Step
 step_of line page history stops = record { line = line; page = page; history = history; stops = stops }
 
 -- out of memory may stand in the place of each answer
-lacking : (before after : History) (meant : LineAnswer) (page : Page) (stops : Bool) → MeetsLine before after meant page stops →
-    MeetsLine before after meant out_of_memory false
-lacking before after meant page stops meets line = elim (meets line) [
+lacking : (line : List ℕ) (before after : History) (meant : LineAnswer) (page : Page) (stops : Bool) → MeetsLine line before after meant page stops →
+    MeetsLine line before after meant out_of_memory false
+lacking line before after meant page stops meets = elim meets [
   | inl is ↦ inr (inl (record { page_is = refl; history = inr is.history; stops = refl }))
   | inr replaced ↦ elim replaced [
     | inl lacks ↦ inr (inl (record { page_is = refl; history = lacks.history; stops = refl }))
-    | inr fault ↦ inr (inl (record { page_is = refl; history = fault.history; stops = refl }))
+    | inr fault ↦ inr (inl (record { page_is = refl; history = fault.0.history; stops = refl }))
   ]
 ]
 
@@ -50,7 +50,7 @@ module _ {D : Type 0} (faults : D → ℕ) (may_give : ℤ → Type 0) (limit : 
   DiskCounted page = faults after.disk ≡ raised (faults_on_page page) (faults before.disk)
 
   -- a line whose answer meets what is meant, and of which this was put
-  answers : (page : Page) (stops : Bool) → MeetsLine before.history after.history (line_answer limit before.history now line) page stops →
+  answers : (page : Page) (stops : Bool) → MeetsLine line before.history after.history (line_answer limit before.history now line) page stops →
       after.failed ≡ raised (faults_on_page page) before.failed → DiskCounted page →
       (IsReply page → last_place after.history ≤ certain after.doubt after.history) →
       (end : Option BatchEnd) → PutsStep (step_of line page after.history stops) old new sink end →
@@ -59,7 +59,7 @@ module _ {D : Type 0} (faults : D → ℕ) (may_give : ℤ → Type 0) (limit : 
     step = step_of line page after.history stops;
     line_is = refl;
     history_is = refl;
-    answered = record { now = now; given = given; meets = meets line };
+    answered = record { now = now; given = given; meets = meets };
     counted = counted;
     disk_counted = disk_counted;
     acknowledged = acknowledged;
@@ -68,7 +68,7 @@ module _ {D : Type 0} (faults : D → ℕ) (may_give : ℤ → Type 0) (limit : 
     puts = puts;
   }
 
-  module _ (page : Page) (stops : Bool) (meets : MeetsLine before.history after.history (line_answer limit before.history now line) page stops)
+  module _ (page : Page) (stops : Bool) (meets : MeetsLine line before.history after.history (line_answer limit before.history now line) page stops)
       (counted : after.failed ≡ raised (faults_on_page page) before.failed) (disk_counted : DiskCounted page)
       (acknowledged : IsReply page → last_place after.history ≤ certain after.doubt after.history) where
     -- an answer that was put whole ends the batch
@@ -83,7 +83,7 @@ module _ {D : Type 0} (faults : D → ℕ) (may_give : ℤ → Type 0) (limit : 
     lacks : page ≢ disk_fault → (end : Option BatchEnd) → PutsStep (step_of line out_of_memory after.history false) old new sink end →
         Answers faults may_give limit before after line old new sink end
     lacks other end puts =
-        answers out_of_memory false (lacking before.history after.history _ page stops meets)
+        answers out_of_memory false (lacking line before.history after.history _ page stops meets)
         (not_counted page before.failed after.failed other counted) (not_counted page (faults before.disk) (faults after.disk) other disk_counted)
         (λ reply. absurd reply) end puts
 

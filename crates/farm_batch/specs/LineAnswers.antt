@@ -97,9 +97,14 @@ pub record IsReplaced (page : Page) (before : History) (meant : LineAnswer) (ste
   pub history : (step.history ≡ before) ⊎ (step.history ≡ meant.history)
   pub stops : step.stops ≡ false
 
--- a line got the answer that is meant for it, or out of memory, or a fault of the disk
+-- a line is too long or no request, so that the desk isn't asked
+abbrev pub AsksNothing : List ℕ → Type 0
+AsksNothing line = (nat_lt longest_line (length line) ≡ true) ⊎ (ask_of_line line ≡ None)
+
+-- A line got the answer that is meant for it, or out of memory, or a fault of the disk; the last only where it asks something.
 abbrev pub Meets : History → LineAnswer → Step → Type 0
-Meets before meant step = IsAsMeant meant step ⊎ IsReplaced out_of_memory before meant step ⊎ IsReplaced disk_fault before meant step
+Meets before meant step =
+    IsAsMeant meant step ⊎ IsReplaced out_of_memory before meant step ⊎ (IsReplaced disk_fault before meant step × ¬ (AsksNothing step.line))
 
 -- a line was answered after a history, at a number that the clock may give
 pub record AnswersLine (may_give : ℤ → Type 0) (limit : ℕ) (before : History) (step : Step) : Type 0 where
@@ -107,9 +112,14 @@ pub record AnswersLine (may_give : ℤ → Type 0) (limit : ℕ) (before : Histo
   pub given : may_give now
   pub meets : Meets before (line_answer limit before now step.line) step
 
--- the same of a page, the history that was left and whether the batch ends, of a line whose bytes are another's matter
-abbrev pub MeetsLine : History → History → LineAnswer → Page → Bool → Type 0
-MeetsLine before after meant page stops = (line : List ℕ) → Meets before meant (record { line = line; page = page; history = after; stops = stops })
+-- the same of a line, by its page, the history that was left and whether the batch ends
+abbrev pub MeetsLine : List ℕ → History → History → LineAnswer → Page → Bool → Type 0
+MeetsLine line before after meant page stops = Meets before meant (record { line = line; page = page; history = after; stops = stops })
+
+-- A line that was answered by a fault of the disk asks something.
+abbrev pub FaultsAsk : (ℤ → Type 0) → Type 0
+FaultsAsk may_give = (limit : ℕ) (before : History) (step : Step) → AnswersLine may_give limit before step → step.page ≡ disk_fault →
+    ¬ (AsksNothing step.line)
 
 -- lines were answered one after another, each after the history that the line before left, and none after one that ends the batch
 abbrev pub AnswersEach : (ℤ → Type 0) → ℕ → History → List Step → Type 0
@@ -136,10 +146,6 @@ IsReply (pages.Status status allow) = ⊥
 -- the history that each reply left has at most this many entries
 abbrev pub AreAcknowledged : ℕ → List Step → Type 0
 AreAcknowledged most steps = All (λ step. IsReply step.page → last_place step.history ≤ most) steps
-
--- a line is too long or no request, so that the desk isn't asked
-abbrev pub AsksNothing : List ℕ → Type 0
-AsksNothing line = (nat_lt longest_line (length line) ≡ true) ⊎ (ask_of_line line ≡ None)
 
 -- the history that lines left
 abbrev pub history_after : History → List Step → History

@@ -32,7 +32,7 @@ pub(crate) fn answer<D: Disk, const LIMIT: usize>(
     now: i64,
 ) -> Meant
     ensures meant { (bytes : List ℕ) → option_map (λ text. text.now) text.entry ≡ kept bytes →
-        MeetsLine desk.old.history desk.new.history (line_answer LIMIT desk.old.history now bytes) result.page result.stops }
+        MeetsLine bytes desk.old.history desk.new.history (line_answer LIMIT desk.old.history now bytes) result.page result.stops }
     ensures page { IsAnswer result.page }
     ensures keeps { KeepsDesk D.trace D.moment D.faults LIMIT desk.old desk.new }
     ensures counted { desk.new.failed ≡ raised (faults_on_page result.page) desk.old.failed }
@@ -67,7 +67,8 @@ fn status(status: u16) -> Meant
 // The answer to a request. It ends the batch where it is a Stop that was entered.
 fn answer_ask<D: Disk, const LIMIT: usize>(desk: &mut Desk<D, LIMIT>, now: i64, ask: &Ask) -> Meant
     requires well_formed { IsWellFormedAsk ask.now }
-    ensures meant { MeetsLine desk.old.history desk.new.history (answer_to LIMIT desk.old.history now (Some ask.now)) result.page result.stops }
+    ensures meant { (line : List ℕ) → ¬ (AsksNothing line) →
+        MeetsLine line desk.old.history desk.new.history (answer_to LIMIT desk.old.history now (Some ask.now)) result.page result.stops }
     ensures page { IsAnswer result.page }
     ensures keeps { KeepsDesk D.trace D.moment D.faults LIMIT desk.old desk.new }
     ensures counted { desk.new.failed ≡ raised (faults_on_page result.page) desk.old.failed }

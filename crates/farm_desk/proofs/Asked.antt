@@ -24,6 +24,13 @@ cause_of (Ok reply) answer P is follows fault = absurd cc
 cause_of (Err unanswered.DiskFault) answer P is follows fault = follows refl
 cause_of (Err unanswered.NoMemory) answer P is follows fault = absurd cc
 
+-- what follows where there was no memory follows where the answer says so
+pub lacking_of : (replied : Result Reply NoReply) (answer : Answer) (P : Type 0) → answer ≡ answer_of replied → (replied ≡ Err unanswered.NoMemory → P) →
+    answer ≡ NoMemory → P
+lacking_of (Ok reply) answer P is follows none = absurd cc
+lacking_of (Err unanswered.DiskFault) answer P is follows none = absurd cc
+lacking_of (Err unanswered.NoMemory) answer P is follows none = follows refl
+
 -- what follows where there was no fault follows where the answer isn't one
 pub quiet_of : (replied : Result Reply NoReply) (answer : Answer) (P : Type 0) → answer ≡ answer_of replied → (replied ≢ Err unanswered.DiskFault → P) →
     answer ≢ DiskFault → P

@@ -85,6 +85,9 @@ impl<D: Disk, const LIMIT: usize> Desk<D, LIMIT> {
         ensures certain { certain self.old.doubt self.old.history ≤ certain self.new.doubt self.new.history }
         ensures untouched { self.old.doubt ≡ false →
             (desk_answer LIMIT self.old.history caller now ask.now).history ≡ self.old.history → self.new.disk ≡ self.old.disk }
+
+        // Memory is taken before the first byte is written.
+        ensures unwritten { self.old.doubt ≡ false → result ≡ Answer.NoMemory → self.new.disk ≡ self.old.disk }
         ensures extends { Extends (D.trace self.old.disk) (D.trace self.new.disk) }
         ensures moment { D.moment self.old.disk ≤ D.moment self.new.disk }
         ensures never_falls { D.faults self.old.disk ≤ D.faults self.new.disk }

@@ -30,6 +30,9 @@ impl<D: Disk, const LIMIT: usize> Records<D, LIMIT> {
         ensures untouched { self.old.doubt ≡ false →
             (desk_answer LIMIT self.old.book.history caller now ask.now).history ≡ self.old.book.history →
             self.new.journal.disk ≡ self.old.journal.disk }
+
+        // Memory is taken before the first byte is written.
+        ensures unwritten { self.old.doubt ≡ false → result ≡ Err NoReply.NoMemory → self.new.journal.disk ≡ self.old.journal.disk }
         ensures images { EachSince (D.trace self.old.journal.disk) (D.trace self.new.journal.disk)
             (RecoversFront LIMIT self.new.book.history (certain self.old.doubt self.old.book.history)) }
         ensures extends { Extends (D.trace self.old.journal.disk) (D.trace self.new.journal.disk) }
@@ -79,6 +82,7 @@ impl<D: Disk, const LIMIT: usize> Records<D, LIMIT> {
         ensures certain { certain self.old.doubt self.old.book.history ≤ certain self.new.doubt self.new.book.history }
         ensures untouched { (answered_on self.old.book.history entry (verdict LIMIT self.old.book.history entry)).history ≡ self.old.book.history →
             self.new.journal.disk ≡ self.old.journal.disk }
+        ensures unwritten { result ≡ Err NoReply.NoMemory → self.new.journal.disk ≡ self.old.journal.disk }
         ensures images { EachSince (D.trace self.old.journal.disk) (D.trace self.new.journal.disk)
             (RecoversFront LIMIT self.new.book.history (last_place self.old.book.history)) }
         ensures extends { Extends (D.trace self.old.journal.disk) (D.trace self.new.journal.disk) }

@@ -38,8 +38,8 @@ returns-clause-meant g c =
     ] in
     let answered = subst (λ (now : ℤ). IsAnswered before after c.ask-answer.new.self.doubt (desk_answer g.row.LIMIT before BATCH_CALLER now c.args.ask.now)
     c.ask-answer.result) (to_z-of_z w64 c.args.now c.ranges.now) c.ask-answer.ensures.answered in
-    rw (c.meant_by.ensures.page, c.meant_by.ensures.stops)
-    (answer_meets g.row.LIMIT before after c.ask-answer.new.self.doubt c.args.now c.args.ask.now c.ask-answer.result c.if-is_stop.stops answered stops)
+    λ line asks. rw (c.meant_by.ensures.page, c.meant_by.ensures.stops)
+    (answer_meets g.row.LIMIT before after c.ask-answer.new.self.doubt c.args.now c.args.ask.now c.ask-answer.result c.if-is_stop.stops answered stops line asks)
 
 pub returns-clause-counted : goal.returns-clause-counted
 returns-clause-counted g c = rw c.meant_by.ensures.page (counted_by c.ask-answer.result _ _ c.ask-answer.ensures.failed c.ask-answer.ensures.not_failed)

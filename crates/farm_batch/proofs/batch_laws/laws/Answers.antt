@@ -1,6 +1,10 @@
 -- Answers to the open goals of `laws`.
+use Rattle.farm_batch.proofs.Faults.{faults_ask}
 use Rattle.farm_batch.proofs.OneOutcome.{outcomes_are_one}
 use Rattle.farm_batch.proofs.batch_laws.laws.Goals as goal
 
-pub returns : goal.returns
-returns g c = record { outcomes_are_one = outcomes_are_one _ }
+pub returns-clause-outcomes_are_one : goal.returns-clause-outcomes_are_one
+returns-clause-outcomes_are_one g c = outcomes_are_one _
+
+pub returns-clause-faults_ask : goal.returns-clause-faults_ask
+returns-clause-faults_ask g c = faults_ask _

@@ -6,7 +6,8 @@ use Rattle.farm_history.specs.Desk.{desk_answer}
 use Rattle.journaled_book.specs.Replies.{IsAnswered, answer_of}
 use Rattle.farm_desk.specs.States.{DeskState}
 use Rattle.journaled_book.specs.declared.answer.Answer.{Answer}
-use Rattle.farm_desk.proofs.Asked.{asked_acknowledged, asked_extends, asked_since, asked_stands, cause_of, counted_on, not_counted, quiet_of}
+use Rattle.journaled_book.specs.declared.answer.Answer.TheVariants.{NoMemory}
+use Rattle.farm_desk.proofs.Asked.{asked_acknowledged, asked_extends, asked_since, asked_stands, cause_of, counted_on, lacking_of, not_counted, quiet_of}
 use Rattle.farm_desk.proofs.Durable.{durable}
 use Rattle.farm_desk.proofs.desk.Desk.ask.Goals as goal
 
@@ -59,6 +60,11 @@ returns-clause-untouched g c =
     (subst (λ (clock : ℤ). c.self.inside.records.doubt ≡ false →
     (desk_answer g.row.LIMIT c.self.inside.records.book.history c.args.caller clock c.args.ask.now).history ≡ c.self.inside.records.book.history →
     c.answer.new.self.journal.disk ≡ c.self.inside.records.journal.disk) (to_z-of_z w64 c.args.now c.ranges.now) c.answer.ensures.untouched)
+
+pub returns-clause-unwritten : goal.returns-clause-unwritten
+returns-clause-unwritten g c =
+    subst (λ (desk : DeskState _). desk.doubt ≡ false → c.answer_of-answer.result ≡ NoMemory → c.answer.new.self.journal.disk ≡ desk.disk) c.self.view_is
+    (λ sure. lacking_of c.answer.result c.answer_of-answer.result _ c.answer_of-answer.ensures.answer (c.answer.ensures.unwritten sure))
 
 pub returns-clause-extends : goal.returns-clause-extends
 returns-clause-extends g c =

@@ -47,6 +47,10 @@ returns-in-Do-clause-untouched g c = λ sure stays.
     ∙ stays ∙ sym (ap (λ (kept : Kept). kept.history) c.settle.ensures.book))
     ∙ ap (λ (journal : JournalState _). journal.disk) ((c.settle.ensures.untouched sure).0)
 
+pub returns-in-Do-clause-unwritten : goal.returns-in-Do-clause-unwritten
+returns-in-Do-clause-unwritten g c = λ sure none.
+    c.judge_and_enter.ensures.unwritten none ∙ ap (λ (journal : JournalState _). journal.disk) ((c.settle.ensures.untouched sure).0)
+
 pub returns-in-Do-clause-images : goal.returns-in-Do-clause-images
 returns-in-Do-clause-images g c =
     settled_and_answered g.row.LIMIT c.args.self.now.doubt c.args.self.now.book c.settle.new.self.book c.judge_and_enter.new.self.book _ _ _ c.settle.ensures.book
