@@ -46,7 +46,7 @@ class Search:
             elif needed and test or roof and key.startswith("roof_"):
                 fault = 2, "is missing"
             if kind == "tank" and key == "table" and not fault and ("table" in keys) == ("strapping" in keys):
-                fault = 2, "and strapping: one of the two is due"
+                fault = 2, "and strapping: expected is one of the two"
             if fault:
                 self.place(file.name, file.key(start or 0, key) or start, what, f"{key} {fault[1]}" if fault[0] == self.code else None)
                 return True
@@ -127,7 +127,7 @@ class Search:
         """A record of a table file that isn't due."""
         for name, is_toml, _ in self.files():
             if not is_toml and name in [tank.get("table") for tank in tables(self.site.table, "tank") if isinstance(tank, dict)]:
-                self.record(name, self.detail, f"a level of {10 * (self.detail - 1)} and its litres are due, two whole numbers")
+                self.record(name, self.detail, f"a level of {10 * (self.detail - 1)} and its litres are expected, two whole numbers")
 
     def strapping_file(self, file):
         """The blocks of a strapping file."""

@@ -164,45 +164,59 @@ def factor_slips(folder, name):
     for line, density, temperature, factor in factors:
         columns.setdefault(temperature, []).append((density, factor, (density, temperature)))
     far = {}
-    for points, bend in [(row, Decimal("0.000005")) for row in rows] + [(column, Decimal("0.000002")) for column in columns.values()]:
-        for at, factor, near in far_points(points, bend):
+    for points, least in [(row, row_bend) for row in rows] + [(column, column_bend) for column in columns.values()]:
+        for at, factor, near in far_points(points, least):
             far.setdefault(at, (factor, near))
     for at, (factor, near) in sorted(far.items(), key=lambda item: lines[item[0]]):
         yield f"{name}:{lines[at]}: the factor {factor} is far from its neighbours: about {near:.5f} by those beside it"
 
 
-def far_points(points, bend):
-    """The points of a line that are far from what those beside them say, each with that. A point that is far counts no more for the
-    others. `bend` is how much a line may bend, as half a second derivative."""
+def row_bend(left, middle, right):
+    """How far a factor may be from the line through those at the temperatures beside it: more than any product's factors bend."""
+    return Decimal("0.0002") + Decimal("0.000005") * (middle[0] - left[0]) * (right[0] - middle[0])
+
+
+def column_bend(left, middle, right):
+    """The same for the densities beside it. At the density where tables of factors pass from one kind of product to the next, the
+    expansion per C changes its slope."""
+    return Decimal("0.0002") + Decimal("0.000003") * (right[0] - left[0]) * abs(middle[2][1] - 15)
+
+
+def off_line(left, middle, right):
+    """What the points beside a point say in its place, and how far it is from that."""
+    near = left[1] + (right[1] - left[1]) * (middle[0] - left[0]) / (right[0] - left[0])
+    return near, abs(middle[1] - near)
+
+
+def far_points(points, least):
+    """The points of a line that are far from what those beside them say, each with that: farther than `least`. A point that is far
+    counts no more for the others."""
     points = list(points)
     while len(points) > 2:
         off = []
         for place in range(1, len(points) - 1):
-            (left, low, _), (middle, value, _), (right, high, _) = points[place - 1 : place + 2]
-            if not left < middle < right:
+            beside = points[place - 1 : place + 2]
+            if not beside[0][0] < beside[1][0] < beside[2][0]:
                 return
-            near = low + (high - low) * (middle - left) / (right - left)
-            least = Decimal("0.0002") + bend * (middle - left) * (right - middle)
-            off.append((abs(value - near) - least, place, near))
+            near, distance = off_line(*beside)
+            off.append((distance - least(*beside), place, near))
         most, place, near = max(off)
         if most <= 0:
             return
-        # Beside a wrong first or last point the second one looks wrong too: without the end the line is straight again.
         if len(points) > 3:
-            place, near = end_or(points, place, near, bend)
+            place, near = end_or(points, place, near, least)
         yield points[place][2], points[place][1], near
         del points[place]
 
 
-def end_or(points, place, near, bend):
-    """The place that is wrong: an end of the line, where the point beside it fits those further on, or the place itself."""
-    for end, beside, others in ((0, 1, points[1:4]), (len(points) - 1, len(points) - 2, points[-4:-1])):
-        if place == beside and len(others) == 3:
-            (left, low, _), (middle, value, _), (right, high, _) = others
-            straight = low + (high - low) * (middle - left) / (right - left)
-            if abs(value - straight) <= Decimal("0.0002") + bend * (middle - left) * (right - middle):
-                first, second = (others[0], others[1]) if end == 0 else (others[2], others[1])
-                return end, first[1] + (second[1] - first[1]) * (points[end][0] - first[0]) / (second[0] - first[0])
+def end_or(points, place, near, least):
+    """The place that is wrong: an end of the line, if the others fit better without it than without the place beside it, or the place
+    itself."""
+    for end, beside, others, kept in ((0, 1, points[1:4], points[:1] + points[2:4]),
+                                      (len(points) - 1, len(points) - 2, points[-4:-1], points[-4:-2] + points[-1:])):
+        if place == beside and off_line(*others)[1] <= least(*others) and off_line(*others)[1] < off_line(*kept)[1]:
+            first, second = (others[0], others[1]) if end == 0 else (others[2], others[1])
+            return end, first[1] + (second[1] - first[1]) * (points[end][0] - first[0]) / (second[0] - first[0])
     return place, near
 
 
