@@ -13,7 +13,7 @@ import re
 import sys
 
 sys.dont_write_bytecode = True
-from site_folder import FIELDS, KEYS, MOST_BYTES, Toml, gap_in_grid, is_data, is_utf16, named_files, no_file, records, tables
+from site_folder import FIELDS, KEYS, MOST_BYTES, Toml, at_line, gap_in_grid, is_data, is_utf16, named_files, no_file, records, tables
 
 LISTS = {"product": (1, 16), "party": (0, 256), "tank": (1, 64), "line": (0, 16)}
 HAVE = {2: ("product", "party", "tank", "line"), 3: ("product", "party", "tank", "line"),
@@ -30,7 +30,7 @@ class Search:
 
     def place(self, name, line, what, wrong=None):
         """A place that the fault can be at; the first that has something wrong is the one."""
-        self.places.append(f"{name}{f':{line}' if line else ''}: {what}" + (f": {wrong}" if wrong else ""))
+        self.places.append(f"{at_line(name, line)}: {what}" + (f": {wrong}" if wrong else ""))
         if wrong and self.found is None:
             self.found = len(self.places) - 1
 
@@ -341,7 +341,7 @@ def wrong_files(folder):
     site = Toml(folder, "site.toml")
     if site.length is None:
         return [f"site.toml {site.why}" if os.path.isdir(folder) else f"{folder} is no folder"]
-    wrong = [(f"site.toml:{line}: {what}: {name}", no_file(folder, name)) for name, _, line, what in named_files(site)]
+    wrong = [(f"{at_line(site.name, line)}: {what}: {name}", no_file(folder, name)) for name, _, line, what in named_files(site)]
     return [f"{place} {why}" for place, why in wrong if why]
 
 

@@ -211,6 +211,11 @@ class Toml:
         return None
 
 
+def at_line(name, line):
+    """A place in a file: its name, and the line where that is known."""
+    return f"{name}:{line}" if line else name
+
+
 def tables(table, key):
     """The tables of a list; none where it isn't one."""
     value = table.get(key, [])

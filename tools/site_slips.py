@@ -20,7 +20,7 @@ import sys
 from decimal import Decimal
 
 sys.dont_write_bytecode = True
-from site_folder import FIELDS, KEYS, Toml, blocks_of, is_data, is_utf16, named_files, no_file, numbers, records, tables
+from site_folder import FIELDS, KEYS, Toml, at_line, blocks_of, is_data, is_utf16, named_files, no_file, numbers, records, tables
 
 # The keys of a top that stand for themselves: below the first header they are keys of its block.
 TOPS = {"top": ("format", "name", "rounding"), "strapping": ("bottom",)}
@@ -101,7 +101,7 @@ def opening_slips(site, folder, tank, item):
     if densities and not min(densities) * (abs(litres) - 1) / 1000 - 1 <= kg * (1 if litres > 0 else -1) <= max(densities) * (abs(litres) + 1) / 1000 + 1:
         line = site.key(site.block("tank", item) or 0, "opening_kg") or site.block("tank", item)
         given = (Decimal(1000) * kg / litres).quantize(Decimal("0.1"))
-        yield f"{site.name}:{line}: tank {item}: opening_kg over opening_litres is {given} kg/m3, and {name} has {min(densities)} to {max(densities)}"
+        yield f"{at_line(site.name, line)}: tank {item}: opening_kg over opening_litres is {given} kg/m3, and {name} has {min(densities)} to {max(densities)}"
 
 
 def start_slips(site, gauge, start, what):
@@ -110,7 +110,7 @@ def start_slips(site, gauge, start, what):
     for first, function in ((30001, 4), (40001, 3)):
         if type(number) is int and first <= number < first + 9999:
             line = site.key(start or 0, "start") or start
-            yield f"{site.name}:{line}: {what} has start {number}: a maker's number? It would be function {function}, start {number - first}"
+            yield f"{at_line(site.name, line)}: {what} has start {number}: a maker's number? It would be function {function}, start {number - first}"
 
 
 def file_slips(folder, name, key, where):
@@ -133,7 +133,7 @@ def strapping_slips(folder, name):
     """The slips of a strapping file."""
     file = Toml(folder, name)
     if file.why:
-        raise Unreadable(f"{name}:{file.wrong}: {file.why}")
+        raise Unreadable(f"{at_line(name, file.wrong)}: {file.why}")
     yield from slips(file, "strapping", file.table, 0, "the top", "strapping")
     for kind in ("course", "deadwood"):
         for item, block in enumerate(tables(file.table, kind), 1):
@@ -231,7 +231,7 @@ def print_slips(folder):
         status = print(slip) or 1
     for name, key, line, what in files:
         try:
-            for slip in file_slips(folder, name, key, f"{site.name}:{line}: {what}"):
+            for slip in file_slips(folder, name, key, f"{at_line(site.name, line)}: {what}"):
                 status = print(slip) or max(status, 1)
         except Unreadable as why:
             status = print(why) or 2
