@@ -24,7 +24,7 @@ def whole(least, most):
 
 
 def any_whole(value):
-    """A TOML integer; whether its number is there is looked at elsewhere."""
+    """A TOML integer; whether the site has its number is looked at elsewhere."""
     if type(value) is not int:
         return 2, "isn't a whole number"
 
@@ -243,7 +243,7 @@ def is_data(record):
 
 
 def numbers(folder, name, count):
-    """The records of a CSV file below its header as numbers, each with its line, up to the first that hasn't so many."""
+    """The records of a CSV file below its header as numbers, each with its line, up to the first that has another count."""
     found = []
     for line, fields in records(folder, name)[1:]:
         if len(fields) != count or not all(re.fullmatch(r"\s*-?[0-9]+(\.[0-9]+)?\s*", field) for field in fields):
