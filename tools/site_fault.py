@@ -13,7 +13,7 @@ import re
 import sys
 
 sys.dont_write_bytecode = True
-from site_folder import FIELDS, KEYS, MOST_BYTES, Toml, records, tables
+from site_folder import FIELDS, KEYS, MOST_BYTES, Toml, at_line, gap_in_grid, is_data, is_utf16, named_files, no_file, records, tables
 
 LISTS = {"product": (1, 16), "party": (0, 256), "tank": (1, 64), "line": (0, 16)}
 HAVE = {2: ("product", "party", "tank", "line"), 3: ("product", "party", "tank", "line"),
@@ -30,7 +30,7 @@ class Search:
 
     def place(self, name, line, what, wrong=None):
         """A place that the fault can be at; the first that has something wrong is the one."""
-        self.places.append(f"{name}{f':{line}' if line else ''}: {what}" + (f": {wrong}" if wrong else ""))
+        self.places.append(f"{at_line(name, line)}: {what}" + (f": {wrong}" if wrong else ""))
         if wrong and self.found is None:
             self.found = len(self.places) - 1
 
@@ -46,7 +46,7 @@ class Search:
             elif needed and test or roof and key.startswith("roof_"):
                 fault = 2, "is missing"
             if kind == "tank" and key == "table" and not fault and ("table" in keys) == ("strapping" in keys):
-                fault = 2, "and strapping: one of the two is due"
+                fault = 2, "and strapping: expected is one of the two"
             if fault:
                 self.place(file.name, file.key(start or 0, key) or start, what, f"{key} {fault[1]}" if fault[0] == self.code else None)
                 return True
@@ -127,7 +127,7 @@ class Search:
         """A record of a table file that isn't due."""
         for name, is_toml, _ in self.files():
             if not is_toml and name in [tank.get("table") for tank in tables(self.site.table, "tank") if isinstance(tank, dict)]:
-                self.record(name, self.detail, f"a level of {10 * (self.detail - 1)} and its litres are due, two whole numbers")
+                self.record(name, self.detail, f"a level of {10 * (self.detail - 1)} and its litres are expected, two whole numbers")
 
     def strapping_file(self, file):
         """The blocks of a strapping file."""
@@ -153,12 +153,18 @@ class Search:
                 self.place(file.name, file.key(0, "bottom"), f"tank {self.item}", f"point {number} of the bottom {fault[1]}")
                 return
 
+    def no_records(self, name, what):
+        """Whether a CSV file can't be looked at: it is no file, or begins as UTF-16."""
+        wrong = no_file(self.folder, name) or is_utf16(self.folder, name)
+        if wrong:
+            self.place(name, 1, what, wrong)
+        return wrong
+
     def record(self, name, number, what):
         """A record of a CSV file, counted from 1 after the header."""
-        try:
-            found = records(self.folder, name)
-        except OSError as error:
-            return self.place(name, None, what, error.strerror)
+        if self.no_records(name, f"record {number}"):
+            return
+        found = records(self.folder, name)
         if number < len(found):
             line, fields = found[number]
             self.place(name, line, f"record {number}", f"`{','.join(fields)}`: {what}")
@@ -167,6 +173,8 @@ class Search:
 
     def uneven(self, name, what):
         """The first record of another length than the header."""
+        if self.no_records(name, what):
+            return
         found = records(self.folder, name)
         for number, (line, fields) in enumerate(found):
             if len(fields) != len(found[0][1]):
@@ -190,8 +198,8 @@ class Search:
             for name, is_toml, what in self.files():
                 if is_toml:
                     file = Toml(self.folder, name)
-                    self.place(name, None, what, file.why or beyond_the_reader(file.table))
-                elif os.path.exists(os.path.join(self.folder, name)):
+                    self.place(name, file.wrong, what, file.why or beyond_the_reader(file.table))
+                else:
                     self.uneven(name, what)
         elif self.code in (2, 3) and self.item == 0:
             self.top()
@@ -236,9 +244,21 @@ class Search:
         elif self.code == 7:
             self.place(name, None, f"tank {self.item}", f"{max(len(records(self.folder, name)) - 1, 0)} rows, and 2 to 5001 are allowed; or row 0 is below 0 or above 10^9 litres")
         elif self.detail:
-            self.record(name, self.detail, "a density, a temperature and a factor are due that go on with the grid")
+            self.grid(name)
         else:
             self.place(name, None, f"product {self.item}", "more than 100000 records")
+
+    def grid(self, name):
+        """A factor file that is no grid: the block that differs from the others, or the record."""
+        if self.no_records(name, f"product {self.item}"):
+            return
+        found, gap = records(self.folder, name), gap_in_grid(self.folder, name)
+        if found and is_data(found[0]):
+            self.place(name, found[0][0], f"product {self.item}", "the first line is the header and never data: put a header before it")
+        elif gap:
+            self.place(name, gap[0], f"product {self.item}", gap[1])
+        else:
+            self.record(name, self.detail, "expected are a density, a temperature and a factor that continue the grid")
 
     def strapping(self, file):
         """A strapping that was read and then refused: its courses, its deadwoods, its bottom, and then its rows."""
@@ -316,38 +336,39 @@ def beyond_the_reader(value, depth=80):
     return None
 
 
-def missing(folder):
-    """The files that the site names and the folder doesn't have."""
+def wrong_files(folder):
+    """What is wrong with the files that a site names."""
     site = Toml(folder, "site.toml")
     if site.length is None:
-        return ["site.toml"]
-    named = [block.get(key) for kind, keys in (("product", ("factors",)), ("tank", ("table", "strapping")))
-             for block in tables(site.table, kind) if isinstance(block, dict) for key in keys]
-    return [name for name in named if isinstance(name, str) and not os.path.isfile(os.path.join(folder, name))]
+        return [f"site.toml {site.why}" if os.path.isdir(folder) else f"{folder} is no folder"]
+    wrong = [(f"{at_line(site.name, line)}: {what}: {name}", no_file(folder, name)) for name, _, line, what in named_files(site)]
+    return [f"{place} {why}" for place, why in wrong if why]
+
+
+def said_of(folder, said):
+    """The lines that are said of a folder, by what the program printed of it. None where that is no refusal."""
+    if said.startswith("port fault"):
+        return wrong_files(folder) or ["each file that site.toml names can be read by whoever runs this: look at where the output goes"]
+    if said.startswith("tank "):
+        return ["not refused"]
+    numbers = re.match(r"site refused: code (\d+) item (\d+) detail (\d+)", said)
+    if not numbers:
+        return None
+    search = Search(folder, *map(int, numbers.groups()))
+    search.search()
+    if search.found is not None:
+        return [search.places[search.found]]
+    return ["maybe: " + place for place in search.places] or ["nothing of this kind in the folder; is it the one that was refused?"]
 
 
 def main():
     if len(sys.argv) not in (2, 3):
         sys.exit(__doc__)
-    folder = sys.argv[1]
-    said = sys.argv[2] if len(sys.argv) == 3 else sys.stdin.read()
-    if said.startswith("port fault"):
-        print("\n".join(f"{name}: isn't in {folder}" for name in missing(folder)) or "each file that site.toml names is there: look at their permissions, and at where the output goes")
-        return
-    if said.startswith("tank "):
-        print("not refused")
-        return
-    numbers = re.match(r"site refused: code (\d+) item (\d+) detail (\d+)", said)
-    if not numbers:
+    lines = said_of(sys.argv[1], sys.argv[2] if len(sys.argv) == 3 else sys.stdin.read())
+    if lines is None:
         sys.exit("no line `site refused: code C item I detail D`")
-    search = Search(folder, *map(int, numbers.groups()))
-    search.search()
-    if search.found is not None:
-        print(search.places[search.found])
-    for place in search.places if search.found is None else []:
-        print("maybe: " + place)
-    if not search.places:
-        print("nothing of this kind in the folder; is it the one that was refused?")
+    print("\n".join(lines))
 
 
-main()
+if __name__ == "__main__":
+    main()

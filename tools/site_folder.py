@@ -7,6 +7,8 @@ import io
 import os
 import re
 import tomllib
+from decimal import Decimal
+from itertools import groupby
 
 MOST_BYTES = 4_194_304
 
@@ -22,7 +24,7 @@ def whole(least, most):
 
 
 def any_whole(value):
-    """A TOML integer; whether its number is there is looked at elsewhere."""
+    """A TOML integer; whether the site has its number is looked at elsewhere."""
     if type(value) is not int:
         return 2, "isn't a whole number"
 
@@ -119,21 +121,68 @@ KEYS = {
 FIELDS = ("level", "temperature", "water", "ambient")
 
 
+def no_file(folder, name):
+    """Why a name that a site gives is no file that can be read in its folder, as words after the name. None where it is one."""
+    path = os.path.join(folder, name)
+    if os.path.isabs(name):
+        return "is an absolute path, and names are from the folder: write it without what leads there"
+    if os.path.isdir(path):
+        return "is a directory, and a file is expected"
+    if not os.path.exists(path):
+        return f"isn't in {folder}"
+    return None if os.access(path, os.R_OK) else "may not be read: look at its permissions"
+
+
+def named_files(site):
+    """The files that a site names, each once: its name, its key, and the line and the block where it is named first."""
+    found = {}
+    for kind, keys in (("product", ("factors",)), ("tank", ("table", "strapping"))):
+        for item, block in enumerate(tables(site.table, kind), 1):
+            for key in keys:
+                name = block.get(key) if isinstance(block, dict) else None
+                if isinstance(name, str) and name not in found:
+                    start = site.block(kind, item) or 0
+                    found[name] = key, site.key(start, key) or start, f"{kind} {item}"
+    return [(name, *where) for name, where in found.items()]
+
+
+def no_text(content):
+    """Why bytes are no text in UTF-8: the line, from 1, and the reason. None where they are."""
+    if content.startswith((b"\xff\xfe", b"\xfe\xff")):
+        return 1, "the file begins as UTF-16: save it as UTF-8"
+    if b"\0" in content[:4]:
+        return 1, "the file begins as UTF-16 without a mark: save it as UTF-8"
+    try:
+        content.decode()
+    except UnicodeDecodeError as error:
+        line = content.count(b"\n", 0, error.start) + 1
+        return line, f"byte 0x{content[error.start]:02x} isn't UTF-8: save the file as UTF-8"
+    return None
+
+
 class Toml:
-    """A TOML file: its table, and the lines on which its blocks and keys stand."""
+    """A TOML file: its table, and the lines on which its blocks and keys stand. Where it is no TOML, `why` says so, and `wrong` is
+    the line of it, where that is known."""
 
     def __init__(self, folder, name):
-        self.name, self.table, self.why = name, {}, None
+        self.name, self.table, self.why, self.wrong, self.lines, self.length = name, {}, None, None, [], None
         try:
             with open(os.path.join(folder, name), "rb") as file:
                 content = file.read()
-            self.length = len(content)
-            self.lines = content.decode(errors="replace").splitlines()
-            self.table = tomllib.loads(content.decode())
         except OSError as error:
-            self.why, self.length, self.lines = error.strerror, None, []
-        except (UnicodeDecodeError, tomllib.TOMLDecodeError) as error:
-            self.why = str(error)
+            self.why = no_file(folder, name) or error.strerror
+            return
+        self.length = len(content)
+        self.lines = content.decode("utf-8-sig", errors="replace").splitlines()
+        if found := no_text(content):
+            self.wrong, self.why = found
+            return
+        try:
+            self.table = tomllib.loads(content.decode("utf-8-sig"))
+        except tomllib.TOMLDecodeError as error:
+            at = re.search(r" \(at line (\d+), column (\d+)\)$", str(error))
+            self.wrong = int(at[1]) if at else len(self.lines)
+            self.why = f"{str(error)[:at.start()]}, at column {at[2]}" if at else str(error)
 
     def blocks(self, header):
         """The lines of the headers `[[header]]`, counted from 1."""
@@ -162,6 +211,11 @@ class Toml:
         return None
 
 
+def at_line(name, line):
+    """A place in a file: its name, and the line where that is known."""
+    return f"{name}:{line}" if line else name
+
+
 def tables(table, key):
     """The tables of a list; none where it isn't one."""
     value = table.get(key, [])
@@ -174,3 +228,52 @@ def records(folder, name):
         content = file.read().decode("utf-8-sig", errors="replace")
     reader = csv.reader(io.StringIO(content, newline=""))
     return [(reader.line_num, fields) for fields in reader if fields]
+
+
+def is_utf16(folder, name):
+    """Why a CSV file is none that the program reads: it begins as UTF-16. None for others."""
+    with open(os.path.join(folder, name), "rb") as file:
+        found = no_text(file.read(4))
+    return found[1] if found and "UTF-16" in found[1] else None
+
+
+def is_data(record):
+    """Whether each field of a record is a number, as those of a header aren't."""
+    return all(re.fullmatch(r"\s*-?[0-9.]+\s*", field) for field in record[1])
+
+
+def numbers(folder, name, count):
+    """The records of a CSV file below its header as numbers, each with its line, up to the first that has another count."""
+    found = []
+    for line, fields in records(folder, name)[1:]:
+        if len(fields) != count or not all(re.fullmatch(r"\s*-?[0-9]+(\.[0-9]+)?\s*", field) for field in fields):
+            break
+        found.append((line, *(Decimal(field.strip()) for field in fields)))
+    return found
+
+
+def blocks_of(factors):
+    """The blocks of factors: pairs of a density and its records."""
+    return [(density, list(block)) for density, block in groupby(factors, lambda record: record[1])]
+
+
+def gap_in_grid(folder, name):
+    """Where the first block of a factor file stands that lacks a temperature which the others have, or has one more: the line and
+    what is wrong. None where no block is a few temperatures apart from the others."""
+    blocks = blocks_of(numbers(folder, name, 3))
+    densities = [density for density, _ in blocks]
+    lists = [[record[2] for record in block] for _, block in blocks]
+    if len(blocks) < 2 or densities != sorted(set(densities)) or any(it != sorted(set(it)) for it in lists):
+        return None
+    usual = sorted({it for each in lists for it in each if 2 * sum(it in other for other in lists) >= len(lists)})
+    for (density, block), its in zip(blocks, lists):
+        lacks, more = [it for it in usual if it not in its], [it for it in its if it not in usual]
+        if not lacks and not more:
+            continue
+        if len(lacks) + len(more) > max(1, len(usual) // 4):
+            return None
+        after = [record[0] for record in block if record[2] > (lacks or more)[0]]
+        if lacks:
+            return after[0] if after else block[-1][0], f"the block of {density} has no {lacks[0]}, and others have it"
+        return block[its.index(more[0])][0], f"the block of {density} has {more[0]}, and others don't"
+    return None

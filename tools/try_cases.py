@@ -8,10 +8,12 @@ It prints how many cases there are, and each one whose fault isn't found. It end
 import glob
 import os
 import shutil
-import subprocess
 import sys
 import tempfile
 import tomllib
+
+sys.dont_write_bytecode = True
+from site_fault import said_of
 
 TOP = os.path.dirname(os.path.dirname(os.path.abspath(__file__)))
 DATA = os.path.join(TOP, "crates", "farm_cases", "data")
@@ -43,9 +45,8 @@ def is_found(case):
     with tempfile.TemporaryDirectory() as top:
         folder = os.path.join(top, "site")
         make_folder(case, folder)
-        words = [sys.executable, os.path.join(TOP, "tools", "site_fault.py"), folder, case["output"]]
-        run = subprocess.run(words, capture_output=True, text=True)
-    return run.returncode == 0 and run.stdout and not run.stdout.startswith(("maybe:", "nothing"))
+        lines = said_of(folder, case["output"])
+    return bool(lines) and not lines[0].startswith(("maybe:", "nothing"))
 
 
 def main():
