@@ -167,8 +167,8 @@ class Build:
         if run.library not in self.built:
             self.built.add(run.library)
             minutes = (time.monotonic() - self.start) / 60
-            done = f"{len(self.built)} of its {len(self.lowest_first)} libraries are built, {minutes:.0f} minutes"
-            print(f"{self.name}: {done}", file=sys.stderr, flush=True)
+            done = f"{len(self.built)} of {len(self.lowest_first)} libraries after {minutes:.0f} min"
+            print(f"{self.name}: {run.library.name} is built, {done}", file=sys.stderr, flush=True)
 
     def wait(self):
         """Waits until a run has ended, or has shown that it proves, so that copies are worth their making."""
