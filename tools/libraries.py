@@ -144,17 +144,18 @@ class Build:
         return next(top for number in range(self.at_once) if (top := self.copy(number)) not in busy)
 
     def begin(self):
-        """Begins as many libraries as may go on at once, those with the longest chain first. If few are there to begin, each has more jobs,
-        and the one with the longest chain of all has two at least."""
+        """Begins as many libraries as may go on at once, those with the longest chain first. The one with the longest chain of all has all
+        jobs, since it bounds the time of the whole; any other has one, or more if few are there to begin."""
         ready = [library for library in self.left if self.built.issuperset(library.needs)]
         for at, library in enumerate(ready):
-            idle = self.at_once - sum(run.jobs for run in self.running)
-            top = self.place() if idle > 0 else None
+            free = self.at_once - len(self.running)
+            top = self.place() if free else None
             if not top:
                 break
-            least = 2 if all(run.library.chain <= library.chain for run in self.running) else 1
+            is_longest = all(run.library.chain <= library.chain for run in self.running)
+            jobs = self.at_once if is_longest else max(1, free // (len(ready) - at))
             self.left.remove(library)
-            self.running.append(Run(top, library, min(max(idle // (len(ready) - at), least), idle, MOST_JOBS)))
+            self.running.append(Run(top, library, min(jobs, MOST_JOBS)))
 
     def end(self, run):
         """Takes in what a run that has ended came to."""
