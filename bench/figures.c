@@ -1,4 +1,4 @@
-/* The custody calculation of crates/figures_bench in C with 128-bit integers: same draws, same steps, same number. */
+/* The custody calculation of programs/figures_bench in C with 128-bit integers: same draws, same steps, same number. */
 #include <inttypes.h>
 #include <stdint.h>
 #include <stdio.h>

@@ -1,4 +1,4 @@
-"""Times the built programs beside others that do the same; `run` builds them and hands over the two folders."""
+"""Times the built programs beside others that do the same; `run` builds them and hands over the three folders."""
 
 import os
 import shutil
@@ -8,7 +8,7 @@ import sys
 import tempfile
 import time
 
-TOP, WORK = sys.argv[1:]
+TOP, WORK, CRATES = sys.argv[1:]
 PROGRAM = f"{TOP}/crates/farm/out/farm"
 FARM = [PROGRAM, "calc"]
 TABLE = [PROGRAM, "table", "--site"]
@@ -18,6 +18,11 @@ LINE = f"{TOP}/examples/calc/observed.txt"
 LEVELS = f"{WORK}/levels.txt"
 SHORT_LEVELS = f"{WORK}/short_levels.txt"
 FACTORS = f"{WORK}/factors.csv"
+
+
+def built(name):
+    """A program of bench/programs."""
+    return f"{CRATES}/{name}/out/{name}"
 
 
 def answer(words, path="/dev/null"):
@@ -69,13 +74,13 @@ def compare(name, ours, theirs, runs, path="/dev/null", alike=True):
     print(f"{name}: {here:.2f} ms, beside it {beside:.2f} ms, ratio {here / beside:.2f}")
 
 
-compare("a million figures, C", [f"{TOP}/crates/figures_bench/out/figures_bench"], [f"{WORK}/figures"], 9)
+compare("a million figures, C", [built("figures_bench")], [f"{WORK}/figures"], 9)
 compare("one line of calc, Rust that prints a line", FARM, [f"{WORK}/line"], 300, LINE, alike=False)
 compare("the greatest input of calc, Rust", FARM, [f"{WORK}/levels"], 40, LEVELS)
 compare("100,000 short factor lines of calc, Rust", FARM, [f"{WORK}/levels"], 40, SHORT_LEVELS)
 compare(
     "100,000 factors, Python's csv",
-    [f"{TOP}/crates/factors_bench/out/factors_bench"],
+    [built("factors_bench")],
     [sys.executable, f"{TOP}/bench/records.py"],
     20,
     FACTORS,
@@ -144,7 +149,7 @@ gauges = shutil.copy(written, f"{WORK}/gauges")
 print(f"10,000 gauges recovered from {KIND}: {least(batch(gauges), 5):.0f} ms")
 for where, folder in (("memory", MEMORY.name), (KIND, WORK)):
     path = zeros(folder)
-    compare(f"1,000,000 records recovered from {where}, C", [f"{TOP}/crates/journal_bench/out/journal_bench", path], [f"{WORK}/journal", "walk", path], 9)
+    compare(f"1,000,000 records recovered from {where}, C", [built("journal_bench"), path], [f"{WORK}/journal", "walk", path], 9)
 if shutil.which("strace"):
     print(f"calls on the disk for 1,000 looks at a stock: {disk_calls(f'{WORK}/stocks.jsonl') - disk_calls('/dev/null')}")
 LOG = f"{TOP}/crates/shared_log/out/shared_log"
@@ -165,13 +170,13 @@ if os.path.exists(f"{WORK}/poll_client"):
     server = subprocess.Popen([f"{WORK}/poll_server", PORT], stdout=subprocess.PIPE)
     try:
         assert server.stdout.readline() == b"ready\n", "the server has no port"
-        rates = [polls_a_second([program, PORT, str(POLLS)], POLLS) for program in (f"{TOP}/crates/poll_bench/out/poll_bench", f"{WORK}/poll_client")]
+        rates = [polls_a_second([program, PORT, str(POLLS)], POLLS) for program in (built("poll_bench"), f"{WORK}/poll_client")]
         print(f"polls of a gauge on 127.0.0.1: {rates[0]:.0f} a second, libmodbus {rates[1]:.0f}, ratio {rates[0] / rates[1]:.2f}")
     finally:
         server.kill()
 
 # The bytes of a site with every list at its limit. What a run takes beside its loop, as reading the folder, is taken off.
-SITE = [f"{TOP}/crates/site_bench/out/site_bench", f"{WORK}/limits"]
+SITE = [built("site_bench"), f"{WORK}/limits"]
 begun = {what: least([*SITE, what, "0"], 5) for what in ("copy", "write", "read")}
 spent = {what: (least([*SITE, what, "40"], 5) - begun[what]) / 40 for what in ("copy", "write", "read")}
 for what in ("write", "read"):

@@ -1,5 +1,5 @@
 // Polls five input registers of a device as often as it is asked to, by libmodbus: `poll_client PORT POLLS`. It prints how many polls
-// gave registers, as `crates/poll_bench` does.
+// gave registers, as `programs/poll_bench` does.
 #include <modbus/modbus.h>
 #include <stdint.h>
 #include <stdio.h>
