@@ -1,4 +1,5 @@
 -- The definitions of `farm_journal`, by subject.
+pub mod Limits
 pub mod Layout
 pub mod Buffers
 pub mod Recovery
