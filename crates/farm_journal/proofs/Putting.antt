@@ -6,7 +6,7 @@ use Rattle.farm_disk.specs.Images.{IsCrashImage, State, present, state_at, synce
 use Rattle.farm_disk.specs.Runs.{EachSince}
 use Rattle.farm_journal.specs.Layout.{IsJournalOf, IsShort, counted, counting, open_record}
 use Rattle.farm_journal.specs.Standing.{IsAtRest, IsPending, JournalState, Stands}
-use Rattle.farm_journal.specs.Steps.{AddsSynced, IsWriting, WritesSynced}
+use Rattle.farm_journal.specs.Steps.{AddsOneWrite, AddsSynced, IsWriting, WritesSynced}
 use Rattle.farm_journal.proofs.Gates.{at_rest_image}
 use Rattle.farm_journal.proofs.JournalBytes.{length-counting-push}
 use Rattle.farm_journal.proofs.Writes.{put_pending, put_synced, put_writing}
@@ -58,6 +58,15 @@ pub put_step : {D T E : Type 0} (trace : D → Option (List State)) (body made :
 put_step trace body made view old disk result is same step =
     subst (λ journal. WritesSynced (journal.gate + 1) (counted body ++ 0 ∷ []) (trace journal.disk) (trace disk) result) same
     (subst (λ bytes. WritesSynced (view.gate + 1) bytes (trace view.disk) (trace disk) result) (put_bytes body made is) step)
+
+-- the one write of a put, at the gate of the journal
+pub put_one_write : {D : Type 0} (trace : D → Option (List State)) (body made : List ℕ) (view old : JournalState D) (disk : D) →
+    made ≡ open_record body ++ 0 ∷ [] → view ≡ old →
+    AddsOneWrite (view.gate + 1) (take (length made - 1) (drop 1 made)) (trace view.disk) (trace disk) →
+    AddsOneWrite (old.gate + 1) (counted body ++ 0 ∷ []) (trace old.disk) (trace disk)
+put_one_write trace body made view old disk is same step =
+    subst (λ journal. AddsOneWrite (journal.gate + 1) (counted body ++ 0 ∷ []) (trace journal.disk) (trace disk)) same
+    (subst (λ bytes. AddsOneWrite (view.gate + 1) bytes (trace view.disk) (trace disk)) (put_bytes body made is) step)
 
 -- the gate after a body that is put
 next_gate : (header : List ℕ) (bodies : List (List ℕ)) (body : List ℕ) (gate : ℕ) → gate ≡ length (counting header bodies) →

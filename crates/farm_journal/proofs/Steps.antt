@@ -7,7 +7,7 @@ use Rattle.std.specs.Prelude.{All}
 use Rattle.farm_base.specs.Known.{Stays}
 use Rattle.farm_disk.specs.Calls.{AddsTwo}
 use Rattle.farm_disk.specs.Images.{State, at_rest, begun, present, state_at, synced, unchanged, written}
-use Rattle.farm_journal.specs.Steps.{AddsSynced, IsWriting, WritesSynced}
+use Rattle.farm_journal.specs.Steps.{AddsOneWrite, AddsSynced, IsWriting, WritesSynced}
 
 -- of states to which two were added the second is the present one
 present_added : (states : List State) (first second : State) → present (states ++ first ∷ second ∷ []) ≡ second
@@ -177,3 +177,11 @@ both_done at bytes (Some old) (Some mid) (Some new) result done wrote adds =
     subst (λ new. AddsSynced at bytes old new result) (sym (then_two at bytes old mid new synced wrote adds))
     (done_step at bytes old (within_write at bytes (present old)) last result done
     (all_within_write at bytes (present old)) refl (then_last at bytes old last))
+
+-- a write and a sync that succeeded are one write and one sync
+pub one_write : (at : ℕ) (bytes : List ℕ) (old mid new : Option (List State)) →
+    AddsTwo (begun at bytes) (written at bytes) old mid → AddsTwo unchanged synced mid new → AddsOneWrite at bytes old new
+one_write at bytes old mid None wrote adds = tt
+one_write at bytes old None (Some new) wrote adds = absurd adds
+one_write at bytes None (Some mid) (Some new) wrote adds = absurd wrote
+one_write at bytes (Some old) (Some mid) (Some new) wrote adds = then_two at bytes old mid new synced wrote adds

@@ -3,7 +3,7 @@ use Rattle.std.specs.Prelude.{◌≡◌, ◌⊎◌, ℕ, ◌<◌, List, [], ◌�
 use Rattle.farm_base.specs.Known.{Stays, WhereKnown}
 use Rattle.farm_disk.specs.Images.{State, present}
 use Rattle.farm_disk.specs.Runs.{EachNow, EachSince}
-use Rattle.farm_journal.specs.declared.limits.TheConstants.{BEFORE_HEADER}
+use Rattle.farm_journal.specs.Limits.{before_header}
 use Rattle.farm_journal.specs.declared.faults.CreateFault.{CreateFault}
 use Rattle.farm_journal.specs.declared.faults.CreateFault.TheVariants.{NotEmpty, DiskFault, NoMemory}
 use Rattle.farm_journal.specs.Layout.{IsJournalOf, IsShort, opening}
@@ -16,7 +16,7 @@ IsNoneOrEmpty header bytes = IsNotJournal bytes ⊎ IsJournalOf header [] bytes
 -- Where every image at the start is shorter than 13 bytes, as of an empty disk, each image since is no journal, or one of this
 -- header without a body.
 abbrev pub IsCrashSafe : List ℕ → Option (List State) → Option (List State) → Type 0
-IsCrashSafe header old new = EachNow old (λ image. length image < BEFORE_HEADER) → EachSince old new (IsNoneOrEmpty header)
+IsCrashSafe header old new = EachNow old (λ image. length image < before_header) → EachSince old new (IsNoneOrEmpty header)
 
 -- what a refusal of the making says of the disk before it and after it: one that isn't empty, and one on which there was no
 -- memory to make a journal, stay as they were

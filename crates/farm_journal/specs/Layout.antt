@@ -1,7 +1,7 @@
 -- The bytes of a journal: an opening, records, and a gate that isn't open. Numbers are big-endian.
 use Rattle.std.specs.Prelude.{◌≡◌, ◌≢◌, ℕ, ◌≤◌, List, [], ◌∷◌, ◌++◌, length, take, drop, codes, All}
 use Rattle.std.specs.Int.{to_be_bytes, w32}
-use Rattle.farm_journal.specs.declared.limits.TheConstants.{MAX_BODY}
+use Rattle.farm_journal.specs.Limits.{max_body}
 
 -- the gate of the header, open, and the name of the format
 unfoldable pub signature : List ℕ
@@ -35,7 +35,7 @@ IsClosed (gate ∷ rest) = gate ≢ 1
 
 -- no more bytes than a header or a body may have
 abbrev pub IsShort : List ℕ → Type 0
-IsShort bytes = length bytes ≤ MAX_BODY
+IsShort bytes = length bytes ≤ max_body
 
 -- The bytes are a journal of this header and these bodies: its opening, an open record of each body, and a gate that isn't open.
 -- What stands after that gate counts for nothing.

@@ -2,7 +2,7 @@
 use Rattle.std.specs.Prelude.{◌≡◌, ◌≢◌, ℕ, ◌+◌, ◌≤◌, Bool, true, false, List, [], ◌∷◌, length, Option, Result, Err, IsOk, All}
 use Rattle.farm_base.specs.Known.{WhereKnown}
 use Rattle.farm_disk.specs.Images.{State, at_rest, present}
-use Rattle.farm_journal.specs.declared.limits.TheConstants.{MAX_BODIES}
+use Rattle.farm_journal.specs.Limits.{max_bodies}
 use Rattle.farm_journal.specs.declared.faults.RecoverFault.{RecoverFault}
 use Rattle.farm_journal.specs.declared.faults.RecoverFault.TheVariants.{NotJournal, Damaged, DiskFault, NoMemory}
 use Rattle.farm_journal.specs.declared.taker.Taken.{Taken}
@@ -27,7 +27,7 @@ pub record HasTaken (accepts : Accepts) (taken : List (List ℕ)) (known : Optio
 -- The taker has taken the body at a place too; or there is no body, since the gate isn't open.
 abbrev pub GoesOn : Accepts → List (List ℕ) → Option (List State) → ℕ → ℕ → Bool → Type 0
 GoesOn accepts taken known place offset true =
-    HasTaken accepts taken known offset × (length taken ≡ place + 1) × (place ≤ MAX_BODIES)
+    HasTaken accepts taken known offset × (length taken ≡ place + 1) × (place ≤ max_bodies)
 GoesOn accepts taken known place offset false =
     HasTaken accepts taken known offset × (length taken ≡ place) × WhereLeft known offset IsClosed
 
@@ -35,7 +35,7 @@ GoesOn accepts taken known place offset false =
 pub record HasTakenAll (accepts : Accepts) (taken : List (List ℕ)) (known : Option (List State)) (offset count : ℕ) : Type 0 where
   pub has_taken : HasTaken accepts taken known offset
   pub counted : length taken ≡ count + 1
-  pub within : count ≤ MAX_BODIES
+  pub within : count ≤ max_bodies
   pub closed : WhereLeft known offset IsClosed
 
 -- where the states are known, a refusal says this of the bytes

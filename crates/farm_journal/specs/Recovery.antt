@@ -1,7 +1,7 @@
 -- What a journal's bytes stand for, as a taker of its header and its bodies judges them.
 use Rattle.std.specs.Prelude.{◌≡◌, ◌≢◌, ◌⊎◌, ℕ, ◌+◌, ◌<◌, ◌≤◌, Bool, List, [], ◌∷◌, ◌++◌, length, take, drop, IsTrue, IsFalse, All}
 use Rattle.std.specs.Int.{from_be_bytes, w32}
-use Rattle.farm_journal.specs.declared.limits.TheConstants.{BEFORE_HEADER, LENGTH_BYTES, MAX_BODY, SIGNATURE_BYTES}
+use Rattle.farm_journal.specs.Limits.{before_header, length_bytes, max_body, signature_bytes}
 use Rattle.farm_journal.specs.declared.faults.RecoverFault.{RecoverFault}
 use Rattle.farm_journal.specs.declared.faults.RecoverFault.TheVariants.{NotJournal, Damaged, DiskFault, NoMemory}
 use Rattle.farm_journal.specs.declared.taker.Taken.{Taken}
@@ -31,25 +31,25 @@ AreAccepted accepts taken =
 
 -- the number that these bytes begin with
 abbrev pub size_at : List ℕ → ℕ
-size_at bytes = from_be_bytes w32 (take LENGTH_BYTES bytes)
+size_at bytes = from_be_bytes w32 (take length_bytes bytes)
 
 -- the bytes that stand after their length
 abbrev pub counted_in : List ℕ → List ℕ
-counted_in bytes = take (size_at bytes) (drop LENGTH_BYTES bytes)
+counted_in bytes = take (size_at bytes) (drop length_bytes bytes)
 
 -- a length and as many bytes after it are there, and the length isn't over the limit
 pub record IsWhole (bytes : List ℕ) : Type 0 where
-  pub has_size : LENGTH_BYTES ≤ length bytes
-  pub within : size_at bytes ≤ MAX_BODY
-  pub has_all : LENGTH_BYTES + size_at bytes ≤ length bytes
+  pub has_size : length_bytes ≤ length bytes
+  pub within : size_at bytes ≤ max_body
+  pub has_all : length_bytes + size_at bytes ≤ length bytes
 
 -- fewer than 13 bytes, or another gate or name than a journal begins with
 abbrev pub IsNotJournal : List ℕ → Type 0
-IsNotJournal bytes = (length bytes < BEFORE_HEADER) ⊎ (take SIGNATURE_BYTES bytes ≢ signature)
+IsNotJournal bytes = (length bytes < before_header) ⊎ (take signature_bytes bytes ≢ signature)
 
 -- the bytes after the gate and the name
 abbrev pub after_signature : List ℕ → List ℕ
-after_signature bytes = drop SIGNATURE_BYTES bytes
+after_signature bytes = drop signature_bytes bytes
 
 -- A journal's header is damaged: it is cut short or its length is over the limit, or it is whole and the taker refuses it.
 pub record IsHeaderDamaged (accepts : Accepts) (bytes : List ℕ) : Type 0 where

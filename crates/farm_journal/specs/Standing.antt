@@ -2,7 +2,7 @@
 use Rattle.std.specs.Prelude.{◌≡◌, ◌⊎◌, ℕ, ◌+◌, ◌*◌, ◌^◌, ◌<◌, ◌≤◌, List, [], ◌∷◌, ◌++◌, length, Option, Some, None, option_map, Result, Ok, Err, IfSome, All}
 use Rattle.farm_base.specs.Known.{WhereKnown}
 use Rattle.farm_disk.specs.Images.{Range, State, present, written_at}
-use Rattle.farm_journal.specs.declared.limits.TheConstants.{MAX_BODIES}
+use Rattle.farm_journal.specs.Limits.{max_bodies}
 use Rattle.farm_journal.specs.Layout.{IsJournalOf, counting}
 
 -- An open journal: its disk, the offset of its last gate, which is closed, and how many bodies stand before it; where a body is
@@ -65,9 +65,9 @@ most_record = 2 ^ 25
 
 -- the gates stand at offsets that such a number of bodies can reach, and there is a next one only where there may be one body more
 pub record IsWithinOffsets (gate count : ℕ) (next_gate : Option ℕ) : Type 0 where
-  pub counted : count ≤ MAX_BODIES
+  pub counted : count ≤ max_bodies
   pub reached : gate ≤ (count + 1) * most_record
-  pub next_counted : IfSome next_gate (λ next. count < MAX_BODIES)
+  pub next_counted : IfSome next_gate (λ next. count < max_bodies)
   pub next_reached : IfSome next_gate (λ next. next ≤ (count + 2) * most_record)
 
 -- the disk of a journal that was made or recovered, or the one that is given back with a refusal

@@ -1,5 +1,5 @@
 -- What a write that is synced at once does to the states of a disk.
-use Rattle.std.specs.Prelude.{◌≡◌, ◌⊎◌, ℕ, ◌+◌, ◌<◌, ◌≤◌, List, length, take, Option, Some, None, Result, IsOk, MatchResult}
+use Rattle.std.specs.Prelude.{◌≡◌, ◌⊎◌, ℕ, ◌+◌, ◌<◌, ◌≤◌, List, [], ◌∷◌, ◌++◌, length, take, Option, Some, None, Result, IsOk, MatchResult}
 use Rattle.farm_disk.specs.Images.{State, begun, present, state_at, synced, written, written_at}
 
 -- once the write has begun, before the sync is over: the base is as it was, reads give what they gave or what the write makes of
@@ -25,3 +25,12 @@ abbrev pub WritesSynced : {T E : Type 0} → ℕ → List ℕ → Option (List S
 WritesSynced at bytes old None result = Unit {0}
 WritesSynced at bytes None (Some new) result = ⊥
 WritesSynced at bytes (Some old) (Some new) result = AddsSynced at bytes old new result
+
+-- Where the states are known afterwards, they are those before and then the four of one write of these bytes at an offset and one sync:
+-- the write has begun, it is over, the sync has begun, it is over.
+abbrev pub AddsOneWrite : ℕ → List ℕ → Option (List State) → Option (List State) → Type 0
+AddsOneWrite at bytes old None = Unit {0}
+AddsOneWrite at bytes None (Some new) = ⊥
+AddsOneWrite at bytes (Some old) (Some new) =
+    let over = written at bytes (present old) in
+    new ≡ old ++ begun at bytes (present old) ∷ over ∷ over ∷ synced over ∷ []

@@ -3,7 +3,7 @@ use Rattle.std.specs.Prelude.{◌≡◌, ℕ, ◌+◌, ◌<◌, ◌≤◌, Bool,
 use Rattle.std.specs.Int.{to_be_bytes, w32}
 use Rattle.farm_base.specs.Known.{WhereKnown}
 use Rattle.farm_disk.specs.Images.{State, present}
-use Rattle.farm_journal.specs.declared.limits.TheConstants.{LENGTH_BYTES, MAX_BODY}
+use Rattle.farm_journal.specs.Limits.{length_bytes, max_body}
 use Rattle.farm_journal.specs.declared.faults.RecoverFault.{RecoverFault}
 use Rattle.farm_journal.specs.declared.faults.RecoverFault.TheVariants.{NotJournal, Damaged, DiskFault, NoMemory}
 use Rattle.farm_journal.specs.Recovery.{IsWhole}
@@ -33,9 +33,9 @@ Looks known offset need ahead false = (length ahead < need) × WhereLeft known o
 
 -- a length and as many bytes after it are ahead, and the length isn't over the limit
 pub record IsCounted (size : ℕ) (ahead : List ℕ) : Type 0 where
-  pub within : size ≤ MAX_BODY
-  pub has_all : LENGTH_BYTES + size ≤ length ahead
-  pub counts : take LENGTH_BYTES ahead ≡ to_be_bytes w32 size
+  pub within : size ≤ max_body
+  pub has_all : length_bytes + size ≤ length ahead
+  pub counts : take length_bytes ahead ≡ to_be_bytes w32 size
 
 -- this many bytes are counted; or no number is, and what is left isn't whole
 abbrev pub Counts : Option (List State) → ℕ → List ℕ → Option ℕ → Type 0

@@ -4,8 +4,9 @@ ghost use Rattle.std.specs.Prelude.{◌≡◌, ◌<◌, ◌≤◌, ◌+◌, ◌+
 ghost use Rattle.farm_base.specs.Counts.{HasCause, raised};
 ghost use Rattle.farm_base.specs.Known.{WhereKnown};
 ghost use Rattle.farm_disk.specs.Runs.{EachSince, Extends};
-ghost use Rattle.farm_journal.specs.Layout.{IsJournalOf};
+ghost use Rattle.farm_journal.specs.Layout.{IsJournalOf, counted};
 ghost use Rattle.farm_journal.specs.Standing.{IsEither, IsWithinOffsets, Stands};
+ghost use Rattle.farm_journal.specs.Steps.{AddsOneWrite};
 ghost use Rattle.farm_journal.specs.declared.limits.TheConstants.{MAX_BODIES, MAX_BODY};
 
 use crate::record_buffer::RecordBuffer;
@@ -82,6 +83,7 @@ impl<D: Disk> Journal<D> {
             MatchResult result (λ done. Stands D.trace header bodies (Some body.now) self.new) (λ fault. Stands D.trace header bodies None self.new) }
         ensures images { (header : List ℕ) (bodies : List (List ℕ)) → Stands D.trace header bodies None self.old →
             EachSince (D.trace self.old.disk) (D.trace self.new.disk) (IsJournalOf header bodies) }
+        ensures one_write { OnOk result (AddsOneWrite (self.old.gate + 1) (counted body.now ++ 0 ∷ []) (D.trace self.old.disk) (D.trace self.new.disk)) }
         ensures extends { Extends (D.trace self.old.disk) (D.trace self.new.disk) }
         ensures moment { D.moment self.old.disk ≤ D.moment self.new.disk }
         ensures cause { HasCause (D.faults self.old.disk) (D.faults self.new.disk) result }
@@ -105,6 +107,7 @@ impl<D: Disk> Journal<D> {
             MatchResult result (λ done. Stands D.trace header (bodies ++ body ∷ []) None self.new) (λ fault. Stands D.trace header bodies (Some body) self.new) }
         ensures images { (header body : List ℕ) (bodies : List (List ℕ)) → Stands D.trace header bodies (Some body) self.old →
             EachSince (D.trace self.old.disk) (D.trace self.new.disk) (IsEither header bodies body) }
+        ensures one_write { OnOk result (AddsOneWrite self.old.gate (1 ∷ []) (D.trace self.old.disk) (D.trace self.new.disk)) }
         ensures extends { Extends (D.trace self.old.disk) (D.trace self.new.disk) }
         ensures moment { D.moment self.old.disk ≤ D.moment self.new.disk }
         ensures cause { HasCause (D.faults self.old.disk) (D.faults self.new.disk) result }

@@ -2,7 +2,7 @@
 
 ghost use Rattle.std.specs.Prelude.{◌≡◌, ◌≤◌, OnErr, OnOk};
 ghost use Rattle.farm_base.specs.Counts.{HasCause, raised};
-ghost use Rattle.farm_journal.specs.Steps.{WritesSynced};
+ghost use Rattle.farm_journal.specs.Steps.{AddsOneWrite, WritesSynced};
 
 use crate::DiskFault;
 use farm_disk::Disk;
@@ -10,6 +10,7 @@ use farm_disk::Disk;
 /// Writes bytes at an offset and syncs them.
 pub fn write_synced<D: Disk>(disk: &mut D, at: u64, bytes: &[u8]) -> Result<(), DiskFault>
     ensures step { WritesSynced at bytes.now (D.trace disk.old) (D.trace disk.new) result }
+    ensures one_write { OnOk result (AddsOneWrite at bytes.now (D.trace disk.old) (D.trace disk.new)) }
     ensures moment { D.moment disk.old ≤ D.moment disk.new }
     ensures cause { HasCause (D.faults disk.old) (D.faults disk.new) result }
     ensures quiet { OnOk result (D.faults disk.new ≡ D.faults disk.old) }

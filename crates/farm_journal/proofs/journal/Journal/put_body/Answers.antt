@@ -1,7 +1,7 @@
 -- Answers to the open goals of `put_body`.
 use Rattle.std.proofs.Common.{◌+◌, Some, length, refl, ap, ◌∙◌}
 use Rattle.farm_journal.specs.Standing.{JournalState}
-use Rattle.farm_journal.proofs.Putting.{on_err, put_images, put_stays, put_stands, put_step}
+use Rattle.farm_journal.proofs.Putting.{on_err, put_images, put_one_write, put_stays, put_stands, put_step}
 use Rattle.farm_journal.proofs.journal.Journal.put_body.Goals as goal
 
 pub returns-in_err-write_synced-clause-images : goal.returns-in_err-write_synced-clause-images
@@ -30,3 +30,8 @@ returns-in_err-write_synced-clause-stands g c = λ header bodies stands.
     (put_step g.D.Disk.trace c.args.body.now c.made.result.now _ c.args.self.now c.write_synced.new.disk _ (c.made.ensures ∙ c.make.ensures.made) c.self.view_is c.in_err-write_synced.ensures.step)
     _ refl refl (ap (λ (journal : JournalState _). journal.gate) view) (ap (λ (journal : JournalState _). journal.count) view)
     (ap (λ (journal : JournalState _). journal.next_gate) view))
+
+pub returns-clause-one_write : goal.returns-clause-one_write
+returns-clause-one_write g c =
+    put_one_write g.D.Disk.trace c.args.body.now c.made.result.now _ c.args.self.now c.write_synced.new.disk (c.made.ensures ∙ c.make.ensures.made)
+    c.self.view_is c.in_ok-write_synced.ensures.one_write
