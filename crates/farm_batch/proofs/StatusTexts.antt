@@ -2,7 +2,7 @@
 use Rattle.std.proofs.Common.{◌≡◌, codes, refl}
 use Rattle.std.specs.Fmt.{digits}
 use Rattle.serde_json.proofs.OnLiterals.{serde_json_on_literals}
-use Rattle.farm_http.specs.Bodies.{body_text}
+use Rattle.farm_http.specs.PageTexts.{body_text}
 use Rattle.farm_batch.specs.LineAnswers.{answer_text, disk_fault, out_of_memory}
 
 -- the answer of the status 507, with its line feed

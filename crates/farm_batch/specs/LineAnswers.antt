@@ -8,7 +8,7 @@ use Rattle.farm_history.specs.History.{History, last_place}
 use Rattle.farm_history.specs.Verdicts.{is_accepted, verdict}
 use Rattle.journaled_book.specs.declared.answer.Answer.{Answer}
 use Rattle.journaled_book.specs.declared.answer.Answer.TheVariants as answers
-use Rattle.farm_http.specs.Bodies.{body_text}
+use Rattle.farm_http.specs.PageTexts.{body_text}
 use Rattle.farm_http.specs.Requests.{ask_of_line}
 use Rattle.farm_http.specs.declared.page.Page.{Page}
 use Rattle.farm_http.specs.declared.page.Page.TheVariants as pages

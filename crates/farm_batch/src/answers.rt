@@ -5,7 +5,7 @@ ghost use Rattle.farm_base.specs.Counts.{raised};
 ghost use Rattle.journaled_book.specs.Histories.{certain};
 ghost use Rattle.farm_history.specs.Desk.{IsWellFormedAsk};
 ghost use Rattle.farm_history.specs.History.{last_place};
-ghost use Rattle.farm_http.specs.Bodies.{IsAnswer, IsErrorStatus};
+ghost use Rattle.farm_http.specs.PageTexts.{IsAnswer, IsErrorStatus};
 ghost use Rattle.farm_batch.specs.LineAnswers.{AsksNothing, IsReply, MeetsLine, answer_to, ends_with, faults_on_page, is_stop_ask, line_answer, page_of};
 ghost use Rattle.farm_batch.specs.Desks.{KeepsDesk};
 ghost use Rattle.batch_lines.specs.Reader.{kept};

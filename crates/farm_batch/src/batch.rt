@@ -2,7 +2,7 @@
 
 ghost use Rattle.std.specs.Prelude.{◌≡◌, ◌≢◌, ◌≤◌, ℕ, List, Some, option_map, IfOk, IsFalse, IsTrue, OnErr, OnOk};
 ghost use Rattle.farm_base.specs.Counts.{HasCause, count_of};
-ghost use Rattle.farm_http.specs.Bodies.{IsAnswer};
+ghost use Rattle.farm_http.specs.PageTexts.{IsAnswer};
 ghost use Rattle.farm_batch.specs.LineAnswers.{answer_text, disk_fault};
 ghost use Rattle.farm_batch.specs.Desks.{KeepsDesk};
 ghost use Rattle.batch_lines.specs.Reader.{kept};

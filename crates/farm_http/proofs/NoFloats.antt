@@ -7,7 +7,7 @@ use Rattle.farm_history.specs.declared.reply.Reply.TheVariants.{Gain, Placed, Re
 use Rattle.farm_ticket.specs.declared.side.Moved.{Moved}
 use Rattle.farm_ticket.specs.declared.side.Side.{Side}
 use Rattle.farm_ticket.specs.Tickets as tickets
-use Rattle.farm_http.specs.Bodies.{members_of}
+use Rattle.farm_http.specs.PageTexts.{members_of}
 use Rattle.farm_http.specs.Tickets.{figures_value, moved_value, side_value, sides_value, ticket_members}
 use Rattle.farm_http.specs.declared.page.Page.{Page}
 use Rattle.farm_http.specs.declared.page.Page.TheVariants as pages

@@ -3,7 +3,7 @@ use Rattle.std.proofs.Common.{◌≡◌, refl}
 use Rattle.serde_json.proofs.OnLiterals.{serde_json_on_literals}
 use Rattle.serde_json.specs.Data.{no_members}
 use Rattle.farm_history.specs.declared.reply.Reply.TheVariants.{Gain, Placed, Refused, Stock, Ticket, Total}
-use Rattle.farm_http.specs.Bodies.{members_of, with_page}
+use Rattle.farm_http.specs.PageTexts.{members_of, with_page}
 use Rattle.farm_http.specs.Tickets.{ticket_members}
 use Rattle.farm_http.specs.declared.page.Page.{Page}
 use Rattle.farm_http.specs.declared.page.Page.TheVariants as pages

@@ -4,4 +4,4 @@ pub mod Members
 pub mod Objects
 pub mod Requests
 pub mod Tickets
-pub mod Bodies
+pub mod PageTexts

@@ -5,7 +5,7 @@ ghost use Rattle.serde_json.specs.Data.{no_members, object};
 ghost use Rattle.serde_json.specs.View.{members_view, view};
 ghost use Rattle.serde_json.specs.Written.{has_float};
 ghost use Rattle.farm_base.specs.Appended.{Appends};
-ghost use Rattle.farm_http.specs.Bodies.{IsAnswer, PlaceInBytes, amount_members, body_text, members_of, with_amount, with_page, with_reply};
+ghost use Rattle.farm_http.specs.PageTexts.{IsAnswer, PlaceInBytes, amount_members, body_text, members_of, with_amount, with_page, with_reply};
 
 use crate::Page;
 use crate::objects::put_number;
@@ -17,7 +17,7 @@ use serde_json::{Map, Value, put};
 use std::alloc::{AllocError, Global};
 
 /// Appends the body of an answer. On `NoMemory` the buffer is as before.
-#[tactic(auto, unfolding(crate::specs::Bodies::body_text))]
+#[tactic(auto, unfolding(crate::specs::PageTexts::body_text))]
 pub fn body(alloc: Global, page: &Page, out: &mut Vec<u8>) -> Result<(), NoMemory>
     requires page { IsAnswer page.now }
     ensures appended { Appends out.old.items out.new.items (body_text page.now) result }

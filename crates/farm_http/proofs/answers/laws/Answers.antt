@@ -1,7 +1,7 @@
 -- Answers to the open goals of `laws`.
 use Rattle.std.proofs.Common.{refl}
 use Rattle.serde_json.proofs.OnLiterals.{serde_json_on_literals}
-use Rattle.farm_http.specs.Bodies.{body_text}
+use Rattle.farm_http.specs.PageTexts.{body_text}
 use Rattle.farm_http.proofs.answers.laws.Goals as goal
 
 pub returns : goal.returns

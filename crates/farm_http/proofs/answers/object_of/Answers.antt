@@ -4,7 +4,7 @@ use Rattle.serde_json.proofs.Views.{view-Object}
 use Rattle.serde_json.specs.Data.{object}
 use Rattle.serde_json.specs.View.{members_view}
 use Rattle.serde_json.specs.Written.{has_float}
-use Rattle.farm_http.specs.Bodies.{members_of, with_page}
+use Rattle.farm_http.specs.PageTexts.{members_of, with_page}
 use Rattle.farm_http.proofs.NoFloats.{answer_has_none}
 use Rattle.farm_http.proofs.Sorted.{members_are_put}
 use Rattle.farm_http.proofs.answers.object_of.Goals as goal
