@@ -6,7 +6,7 @@ use Rattle.std.specs.Bool.{IsTrue}
 use Rattle.std.proofs.lemmas.List.{append-nil, drop-drop, drop-take, same_from_push}
 use Rattle.std.proofs.lemmas.Nat.{from_be_bytes-to_be_bytes_4}
 use Rattle.std.proofs.Math.Seq.{take-add}
-use Rattle.farm_journal.specs.declared.limits.TheConstants.{MAX_BODY}
+use Rattle.farm_journal.specs.Limits.{max_body}
 use Rattle.farm_journal.specs.Layout.{IsShort, counted, counting, open_record, open_records, opening, signature}
 use Rattle.farm_journal.specs.Progress.{counting_of}
 use Rattle.farm_journal.specs.Recovery.{Accepts, AreAccepted, IsWhole, counted_in, size_at}
@@ -138,7 +138,7 @@ unfolding open_record
 records_within [] short = omega arith
 records_within (body ∷ bodies) short =
     let rest = records_within bodies (λ k d within. short (suc k) d (omega arith)) in
-    let first : length body ≤ MAX_BODY = short 0 [] (omega arith) in
+    let first : length body ≤ max_body = short 0 [] (omega arith) in
     omega (arith, rest, first, length-append (open_record body) (open_records bodies), length-counted body)
 
 -- each header and each body takes at most 2 ^ 25 bytes
@@ -147,5 +147,5 @@ unfolding counting opening signature
 counting_within [] short = omega arith
 counting_within (header ∷ bodies) short =
     let rest = records_within bodies (λ k d within. short (suc k) d (omega arith)) in
-    let first : length header ≤ MAX_BODY = short 0 [] (omega arith) in
+    let first : length header ≤ max_body = short 0 [] (omega arith) in
     omega (arith, rest, first, length-append (opening header) (open_records bodies), length-append signature (counted header), length-counted header)
