@@ -1,7 +1,9 @@
 //! The arguments as a command, and what they name.
 
-ghost use Rattle.std.specs.Prelude.{◌≡◌, ◌≤◌, [], IfSome, IsSome, length, map, string_bytes};
+ghost use Rattle.std.specs.Prelude.{◌≡◌, ◌≤◌, List, [], Some, IfSome, IsSome, codes, length, map, string_bytes};
 ghost use Rattle.command_line.specs.Commands.{command_named, command_of, journal_file, option_names, site_folder, value_of};
+ghost use Rattle.command_line.specs.Forms.{IsForm, Written, value_among};
+ghost use Rattle.command_line.specs.declared.commands.Subcommand.{Subcommand};
 
 use crate::options::{are_options, option_in};
 use std::alloc::Global;
@@ -24,6 +26,8 @@ impl Subcommand {
     #[tactic(auto, unfolding(crate::specs::Commands::command_of))]
     pub fn of_words(words: &[String]) -> Option<Subcommand>
         ensures command { result ≡ command_of (map string_bytes words.now) }
+        ensures form { IfSome result (λ command. (options : List Written) × IsForm command options (map string_bytes words.now)) }
+        ensures every_form { (command : Subcommand) (options : List Written) → IsForm command options (map string_bytes words.now) → result ≡ Some command }
     {
         let [word, options @ ..] = words else {
             return None;
@@ -66,6 +70,9 @@ impl Subcommand {
 pub fn places(alloc: Global, words: &[String]) -> Option<(String, String)>
     ensures site { IfSome result (λ places. string_bytes places.0 ≡ site_folder (map string_bytes words.now)) }
     ensures journal { IfSome result (λ places. string_bytes places.1 ≡ journal_file (map string_bytes words.now)) }
+    ensures site_written { IfSome result (λ places. (command : Subcommand) (options : List Written) → IsForm command options (map string_bytes words.now) → string_bytes places.0 ≡ value_among (codes "site") options) }
+    ensures journal_written { IfSome result (λ places. (command : Subcommand) (options : List Written) → IsForm command options (map string_bytes words.now) → string_bytes places.1 ≡ value_among (codes "journal") options) }
+    ensures no_form { IfSome result (λ places. ((command : Subcommand) (options : List Written) → IsForm command options (map string_bytes words.now) → ⊥) → (string_bytes places.0 ≡ []) × (string_bytes places.1 ≡ [])) }
     ensures unnamed { site_folder (map string_bytes words.now) ≡ [] → journal_file (map string_bytes words.now) ≡ [] → IsSome result }
 {
     let site = owned(alloc, site_folder(words))?;

@@ -1,0 +1,18 @@
+-- Answers to the open goals of `of_words`.
+use Rattle.std.proofs.lemmas.Grind.{common_steps}
+use Rattle.std.proofs.Common.{arith, ◌≡◌, map, string_bytes, ◌∙◌}
+use Rattle.command_line.specs.Commands.{command_of}
+use Rattle.command_line.proofs.Arguments.{command_from_form, form_of_result}
+use Rattle.command_line.proofs.commands.Subcommand.of_words.Goals as goal
+
+pub returns-clause-form : goal.returns-clause-form
+unfolding command_of
+returns-clause-form c =
+    let is : c.then_some.result ≡ command_of (map string_bytes c.args.words.now) = grind (arith, common_steps) in
+    form_of_result (map string_bytes c.args.words.now) c.then_some.result is
+
+pub returns-clause-every_form : goal.returns-clause-every_form
+unfolding command_of
+returns-clause-every_form c command options form =
+    let is : c.then_some.result ≡ command_of (map string_bytes c.args.words.now) = grind (arith, common_steps) in
+    is ∙ command_from_form command options (map string_bytes c.args.words.now) form

@@ -1,0 +1,46 @@
+-- The form of arguments: the name of a command, and after it each of its options once, in any order.
+use Rattle.std.specs.Prelude.{◌≡◌, ◌≢◌, ℕ, Bool, if◌then◌else◌, List, [], ◌∷◌, ◌++◌, codes, map, IsPermutation}
+use Rattle.std.specs.List.{All, flat_map}
+use Rattle.std.specs.Str.{bytes_eq}
+use Rattle.command_line.specs.Commands.{option_names}
+use Rattle.command_line.specs.declared.commands.Subcommand.{Subcommand}
+use Rattle.command_line.specs.declared.commands.Subcommand.TheVariants.{Batch, Calc, Init, Table}
+
+-- an option as it is written: its name, its value, and whether both are one word
+pub record Written : Type 0 where
+  pub name : List ℕ
+  pub value : List ℕ
+  pub joined : Bool
+
+-- a value isn't empty, and doesn't begin with a minus
+abbrev pub IsValue : List ℕ → Type 0
+IsValue [] = ⊥
+IsValue (byte ∷ bytes) = byte ≢ 45
+
+-- the words of an option: the one word --name=value, or the two words --name and value
+abbrev pub spelling : Written → List (List ℕ)
+spelling option =
+    if option.joined then (codes "--" ++ (option.name ++ (codes "=" ++ option.value))) ∷ []
+    else (codes "--" ++ option.name) ∷ option.value ∷ []
+
+-- options are those of these names, each once and in any order, and each has a value
+pub record AreOptions (names : List (List ℕ)) (options : List Written) : Type 0 where
+  pub each_once : IsPermutation names (map (λ option. option.name) options)
+  pub values : All (λ option. IsValue option.value) options
+
+-- the name of a command
+abbrev pub command_name : Subcommand → List ℕ
+command_name Calc = codes "calc"
+command_name Init = codes "init"
+command_name Table = codes "table"
+command_name Batch = codes "batch"
+
+-- words are the name of a command and the spellings of these options one after another, and the options are those of the command
+pub record IsForm (command : Subcommand) (options : List Written) (words : List (List ℕ)) : Type 0 where
+  pub options_of : AreOptions (option_names command) options
+  pub spelled : words ≡ command_name command ∷ flat_map spelling options
+
+-- the value of the option of this name, an empty text where none of the options has it
+abbrev pub value_among : List ℕ → List Written → List ℕ
+value_among name [] = []
+value_among name (option ∷ options) = if bytes_eq option.name name then option.value else value_among name options
