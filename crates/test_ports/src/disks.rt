@@ -168,3 +168,14 @@ fn a_write_without_memory_has_no_moment(rt: HostRuntime) -> Result<(), Fail> {
     );
     Ok(checks.end()?)
 }
+
+#[test]
+fn a_listed_write_has_begun_where_there_is_room(rt: HostRuntime) -> Result<(), Fail> {
+    let mut checks = Checks::new(&rt);
+    let alloc = rt.alloc();
+    let mut disk = four_bytes(alloc, &[1])?;
+    disk.reserve(1, 2, 4)?;
+    checks.same(disk.write_at(1, b"XY"), Err(Failed));
+    check_images(&mut checks, alloc, &disk, 2, [b"abcd", b"aXYd", b"a??d"])?;
+    Ok(checks.end()?)
+}

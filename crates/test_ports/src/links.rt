@@ -41,6 +41,16 @@ fn a_wire_gives_its_responses(rt: HostRuntime) -> Result<(), Fail> {
     Ok(checks.end()?)
 }
 
+#[test]
+fn a_wire_with_room_keeps_a_listed_connect(rt: HostRuntime) -> Result<(), Fail> {
+    let mut checks = Checks::new(&rt);
+    let mut wire = two_responses(rt.alloc())?;
+    wire.reserve(1, 9)?;
+    checks.same(wire.connect(b"127.0.0.1", 502), Err(Failed));
+    checks.same(wire.calls().len(), 1);
+    Ok(checks.end()?)
+}
+
 // The device takes a connection, answers, reads a request, and closes the connection.
 fn answer_one(device: &TcpListener, request: &mut [u8]) -> io::Result<usize> {
     let (mut stream, _) = device.accept()?;
