@@ -5,13 +5,13 @@ use Rattle.farm_base.specs.Known.{Adds, Stream, Takes, WhereKnown}
 use Rattle.farm_batch.specs.declared.batch.BatchEnd.{BatchEnd}
 use Rattle.farm_batch.specs.declared.batch.BatchEnd.TheVariants.{Done, Long, Failed}
 use Rattle.farm_batch.specs.Answers.{IsCutAtLast, Step, answers_text}
-use Rattle.farm_batch.specs.Batches.{AskedAll, Asks, Batch, EndsAs, IsTooMuch, lines_of}
+use Rattle.farm_batch.specs.Batches.{AskedAll, Asks, Batch, EndsAs, GoesOn, IsTooMuch, lines_of}
 use Rattle.farm_batch.specs.Outcomes.{OutcomesAreOne, Outcome, WereAnswered, outcome}
 use Rattle.farm_desk.specs.States.{DeskState}
 use Rattle.farm_disk.specs.Images.{State}
 use Rattle.farm_history.specs.History.{History}
 use Rattle.farm_run.specs.declared.limits.TheConstants.{BOOK_LIMIT}
-use Rattle.farm_run.specs.BatchRuns.{DeskBatch, LeavesOnDisk, SaysAfter, last_text, printed}
+use Rattle.farm_run.specs.BatchRuns.{DeskBatch, IsUnbegun, LeavesOnDisk, SaysAfter, last_text, printed}
 use Rattle.farm_run.specs.Runs.{LacksMemory, Puts, Refuses, given}
 use Rattle.farm_run.specs.Texts.{disk_fault_line, no_memory_line, port_fault_line, too_long_text}
 use Rattle.farm_run.proofs.Printing.{output_with, rose_later, says_last}
@@ -67,9 +67,9 @@ module _ {D : Type 0} (may_give : ℤ → Type 0) (desk : DeskState D) (moment :
   lacking : (old middle new : Option (List ℕ)) (before between now status : ℕ) (taken in_hand : List ℕ) (steps : List Step) (doubt : Bool) →
       Takes from to taken → Asks may_give BOOK_LIMIT desk.history taken in_hand to steps →
       LeavesOnDisk desk.history steps doubt moment trace disk → (doubt ≡ false) ⊎ IsTooMuch (lines_of steps) in_hand →
-      IsQuiet source → between ≡ before → between ≤ now → Adds old middle (answers_text steps) → LacksMemory (output_with middle new between now) status →
+      IsUnbegun from to taken steps ⊎ (GoesOn steps × IsTooMuch (lines_of steps) in_hand) → IsQuiet source → between ≡ before → between ≤ now → Adds old middle (answers_text steps) → LacksMemory (output_with middle new between now) status →
       DeskBatch may_give desk.history moment trace disk from to source (output_with old new before now) status
-  lacking old middle new before between now status taken in_hand steps doubt moved asks left sure source_quiet same later put lacks = record {
+  lacking old middle new before between now status taken in_hand steps doubt moved asks left sure lacked source_quiet same later put lacks = record {
     steps = steps;
     taken = taken;
     in_hand = in_hand;
@@ -88,6 +88,7 @@ module _ {D : Type 0} (may_give : ℤ → Type 0) (desk : DeskState D) (moment :
     memory_only = λ seven. (source_quiet, lacks.memory_only seven ∙ same);
     memory_said = λ seven. said_after old middle new before between now steps [] no_memory_line (inl put) (omega (arith, same)) later
         (without_text _ _ _ (lacks.memory_said seven []));
+    memory_lacked = λ seven. lacked;
     least = λ greater. sure;
     function = λ small. elim lacks.statuses [ inl six ↦ absurd (omega (arith, small)) | inr seven ↦ absurd (omega (arith, small)) ];
   }
@@ -119,6 +120,7 @@ module _ {D : Type 0} (faults : D → ℕ) (may_give : ℤ → Type 0) (desk aft
         fault_said = λ six. absurd (omega arith);
         memory_only = λ seven. absurd (omega arith);
         memory_said = λ seven. absurd (omega arith);
+        memory_lacked = λ seven. absurd (omega arith);
         least = λ greater. inl sure;
         function = λ small quiet answered. function_of may_give desk.history from to batch.taken batch.in_hand batch.steps source
             (record { before = before; now = now }) Done old new one batch.moved batch.asks batch.ends fine answered
@@ -155,12 +157,13 @@ module _ {D : Type 0} (faults : D → ℕ) (may_give : ℤ → Type 0) (desk aft
               fault_said = λ six. absurd (omega arith);
               memory_only = λ seven. absurd (omega arith);
               memory_said = λ seven. absurd (omega arith);
+              memory_lacked = λ seven. absurd (omega arith);
               least = λ greater. absurd (omega (arith, greater));
               function = λ small still answered. function_of may_give desk.history from to batch.taken batch.in_hand batch.steps source sink (Long number)
                   old new one batch.moved batch.asks batch.ends fine answered (said.whole still);
             }
         | inr lacks ↦ lacking may_give desk moment trace disk from to source old middle new before between now status batch.taken batch.in_hand batch.steps doubt batch.moved batch.asks left
-            (inr batch.ends.1) quiet.0 quiet.1 later whole lacks
+            (inr batch.ends.1) (inr (batch.ends.0, batch.ends.1)) quiet.0 quiet.1 later whole lacks
       ]
 
   -- a batch that ended otherwise, with an entry in doubt
@@ -193,6 +196,7 @@ module _ {D : Type 0} (faults : D → ℕ) (may_give : ℤ → Type 0) (desk aft
         fault_said = λ six. absurd (omega arith);
         memory_only = λ seven. absurd (omega arith);
         memory_said = λ seven. absurd (omega arith);
+        memory_lacked = λ seven. absurd (omega arith);
         least = λ greater. absurd (omega (arith, greater));
         function = λ small. absurd (omega (arith, small));
       }
@@ -223,6 +227,7 @@ module _ {D : Type 0} (faults : D → ℕ) (may_give : ℤ → Type 0) (desk aft
             (put_before_fault batch.steps old middle sink Failed batch.put) earlier later (says_last (output_with middle new between now) [] (no_memory_line ∷ []) port_fault_line puts);
         memory_only = λ seven. absurd (omega arith);
         memory_said = λ seven. absurd (omega arith);
+        memory_lacked = λ seven. absurd (omega arith);
         least = λ greater. inl sure;
         function = λ small. absurd (omega (arith, small));
       }
@@ -235,4 +240,4 @@ pub not_begun : {D : Type 0} (may_give : ℤ → Type 0) (desk : DeskState D) (m
     DeskBatch may_give desk.history moment trace disk input input source (output_with old new before now) status
 not_begun may_give desk moment trace disk input source doubt old new before now status left sure source_quiet later lacks =
     lacking may_give desk moment trace disk input input source old old new before before now status [] [] [] doubt (takes_none input)
-    (asks_none may_give desk.history input) left (inl sure) source_quiet refl later (adds_none old) lacks
+    (asks_none may_give desk.history input) left (inl sure) (inl (record { input_kept = refl; nothing_taken = refl; none_asked = refl })) source_quiet refl later (adds_none old) lacks

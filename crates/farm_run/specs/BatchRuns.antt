@@ -57,6 +57,12 @@ pub record LeavesOnDisk (found : History) (steps : List Step) (doubt : Bool) (mo
   -- the disk counted just as many faults as lines were answered with one, and one more where an entry is in doubt
   pub counted : disk.now ≡ raised (faults_in steps + faults_at_end doubt) disk.before
 
+-- a batch wasn't begun: nothing was taken of the input, and no line was asked
+pub record IsUnbegun (from to : Option Stream) (taken : List ℕ) (steps : List Step) : Type 0 where
+  pub input_kept : to ≡ from
+  pub nothing_taken : taken ≡ []
+  pub none_asked : steps ≡ []
+
 -- A batch on a desk that was recovered: the lines that it asked, one after another, whether an entry is in doubt at the end, what is left on
 -- the disk, and what was printed, by its status.
 pub record DeskBatch (may_give : ℤ → Type 0) (found : History) (moment : ℕ) (trace : Option (List State)) (disk : Count)
@@ -81,6 +87,8 @@ pub record DeskBatch (may_give : ℤ → Type 0) (found : History) (moment : ℕ
   -- a port that failed is never answered as out of memory
   pub memory_only : status ≡ 7 → IsQuiet source × IsQuiet output.count
   pub memory_said : status ≡ 7 → SaysAfter output steps [] no_memory_line
+  -- there was no memory before the first line, or for the line of a line too many
+  pub memory_lacked : status ≡ 7 → IsUnbegun from to taken steps ⊎ (GoesOn steps × IsTooMuch (lines_of steps) in_hand)
   -- a greater status comes with an entry in doubt only where there was no memory for the line of a line too many
   pub least : 5 < status → (doubt ≡ false) ⊎ IsTooMuch (lines_of steps) in_hand
   -- where nothing failed and there was memory, what was put depends on the history and the input alone
