@@ -4,7 +4,7 @@ use crate::files::{EMPTY, ONE, check_recovery, new_journal, two_bodies};
 use farm_disk::{Disk, Fill, MemDisk};
 use std::alloc::{AllocError, Global};
 use std::test::Fail;
-use test_checks::{Checks, Checks};
+use test_checks::Checks;
 
 // What a crash leaves where it may leave any byte: old bytes, new ones, and some that are gates or look like lengths.
 const FILLS: &[Fill] = &[

@@ -3,7 +3,7 @@
 use crate::files::{TWO, check_recovery};
 use std::alloc::{AllocError, Global};
 use std::test::Fail;
-use test_checks::{Checks, Checks};
+use test_checks::Checks;
 
 // What the first bytes of a journal with two bodies are recovered as. The header ends at 17, the first record at 25, the second
 // at 35, and the last gate stands there.
