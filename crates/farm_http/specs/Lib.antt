@@ -4,3 +4,4 @@ pub mod Objects
 pub mod Requests
 pub mod Tickets
 pub mod Answers
+pub mod Bodies
