@@ -26,17 +26,22 @@ amount_text amount = concat (codes "{\"kg\":" ∷ integer_text amount.kg ∷ cod
 -- the ten figures
 abbrev pub figures_text : Quantities → List ℕ
 figures_text q =
-    concat (codes "{\"ctsh\":" ∷ integer_text q.ctsh ∷ codes ",\"fra\":" ∷ integer_text q.fra ∷ codes ",\"fw\":" ∷ integer_text q.fw ∷ codes ",\"gov\":" ∷ integer_text q.gov ∷ codes ",\"gsv\":" ∷ integer_text q.gsv ∷ codes ",\"mass\":" ∷ integer_text q.mass ∷ codes ",\"nsv\":" ∷ integer_text q.nsv ∷ codes ",\"swv\":" ∷ integer_text q.swv ∷ codes ",\"tov\":" ∷ integer_text q.tov ∷ codes ",\"vcf\":" ∷ integer_text q.vcf ∷ codes "}" ∷ [])
+    concat (codes "{\"ctsh\":" ∷ integer_text q.ctsh ∷ codes ",\"fra\":" ∷ integer_text q.fra ∷ codes ",\"fw\":" ∷ integer_text q.fw ∷
+    codes ",\"gov\":" ∷ integer_text q.gov ∷ codes ",\"gsv\":" ∷ integer_text q.gsv ∷ codes ",\"mass\":" ∷ integer_text q.mass ∷
+    codes ",\"nsv\":" ∷ integer_text q.nsv ∷ codes ",\"swv\":" ∷ integer_text q.swv ∷ codes ",\"tov\":" ∷ integer_text q.tov ∷
+    codes ",\"vcf\":" ∷ integer_text q.vcf ∷ codes "}" ∷ [])
 
 -- what moved
 abbrev pub moved_text : Moved → List ℕ
 moved_text m =
-    concat (codes "{\"gsv\":" ∷ integer_text m.gsv ∷ codes ",\"kg\":" ∷ integer_text m.mass ∷ codes ",\"nsv\":" ∷ integer_text m.nsv ∷ codes ",\"swv\":" ∷ integer_text m.swv ∷ codes "}" ∷ [])
+    concat (codes "{\"gsv\":" ∷ integer_text m.gsv ∷ codes ",\"kg\":" ∷ integer_text m.mass ∷ codes ",\"nsv\":" ∷ integer_text m.nsv ∷
+    codes ",\"swv\":" ∷ integer_text m.swv ∷ codes "}" ∷ [])
 
 -- a side
 abbrev pub side_text : Side → List ℕ
 side_text side =
-    concat (codes "{\"closing\":" ∷ figures_text side.closing ∷ codes ",\"moved\":" ∷ moved_text side.moved ∷ codes ",\"opening\":" ∷ figures_text side.opening ∷ codes ",\"tank\":" ∷ decimal side.tank ∷ codes ",\"way\":\"" ∷ way_word side.way ∷ codes "\"}" ∷ [])
+    concat (codes "{\"closing\":" ∷ figures_text side.closing ∷ codes ",\"moved\":" ∷ moved_text side.moved ∷ codes ",\"opening\":" ∷
+    figures_text side.opening ∷ codes ",\"tank\":" ∷ decimal side.tank ∷ codes ",\"way\":\"" ∷ way_word side.way ∷ codes "\"}" ∷ [])
 
 -- the sides of a ticket: the first, and the second after it where there is one
 abbrev pub sides_text : Side → Option Side → List ℕ
@@ -46,7 +51,9 @@ sides_text first (Some second) = concat (codes "[" ∷ side_text first ∷ codes
 -- a ticket
 abbrev pub ticket_text : tickets.Ticket → List ℕ
 ticket_text ticket =
-    concat (codes "{\"movement\":" ∷ decimal ticket.movement ∷ codes ",\"number\":" ∷ decimal ticket.number ∷ codes ",\"party\":" ∷ decimal ticket.party ∷ codes ",\"place\":" ∷ decimal ticket.place ∷ codes ",\"reverses\":" ∷ decimal ticket.reverses ∷ codes ",\"sides\":" ∷ sides_text ticket.first ticket.second ∷ codes "}" ∷ [])
+    concat (codes "{\"movement\":" ∷ decimal ticket.movement ∷ codes ",\"number\":" ∷ decimal ticket.number ∷ codes ",\"party\":" ∷
+    decimal ticket.party ∷ codes ",\"place\":" ∷ decimal ticket.place ∷ codes ",\"reverses\":" ∷ decimal ticket.reverses ∷
+    codes ",\"sides\":" ∷ sides_text ticket.first ticket.second ∷ codes "}" ∷ [])
 
 -- the body of a place
 abbrev pub PlaceInBytes : Type 0
@@ -65,12 +72,14 @@ GainInBytes = (place : ℕ) (amount : Amount) → body_text (pages.Reply (Gain p
 -- the body of a stock
 abbrev pub StockInBytes : Type 0
 StockInBytes = (tank : ℕ) (amount : Amount) (reading sample : ℕ) → body_text (pages.Reply (Stock tank amount reading sample)) ≡
-    concat (codes "{\"kg\":" ∷ integer_text amount.kg ∷ codes ",\"litres\":" ∷ integer_text amount.litres ∷ codes ",\"reading\":" ∷ decimal reading ∷ codes ",\"sample\":" ∷ decimal sample ∷ codes ",\"tank\":" ∷ decimal tank ∷ codes "}" ∷ [])
+    concat (codes "{\"kg\":" ∷ integer_text amount.kg ∷ codes ",\"litres\":" ∷ integer_text amount.litres ∷ codes ",\"reading\":" ∷
+    decimal reading ∷ codes ",\"sample\":" ∷ decimal sample ∷ codes ",\"tank\":" ∷ decimal tank ∷ codes "}" ∷ [])
 
 -- the body of a total
 abbrev pub TotalInBytes : Type 0
 TotalInBytes = (entries : ℕ) (amount : Amount) → body_text (pages.Reply (Total entries amount)) ≡
-    concat (codes "{\"entries\":" ∷ decimal entries ∷ codes ",\"kg\":" ∷ integer_text amount.kg ∷ codes ",\"litres\":" ∷ integer_text amount.litres ∷ codes "}" ∷ [])
+    concat (codes "{\"entries\":" ∷ decimal entries ∷ codes ",\"kg\":" ∷ integer_text amount.kg ∷ codes ",\"litres\":" ∷
+    integer_text amount.litres ∷ codes "}" ∷ [])
 
 -- the body of a ticket
 abbrev pub TicketInBytes : Type 0
@@ -78,4 +87,5 @@ TicketInBytes = (ticket : tickets.Ticket) → body_text (pages.Reply (Ticket tic
 
 -- the body of a status
 abbrev pub StatusInBytes : Type 0
-StatusInBytes = (status : ℕ) (allow : Option Allow) → body_text (pages.Status status allow) ≡ concat (codes "{\"error\":" ∷ decimal status ∷ codes "}" ∷ [])
+StatusInBytes = (status : ℕ) (allow : Option Allow) → body_text (pages.Status status allow) ≡ concat (codes "{\"error\":" ∷
+    decimal status ∷ codes "}" ∷ [])
