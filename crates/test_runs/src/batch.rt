@@ -3,6 +3,8 @@
 use crate::running::{batch_answer, check_answer, check_batch, source_of};
 use farm_batch::BatchEnd;
 use farm_history::{Gauged, Named, Query};
+use farm_ports::Script;
+use std::alloc::Global;
 use std::test::Fail;
 use test_checks::{Checks, shared};
 
@@ -101,19 +103,29 @@ fn each_line_of_a_batch_has_its_answer(rt: HostRuntime) -> Result<(), Fail> {
     Ok(checks.end()?)
 }
 
+// An empty line, a Stop, and a line after it, which is left.
+const AROUND_A_STOP: &[&[u8]] = &[b"\n", b"{\"do\":\"stop\",\"account\":1,\"key\":3}\n", b"\n"];
+
+const UP_TO_THE_STOP: &str = "{\"error\":400}\n{\"place\":1}\n";
+
+// What a batch answers to a source that goes on after a Stop, and what it leaves of it.
+fn check_stop<R: Print>(
+    checks: &mut Checks<'_, R>,
+    alloc: Global,
+    source: &mut Script,
+) -> Result<(), Fail> {
+    let answer = batch_answer(alloc, source)?;
+    check_answer(checks, "a batch", answer, 0, UP_TO_THE_STOP);
+    checks.same_at("what is left", source.left(), b"\n".as_slice());
+    Ok(())
+}
+
 #[test]
 fn nothing_is_taken_after_a_stop(rt: HostRuntime) -> Result<(), Fail> {
     let mut checks = Checks::new(&rt);
-    let stop = "{\"do\":\"stop\",\"account\":1,\"key\":3}\n";
-    let mut source = source_of(
-        rt.alloc(),
-        &["\n".as_bytes(), stop.as_bytes(), "\n".as_bytes()],
-        Vec::new(rt.alloc()),
-    )?;
-    let answer = batch_answer(rt.alloc(), &mut source)?;
-    let text = "{\"error\":400}\n{\"place\":1}\n";
-    check_answer(&mut checks, "a batch", answer, 0, text);
-    checks.same(source.left(), b"\n".as_slice());
+    let mut source = source_of(rt.alloc(), AROUND_A_STOP, Vec::new(rt.alloc()))?;
+    check_stop(&mut checks, rt.alloc(), &mut source)?;
+    drop(source);
     Ok(checks.end()?)
 }
 

@@ -1,6 +1,7 @@
 //! `calc` on observed volumes and from levels.
 
 use crate::running::{calc_answer, check_answer};
+use std::alloc::{AllocError, Global};
 use std::test::Fail;
 use test_checks::Checks;
 
@@ -20,67 +21,103 @@ const FROM_LEVELS: &str =
 
 const FORM: &str = "input refused at line 1: form\n";
 
+// `calc` answers an input with this status and this text.
+fn check_calc<R: Print>(
+    checks: &mut Checks<'_, R>,
+    alloc: Global,
+    name: &str,
+    input: &str,
+    (status, text): (u8, &str),
+) -> Result<(), Fail> {
+    let answer = calc_answer(alloc, input)?;
+    check_answer(checks, name, answer, status, text);
+    Ok(())
+}
+
 #[test]
 fn calc_observed_volumes(rt: HostRuntime) -> Result<(), Fail> {
     let mut checks = Checks::new(&rt);
-    let answer = calc_answer(rt.alloc(), OBSERVED)?;
-    check_answer(&mut checks, OBSERVED, answer, 0, FIGURES);
+    check_calc(
+        &mut checks,
+        rt.alloc(),
+        "observed volumes",
+        OBSERVED,
+        (0, FIGURES),
+    )?;
     Ok(checks.end()?)
+}
+
+// The TOV and the mass of the roof, and what they are answered with.
+const ROOFS: &[(&str, &str, &str, (u8, &str))] = &[
+    ("a roof of 85,000 kg", "12345000", "85000", (0, UNDER_ROOF)),
+    (
+        "more water than the whole",
+        "40000",
+        "0",
+        (4, "input refused at line 1: WaterAboveLevel\n"),
+    ),
+    (
+        "a roof on water alone",
+        "45000",
+        "85000",
+        (4, "input refused at line 1: Negative\n"),
+    ),
+    ("water alone", "45000", "0", (0, WATER_ALONE)),
+];
+
+// The input of a TOV and the mass of a roof.
+fn volumes_line(alloc: Global, tov: &str, roof: &str) -> Result<String, AllocError> {
+    format!(in alloc; "volumes {tov} 45000 bare 25.00 33.00 15.00 112 {roof} 850.0 0.99150 0.250\n")
 }
 
 #[test]
 fn calc_roof_and_refusals(rt: HostRuntime) -> Result<(), Fail> {
     let mut checks = Checks::new(&rt);
-    let cases = [
-        ("12345000", "85000", 0, UNDER_ROOF),
-        (
-            "40000",
-            "0",
-            4,
-            "input refused at line 1: WaterAboveLevel\n",
-        ),
-        ("45000", "85000", 4, "input refused at line 1: Negative\n"),
-        ("45000", "0", 0, WATER_ALONE),
-    ];
-    for (tov, roof, want, text) in cases {
-        let input = format!(in rt.alloc();
-            "volumes {tov} 45000 bare 25.00 33.00 15.00 112 {roof} 850.0 0.99150 0.250\n"
-        )?;
-        let answer = calc_answer(rt.alloc(), input.as_str())?;
-        check_answer(&mut checks, input.as_str(), answer, want, text);
+    for (name, tov, roof, want) in ROOFS {
+        let input = volumes_line(rt.alloc(), tov, roof)?;
+        check_calc(&mut checks, rt.alloc(), name, input.as_str(), *want)?;
     }
-    let answer = calc_answer(rt.alloc(), "")?;
-    check_answer(&mut checks, "no input", answer, 4, FORM);
+    check_calc(&mut checks, rt.alloc(), "no input", "", (4, FORM))?;
     Ok(checks.end()?)
+}
+
+// The volume of the table's second row, the level, the temperature of the liquid, and what they are answered with.
+const TABLES: &[(&str, [&str; 3], (u8, &str))] = &[
+    (
+        "a level in the table",
+        ["3000", "13", "15.00"],
+        (0, FROM_LEVELS),
+    ),
+    (
+        "a level above the table",
+        ["3000", "21", "15.00"],
+        (4, "input refused at line 7: AboveTable\n"),
+    ),
+    (
+        "a row that falls",
+        ["999", "13", "15.00"],
+        (4, "input refused at line 4: form\n"),
+    ),
+    (
+        "a temperature without a factor",
+        ["3000", "13", "15.01"],
+        (4, "input refused at line 7: NoEntry\n"),
+    ),
+];
+
+// The input of a table's second row, a level and a temperature of the liquid.
+fn table_lines(alloc: Global, [row, level, liquid]: [&str; 3]) -> Result<String, AllocError> {
+    format!(in alloc;
+        "table 3\n0\n1000\n{row}\nfactors 1\n850.0,15.00,1.00000\nlevels {level} 0 insulated {liquid} 15.00 15.00 0 0 0 0 850.0 0.000\n"
+    )
 }
 
 #[test]
 fn calc_from_table(rt: HostRuntime) -> Result<(), Fail> {
     let mut checks = Checks::new(&rt);
-    let cases = [
-        ("3000", "13", "15.00", 0, FROM_LEVELS),
-        (
-            "3000",
-            "21",
-            "15.00",
-            4,
-            "input refused at line 7: AboveTable\n",
-        ),
-        ("999", "13", "15.00", 4, "input refused at line 4: form\n"),
-        (
-            "3000",
-            "13",
-            "15.01",
-            4,
-            "input refused at line 7: NoEntry\n",
-        ),
-    ];
-    for (row, level, liquid, want, text) in cases {
-        let input = format!(in rt.alloc();
-            "table 3\n0\n1000\n{row}\nfactors 1\n850.0,15.00,1.00000\nlevels {level} 0 insulated {liquid} 15.00 15.00 0 0 0 0 850.0 0.000\n"
-        )?;
-        let answer = calc_answer(rt.alloc(), input.as_str())?;
-        check_answer(&mut checks, input.as_str(), answer, want, text);
+    for (name, words, want) in TABLES {
+        let input = table_lines(rt.alloc(), *words)?;
+        check_calc(&mut checks, rt.alloc(), name, input.as_str(), *want)?;
     }
     Ok(checks.end()?)
 }

@@ -31,33 +31,62 @@ fn is_bad(alloc: Global, bytes: &[u8]) -> bool {
     Site::from_bytes(alloc, bytes).err() == Some(SiteBytesFault::BadSite)
 }
 
+// Where bytes of the row site stand.
+const PARTS: &[(&str, usize, &[u8])] = &[
+    ("the format and the name", 0, b"\x01\x07Rowsite"),
+    ("the first tank", FIRST, &[0, 101, 0, 1]),
+    ("the second tank", SECOND, &[0, 102, 0, 1]),
+];
+
+// As many bytes from an offset on.
+fn part(bytes: &[u8], offset: usize, len: usize) -> Option<&[u8]> {
+    bytes.get(offset..)?.get(..len)
+}
+
+// Each part of the bytes of the row site is as its row says.
+fn check_parts<R: Print>(checks: &mut Checks<'_, R>, bytes: &[u8]) {
+    for (name, offset, want) in PARTS {
+        checks.same_at(name, part(bytes, *offset, want.len()), Some(*want));
+    }
+}
+
+// The bytes of a site are those that it was read from.
+fn check_again<R: Print>(
+    checks: &mut Checks<'_, R>,
+    alloc: Global,
+    bytes: &[u8],
+) -> Result<(), Fail> {
+    let again = bytes_of(alloc, Site::from_bytes(alloc, bytes)?)?;
+    checks.same_at("read and written again", again.as_slice(), bytes);
+    Ok(())
+}
+
 #[test]
 fn the_row_site_is_read_from_its_bytes_and_written_again(rt: HostRuntime) -> Result<(), Fail> {
     let mut checks = Checks::new(&rt);
-    let alloc = rt.alloc();
-    let bytes = row_bytes(alloc)?;
-    checks.same(bytes.len(), LEN);
-    let name = b"\x01\x07Rowsite".as_slice();
-    checks.same(bytes.get(..9), Some(name));
-    let first = [0, 101, 0, 1].as_slice();
-    checks.same(bytes.get(FIRST..FIRST + 4), Some(first));
-    let second = [0, 102, 0, 1].as_slice();
-    checks.same(bytes.get(SECOND..SECOND + 4), Some(second));
-    let again = bytes_of(alloc, Site::from_bytes(alloc, &bytes)?)?;
-    checks.same(again, bytes);
+    let bytes = row_bytes(rt.alloc())?;
+    checks.same_at("how many bytes", bytes.len(), LEN);
+    check_parts(&mut checks, &bytes);
+    check_again(&mut checks, rt.alloc(), &bytes)?;
+    drop(bytes);
     Ok(checks.end()?)
+}
+
+// Each prefix of bytes is no site's.
+fn check_prefixes<R: Print>(checks: &mut Checks<'_, R>, alloc: Global, bytes: &[u8]) {
+    for len in 0..bytes.len() {
+        checks.same_at(len, is_bad(alloc, &bytes[..len]), true);
+    }
 }
 
 #[test]
 fn bytes_of_the_row_site_are_neither_missing_nor_too_many(rt: HostRuntime) -> Result<(), Fail> {
     let mut checks = Checks::new(&rt);
-    let alloc = rt.alloc();
-    let mut bytes = row_bytes(alloc)?;
-    for len in 0..bytes.len() {
-        checks.same_at(len, is_bad(alloc, &bytes[..len]), true);
-    }
+    let mut bytes = row_bytes(rt.alloc())?;
+    check_prefixes(&mut checks, rt.alloc(), &bytes);
     bytes.push(0)?;
-    checks.same_at("one byte too many", is_bad(alloc, &bytes), true);
+    checks.same_at("one byte too many", is_bad(rt.alloc(), &bytes), true);
+    drop(bytes);
     Ok(checks.end()?)
 }
 
@@ -68,17 +97,37 @@ fn put(bytes: &mut [u8], offset: usize, byte: u8) {
     }
 }
 
+// Puts bytes at their offsets.
+fn put_all(bytes: &mut [u8], puts: &[(usize, u8)]) {
+    for (offset, byte) in puts {
+        put(bytes, *offset, *byte);
+    }
+}
+
+// Bytes put one after another, and whether the whole is no site's then.
+const EDITS: &[(&str, &[(usize, u8)], bool)] = &[
+    ("format 2", &[(0, 2)], true),
+    ("format 1", &[(0, 1)], false),
+    (
+        "tank 102 before tank 101",
+        &[(FIRST + 1, 102), (SECOND + 1, 101)],
+        true,
+    ),
+];
+
+// After each edit of the bytes of the row site the whole is as its row says.
+fn check_edits<R: Print>(checks: &mut Checks<'_, R>, alloc: Global, bytes: &mut [u8]) {
+    for (name, puts, want) in EDITS {
+        put_all(bytes, puts);
+        checks.same_at(name, is_bad(alloc, bytes), *want);
+    }
+}
+
 #[test]
 fn another_format_and_tanks_in_falling_order_are_no_site(rt: HostRuntime) -> Result<(), Fail> {
     let mut checks = Checks::new(&rt);
-    let alloc = rt.alloc();
-    let mut bytes = row_bytes(alloc)?;
-    put(&mut bytes, 0, 2);
-    checks.same_at("format 2", is_bad(alloc, &bytes), true);
-    put(&mut bytes, 0, 1);
-    checks.same_at("format 1", is_bad(alloc, &bytes), false);
-    put(&mut bytes, FIRST + 1, 102);
-    put(&mut bytes, SECOND + 1, 101);
-    checks.same_at("tank 102 before tank 101", is_bad(alloc, &bytes), true);
+    let mut bytes = row_bytes(rt.alloc())?;
+    check_edits(&mut checks, rt.alloc(), &mut bytes);
+    drop(bytes);
     Ok(checks.end()?)
 }

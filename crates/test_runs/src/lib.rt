@@ -15,6 +15,10 @@ mod calc;
 #[cfg(test)]
 mod day;
 #[cfg(test)]
+mod desks;
+#[cfg(test)]
+mod doubt;
+#[cfg(test)]
 mod encoding;
 #[cfg(test)]
 mod limit;
@@ -22,6 +26,8 @@ mod limit;
 mod lines;
 #[cfg(test)]
 mod running;
+#[cfg(test)]
+mod sharing;
 #[cfg(test)]
 mod stocks;
 #[cfg(test)]

@@ -8,94 +8,140 @@ use std::alloc::Global;
 use std::test::Fail;
 use test_checks::{Checks, shared};
 
-// The index of the first read of a source of these pieces that finds another cut, or another line where it finds one.
-fn first_other(
+// A call of a reader, and what it finds.
+#[derive(Clone, Copy)]
+enum Call<'a> {
+    // How the next line is cut, and the line, unless it is too long.
+    Read(Cut, Option<&'a [u8]>),
+    // Whether there is more.
+    More(Result<bool, Failed>),
+}
+
+// How the next line is cut, and the line that the reader has then.
+fn next_line<'r>(reader: &'r mut LineReader, input: &mut Script) -> (Cut, Option<&'r [u8]>) {
+    let cut = reader.read(input);
+    match cut {
+        Cut::Line | Cut::Last => (cut, reader.line()),
+        _ => (cut, None),
+    }
+}
+
+// One call of a reader finds what its row says.
+fn check_call<R: Print>(
+    checks: &mut Checks<'_, R>,
+    reader: &mut LineReader,
+    input: &mut Script,
+    (name, call): (&str, Call<'_>),
+) {
+    match call {
+        Call::Read(cut, line) => checks.same_at(name, next_line(reader, input), (cut, line)),
+        Call::More(want) => checks.same_at(name, reader.has_more(input), want),
+    }
+}
+
+// Calls of a reader find what their rows say.
+fn check_calls<R: Print>(
+    checks: &mut Checks<'_, R>,
+    reader: &mut LineReader,
+    input: &mut Script,
+    calls: &[(&str, Call<'_>)],
+) {
+    for call in calls {
+        check_call(checks, reader, input, *call);
+    }
+}
+
+// Calls of a reader of a source of these pieces, whose takes of these numbers fail.
+fn check_lines<R: Print>(
+    checks: &mut Checks<'_, R>,
     alloc: Global,
     pieces: &[&[u8]],
-    fails: Vec<u64>,
-    wants: &[(Cut, Option<&[u8]>)],
-) -> Result<Option<usize>, NoMemory> {
+    fails: &[u64],
+    calls: &[(&str, Call<'_>)],
+) -> Result<(), NoMemory> {
+    let fails = fails.to_vec(alloc)?;
     let mut input = source_of(alloc, pieces, fails)?;
     let mut reader = shared(LineReader::new(alloc)?);
-    for (index, (cut, line)) in wants.iter().enumerate() {
-        let found = reader.read(&mut input);
-        let keeps = matches!(found, Cut::Line | Cut::Last);
-        if found != *cut || keeps && reader.line() != *line {
-            return Ok(Some(index));
-        }
-    }
-    Ok(None)
+    check_calls(checks, &mut reader, &mut input, calls);
+    Ok(())
 }
+
+const ACROSS_PIECES: &[(&str, Call<'static>)] = &[
+    ("a line in two pieces", Call::Read(Cut::Line, Some(b"abc"))),
+    ("a line without a byte", Call::Read(Cut::Line, Some(b""))),
+    ("a line in the next two", Call::Read(Cut::Line, Some(b"de"))),
+    ("the last line", Call::Read(Cut::Last, Some(b"f"))),
+    ("the end", Call::Read(Cut::End, None)),
+];
 
 #[test]
 fn lines_go_on_across_pieces(rt: HostRuntime) -> Result<(), Fail> {
     let mut checks = Checks::new(&rt);
-    let alloc = rt.alloc();
     let pieces: [&[u8]; 3] = [b"ab", b"c\n\nd", b"e\nf"];
-    let wants = [
-        (Cut::Line, Some(b"abc".as_slice())),
-        (Cut::Line, Some(b"")),
-        (Cut::Line, Some(b"de")),
-        (Cut::Last, Some(b"f")),
-        (Cut::End, None),
-    ];
-    let other = first_other(alloc, &pieces, Vec::new(alloc), &wants)?;
-    checks.same(other, None);
+    check_lines(&mut checks, rt.alloc(), &pieces, &[], ACROSS_PIECES)?;
     Ok(checks.end()?)
 }
+
+const ONE_LINE: &[(&str, Call<'static>)] = &[
+    ("the line", Call::Read(Cut::Line, Some(b"a"))),
+    ("the end", Call::Read(Cut::End, None)),
+];
 
 #[test]
 fn no_line_is_after_the_last_line_feed(rt: HostRuntime) -> Result<(), Fail> {
     let mut checks = Checks::new(&rt);
-    let alloc = rt.alloc();
-    let wants = [(Cut::Line, Some(b"a".as_slice())), (Cut::End, None)];
-    let other = first_other(alloc, &[b"a\n"], Vec::new(alloc), &wants)?;
-    checks.same(other, None);
+    check_lines(&mut checks, rt.alloc(), &[b"a\n"], &[], ONE_LINE)?;
     Ok(checks.end()?)
+}
+
+// Reads of a longest line, one of a byte more, and a short one.
+fn check_longest<R: Print>(
+    checks: &mut Checks<'_, R>,
+    alloc: Global,
+    longest: &[u8],
+) -> Result<(), NoMemory> {
+    let calls = [
+        ("65,536 bytes", Call::Read(Cut::Line, Some(longest))),
+        ("65,537 bytes", Call::Read(Cut::Line, None)),
+        ("the next line", Call::Read(Cut::Line, Some(b"y"))),
+    ];
+    let pieces = [longest, b"\n", longest, b"x\ny\n"];
+    check_lines(checks, alloc, &pieces, &[], &calls)
 }
 
 #[test]
 fn a_line_of_65_537_bytes_is_passed_over(rt: HostRuntime) -> Result<(), Fail> {
     let mut checks = Checks::new(&rt);
-    let alloc = rt.alloc();
-    let longest = vec![in alloc; b'x'; 65_536]?;
-    let pieces: [&[u8]; 4] = [&longest, b"\n", &longest, b"x\ny\n"];
-    let wants = [
-        (Cut::Line, Some(longest.as_slice())),
-        (Cut::Line, None),
-        (Cut::Line, Some(b"y")),
-    ];
-    let other = first_other(alloc, &pieces, Vec::new(alloc), &wants)?;
-    checks.same(other, None);
+    let longest = vec![in rt.alloc(); b'x'; 65_536]?;
+    check_longest(&mut checks, rt.alloc(), &longest)?;
+    drop(longest);
     Ok(checks.end()?)
 }
+
+const BEFORE_A_FAULT: &[(&str, Call<'static>)] = &[
+    ("the line", Call::Read(Cut::Line, Some(b"a"))),
+    ("a take that fails", Call::Read(Cut::Failed, None)),
+];
 
 #[test]
 fn no_take_runs_ahead_of_a_line(rt: HostRuntime) -> Result<(), Fail> {
     let mut checks = Checks::new(&rt);
-    let alloc = rt.alloc();
-    let wants = [(Cut::Line, Some(b"a".as_slice())), (Cut::Failed, None)];
-    let other = first_other(alloc, &[b"a\n", b"b"], vec![in alloc; 2]?, &wants)?;
-    checks.same(other, None);
+    let pieces: [&[u8]; 2] = [b"a\n", b"b"];
+    check_lines(&mut checks, rt.alloc(), &pieces, &[2], BEFORE_A_FAULT)?;
     Ok(checks.end()?)
 }
 
-// A look that fails, two that find the byte, the line of that byte, and a look at the end.
-fn check_looks<R: Print>(checks: &mut Checks<'_, R>, input: &mut Script, reader: &mut LineReader) {
-    for want in [Err(Failed), Ok(true), Ok(true)] {
-        checks.same(reader.has_more(input), want);
-    }
-    checks.same(reader.read(input), Cut::Last);
-    checks.same(reader.line(), Some(b"a".as_slice()));
-    checks.same(reader.has_more(input), Ok(false));
-}
+const LOOKS: &[(&str, Call<'static>)] = &[
+    ("a look that fails", Call::More(Err(Failed))),
+    ("a look that finds the byte", Call::More(Ok(true))),
+    ("another one", Call::More(Ok(true))),
+    ("the line of that byte", Call::Read(Cut::Last, Some(b"a"))),
+    ("a look at the end", Call::More(Ok(false))),
+];
 
 #[test]
 fn a_look_keeps_the_byte_that_it_finds(rt: HostRuntime) -> Result<(), Fail> {
     let mut checks = Checks::new(&rt);
-    let alloc = rt.alloc();
-    let mut input = source_of(alloc, &[b"a"], vec![in alloc; 1]?)?;
-    let mut reader = LineReader::new(alloc)?;
-    check_looks(&mut checks, &mut input, &mut reader);
+    check_lines(&mut checks, rt.alloc(), &[b"a"], &[1], LOOKS)?;
     Ok(checks.end()?)
 }

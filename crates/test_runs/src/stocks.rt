@@ -26,21 +26,42 @@ fn posting(tank: u16, kind: Kind, party: u16, amount: Amount) -> Posting
     }
 }
 
+const NOTHING: Amount = Amount { litres: 0, kg: 0 };
+
 // The books of the day's end.
+const BOOKS: &[(u16, Option<Amount>)] = &[
+    (
+        101,
+        Some(Amount {
+            litres: 8_427_621,
+            kg: 7_163_478,
+        }),
+    ),
+    (
+        102,
+        Some(Amount {
+            litres: 4_000_000,
+            kg: 3_400_000,
+        }),
+    ),
+    (103, Some(NOTHING)),
+    (104, Some(NOTHING)),
+    (105, Some(NOTHING)),
+    (106, Some(NOTHING)),
+    (107, None),
+];
+
+// What the tanks hold together.
+const TOTAL: Amount = Amount {
+    litres: 12_427_621,
+    kg: 10_563_478,
+};
+
+// Each tank has its book.
 fn check_books<R: Print>(checks: &mut Checks<'_, R>, stock: &Stock) {
-    let books = [
-        (101, amount(8_427_621, 7_163_478)),
-        (102, amount(4_000_000, 3_400_000)),
-        (103, amount(0, 0)),
-        (104, amount(0, 0)),
-        (105, amount(0, 0)),
-        (106, amount(0, 0)),
-    ];
-    for (tank, book) in books {
-        checks.same_at(tank, stock.book(tank), Some(book));
+    for (tank, book) in BOOKS {
+        checks.same_at(tank, stock.book(*tank), *book);
     }
-    checks.same(stock.book(107), None);
-    checks.same(stock.total(), amount(12_427_621, 10_563_478));
 }
 
 #[test]
@@ -62,6 +83,7 @@ fn the_postings_of_the_day_make_its_books(rt: HostRuntime) -> Result<(), Fail> {
     stock.post(&posting(102, Kind::Delivery, 8, amount(-1_495_000, -1_270_750)));
     stock.post(&posting(101, Kind::Gain, 0, amount(-1_983, -1_685)));
     check_books(&mut checks, &stock);
+    checks.same_at("the total", stock.total(), TOTAL);
     drop(stock);
     Ok(checks.end()?)
 }

@@ -15,7 +15,7 @@ fn table_answer(alloc: Global, folder: Files) -> Result<Answer, Fail> {
 }
 
 // The folder of the row site, with a text in one of its files replaced where it stands first.
-fn edited(alloc: Global, name: &str, old: &str, new: &str) -> Result<Files, Fail> {
+fn edited(alloc: Global, [name, old, new]: [&str; 3]) -> Result<Files, Fail> {
     let mut files = sample_site::row_files(alloc)?;
     for (own, bytes) in &mut files {
         if own.as_str() == name {
@@ -49,59 +49,66 @@ fn issued(alloc: Global) -> Result<String, AllocError> {
     Ok(tables)
 }
 
+// `table` on the row site puts these tables.
+fn check_tables<R: Print>(
+    checks: &mut Checks<'_, R>,
+    alloc: Global,
+    want: &str,
+) -> Result<(), Fail> {
+    let (status, bytes) = table_answer(alloc, sample_site::row_folder(alloc)?)?;
+    checks.same_at("the status", status, 0);
+    checks.same_at("the tables", bytes.as_slice() == want.as_bytes(), true);
+    Ok(())
+}
+
 #[test]
 fn each_tank_has_its_table_issued(rt: HostRuntime) -> Result<(), Fail> {
     let mut checks = Checks::new(&rt);
     let want = issued(rt.alloc())?;
-    let (status, bytes) = table_answer(rt.alloc(), sample_site::row_folder(rt.alloc())?)?;
-    checks.same(status, 0);
-    checks.same(bytes.as_slice() == want.as_bytes(), true);
+    check_tables(&mut checks, rt.alloc(), want.as_str())?;
+    drop(want);
     Ok(checks.end()?)
 }
+
+// A file of the row site, a text in it and the one that replaces it, and what `table` answers then.
+const EDITS: &[(&str, [&str; 3], (u8, &str))] = &[
+    (
+        "a product that is missing",
+        [
+            "site.toml",
+            "number = 102\nproduct = 1",
+            "number = 102\nproduct = 9",
+        ],
+        (2, "site refused: code 5 item 2 detail 0\n"),
+    ),
+    (
+        "a factor that is missing",
+        ["factors.csv", "860.0,25.00,0.99160\n", ""],
+        (2, "site refused: code 8 item 1 detail 9\n"),
+    ),
+    (
+        "a coefficient with a point",
+        ["site.toml", "coefficient = 112", "coefficient = 112.0"],
+        (2, "site refused: code 2 item 1 detail 0\n"),
+    ),
+    (
+        "another rounding",
+        ["site.toml", "name = \"Rowsite\"", ROUNDING],
+        (2, "site refused: code 3 item 0 detail 0\n"),
+    ),
+    (
+        "a file that is missing",
+        ["site.toml", "\"factors.csv\"", "\"no.csv\""],
+        (6, "port fault\n"),
+    ),
+];
 
 #[test]
 fn site_refusals(rt: HostRuntime) -> Result<(), Fail> {
     let mut checks = Checks::new(&rt);
-    let cases = [
-        (
-            "site.toml",
-            "number = 102\nproduct = 1",
-            "number = 102\nproduct = 9",
-            2,
-            "site refused: code 5 item 2 detail 0\n",
-        ),
-        (
-            "factors.csv",
-            "860.0,25.00,0.99160\n",
-            "",
-            2,
-            "site refused: code 8 item 1 detail 9\n",
-        ),
-        (
-            "site.toml",
-            "coefficient = 112",
-            "coefficient = 112.0",
-            2,
-            "site refused: code 2 item 1 detail 0\n",
-        ),
-        (
-            "site.toml",
-            "name = \"Rowsite\"",
-            ROUNDING,
-            2,
-            "site refused: code 3 item 0 detail 0\n",
-        ),
-        (
-            "site.toml",
-            "\"factors.csv\"",
-            "\"no.csv\"",
-            6,
-            "port fault\n",
-        ),
-    ];
-    for (name, old, new, want, text) in cases {
-        let answer = table_answer(rt.alloc(), edited(rt.alloc(), name, old, new)?)?;
-        check_answer(&mut checks, old, answer, want, text);
+    for (name, edit, (status, text)) in EDITS {
+        let answer = table_answer(rt.alloc(), edited(rt.alloc(), *edit)?)?;
+        check_answer(&mut checks, name, answer, *status, text);
     }
     Ok(checks.end()?)
 }

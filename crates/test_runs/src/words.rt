@@ -1,6 +1,6 @@
 //! The words after the program's name.
 
-use crate::running::{answer, check_answer, words_of};
+use crate::running::{Answer, answer, check_answer, words_of};
 use command_line::places;
 use farm_ports::Gather;
 use farm_run::report_no_memory;
@@ -24,35 +24,77 @@ fn places_of(alloc: Global, words: &[&str]) -> Result<(String, String), Fail> {
     Ok(places(alloc, &owned).ok_or("out of memory")?)
 }
 
+// Words, and the folder and the file that they name.
+const PLACES: &[(&str, &[&str], (&str, &str))] = &[
+    ("a folder", &["table", "--site", "d"], ("d", "")),
+    (
+        "a folder in one word",
+        &["table", "--site=d/e"],
+        ("d/e", ""),
+    ),
+    (
+        "a folder with a hyphen",
+        &["table", "--site", "-d"],
+        ("", ""),
+    ),
+    (
+        "an option of another command",
+        &["batch", "--site=d"],
+        ("", ""),
+    ),
+    ("a journal", &["batch", "--journal", "j"], ("", "j")),
+    (
+        "a folder and a journal",
+        &["init", "--journal=j", "--site", "d"],
+        ("d", "j"),
+    ),
+    ("a missing journal", &["init", "--site", "d"], ("", "")),
+    ("no option", &["calc"], ("", "")),
+];
+
+// Words name these places.
+fn check_places<R: Print>(
+    checks: &mut Checks<'_, R>,
+    alloc: Global,
+    name: &str,
+    words: &[&str],
+    want: (&str, &str),
+) -> Result<(), Fail> {
+    let (site, journal) = places_of(alloc, words)?;
+    checks.same_at(name, (site.as_str(), journal.as_str()), want);
+    Ok(())
+}
+
 #[test]
 fn places_of_words(rt: HostRuntime) -> Result<(), Fail> {
     let mut checks = Checks::new(&rt);
-    let cases: [(&[&str], &str, &str); 8] = [
-        (&["table", "--site", "d"], "d", ""),
-        (&["table", "--site=d/e"], "d/e", ""),
-        (&["table", "--site", "-d"], "", ""),
-        (&["batch", "--site=d"], "", ""),
-        (&["batch", "--journal", "j"], "", "j"),
-        (&["init", "--journal=j", "--site", "d"], "d", "j"),
-        (&["init", "--site", "d"], "", ""),
-        (&["calc"], "", ""),
-    ];
-    for (words, site, journal) in cases {
-        let places = places_of(rt.alloc(), words)?;
-        checks.same((words, places.0.as_str()), (words, site));
-        checks.same((words, places.1.as_str()), (words, journal));
+    for (name, words, want) in PLACES {
+        check_places(&mut checks, rt.alloc(), name, words, *want)?;
     }
     Ok(checks.end()?)
+}
+
+// The put that fails, and what is reported.
+const REPORTS: &[(&str, u64, (u8, &str))] = &[
+    ("no put fails", 0, (7, "no memory\n")),
+    ("the first put fails", 1, (6, "port fault\n")),
+];
+
+// The report of missing memory, where the put of this number fails.
+fn report_of(alloc: Global, failing: u64) -> Result<Answer, Fail> {
+    let fails = Vec::from_slice(alloc, &[failing])?;
+    let mut sink = Gather::new(alloc, fails)?;
+    let status = report_no_memory(&mut sink);
+    let bytes = Vec::from_slice(alloc, sink.bytes())?;
+    Ok((status, bytes))
 }
 
 #[test]
 fn out_of_memory_is_reported(rt: HostRuntime) -> Result<(), Fail> {
     let mut checks = Checks::new(&rt);
-    for (failing, want, text) in [(0, 7, "no memory\n"), (1, 6, "port fault\n")] {
-        let fails = Vec::from_slice(rt.alloc(), &[failing])?;
-        let mut sink = Gather::new(rt.alloc(), fails)?;
-        checks.same(report_no_memory(&mut sink), want);
-        checks.same(sink.bytes(), text.as_bytes());
+    for (name, failing, (status, text)) in REPORTS {
+        let report = report_of(rt.alloc(), *failing)?;
+        check_answer(&mut checks, name, report, *status, text);
     }
     Ok(checks.end()?)
 }
