@@ -3,3 +3,4 @@ pub mod ShortLists
 pub mod Lines
 pub mod NoFloats
 pub mod Sorted
+pub mod Bodies

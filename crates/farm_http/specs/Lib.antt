@@ -5,3 +5,4 @@ pub mod Objects
 pub mod Requests
 pub mod Tickets
 pub mod PageTexts
+pub mod Bodies

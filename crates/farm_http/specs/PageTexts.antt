@@ -1,5 +1,5 @@
 -- The bodies of answers: JSON without blanks, its members in sorted order.
-use Rattle.std.specs.Prelude.{◌≡◌, ◌⊎◌, ◌↔◌, ◌++◌, ℕ, List, codes, decimal, IsSome}
+use Rattle.std.specs.Prelude.{◌≡◌, ◌⊎◌, ◌↔◌, ℕ, List, codes, IsSome}
 use Rattle.serde_json.specs.Data.{Members, member, no_members, object, put}
 use Rattle.serde_json.specs.Written.{compact_text}
 use Rattle.farm_fixed.specs.declared.records.Amount.{Amount}
@@ -59,7 +59,3 @@ IsErrorStatus status =
 abbrev pub IsAnswer : Page → Type 0
 IsAnswer (pages.Reply reply) = Unit {0}
 IsAnswer (pages.Status status allow) = IsErrorStatus status × (IsSome allow ↔ (status ≡ 405))
-
--- the body of a place, byte by byte
-abbrev pub PlaceInBytes : Type 0
-PlaceInBytes = (place : ℕ) → body_text (pages.Reply (Placed place)) ≡ codes "{\"place\":" ++ decimal place ++ codes "}"

@@ -5,7 +5,8 @@ ghost use Rattle.serde_json.specs.Data.{no_members, object};
 ghost use Rattle.serde_json.specs.View.{members_view, view};
 ghost use Rattle.serde_json.specs.Written.{has_float};
 ghost use Rattle.farm_base.specs.Appended.{Appends};
-ghost use Rattle.farm_http.specs.PageTexts.{IsAnswer, PlaceInBytes, amount_members, body_text, members_of, with_amount, with_page, with_reply};
+ghost use Rattle.farm_http.specs.PageTexts.{IsAnswer, amount_members, body_text, members_of, with_amount, with_page, with_reply};
+ghost use Rattle.farm_http.specs.Bodies.{GainInBytes, PlaceInBytes, RefusalInBytes, StatusInBytes, StockInBytes, TicketInBytes, TotalInBytes};
 
 use crate::Page;
 use crate::objects::put_number;
@@ -109,4 +110,10 @@ fn put_amount(
 /// Does nothing: its contract says what bodies are, byte by byte.
 pub fn laws()
     ensures place { PlaceInBytes }
+    ensures ticket { TicketInBytes }
+    ensures gain { GainInBytes }
+    ensures stock { StockInBytes }
+    ensures total { TotalInBytes }
+    ensures refusal { RefusalInBytes }
+    ensures status { StatusInBytes }
 {}

@@ -1,51 +1,71 @@
 //! The volume at a level between the rows of a capacity table, and rows that make no table.
 
-use farm_fixed::{Centi, Kg, Mm, Shell};
+use farm_fixed::{Centi, Kg, Mm, OutOfRange, Shell};
 use farm_rounding::Mode;
 use std::alloc::{AllocError, Global};
+use std::fmt::Debug;
 use std::test::Fail;
 use strap_table::{AboveTable, CapTable, Roof, TableFault, TankSpec};
 use test_checks::{Checks, shared};
+
+// The table of these rows.
+fn table_of(alloc: Global, rows: &[i64]) -> Result<CapTable, Fail> {
+    Ok(CapTable::from_rows(rows.to_vec(alloc)?)?)
+}
 
 // The volume at a number of mm, to the litre.
 fn litres_at(
     table: &CapTable,
     millimetres: i64,
     mode: Mode,
-) -> Result<Result<i64, AboveTable>, Fail> {
+) -> Result<Result<i64, AboveTable>, OutOfRange> {
     let level = Mm::new(millimetres)?;
     Ok(table.at(level, 1, mode).map(|volume| volume.get()))
 }
 
+// Levels in mm, and the litres at each.
+type Volumes = &'static [(&'static str, i64, Mode, Result<i64, AboveTable>)];
+
+// The volumes of a table are those of these rows.
+fn check_volumes<R: Print>(checks: &mut Checks<'_, R>, table: &CapTable, volumes: Volumes) {
+    for (name, millimetres, mode, want) in volumes {
+        let litres = litres_at(table, *millimetres, *mode);
+        checks.same_at(name, litres, Ok(shared(*want)));
+    }
+}
+
+const THREE_ROWS: &[i64] = &[0, 1_000, 3_000];
+
+const OF_THREE_ROWS: Volumes = &[
+    ("the first row", 0, Mode::HalfAway, Ok(0)),
+    ("half of the first step", 5, Mode::HalfAway, Ok(500)),
+    ("the second row", 10, Mode::HalfAway, Ok(1_000)),
+    ("a part of the second step", 13, Mode::HalfAway, Ok(1_600)),
+    ("the last row", 20, Mode::HalfAway, Ok(3_000)),
+    ("above the last row", 21, Mode::HalfAway, Err(AboveTable)),
+];
+
 #[test]
 fn a_volume_is_interpolated_between_two_rows(rt: HostRuntime) -> Result<(), Fail> {
     let mut checks = Checks::new(&rt);
-    let table = shared(CapTable::from_rows(vec![in rt.alloc(); 0, 1_000, 3_000]?)?);
-    let cases = [
-        (0, Ok(0)),
-        (5, Ok(500)),
-        (10, Ok(1_000)),
-        (13, Ok(1_600)),
-        (20, Ok(3_000)),
-        (21, Err(shared(AboveTable))),
-    ];
-    for (millimetres, want) in cases {
-        checks.same_at(
-            millimetres,
-            litres_at(&table, millimetres, Mode::HalfAway)?,
-            want,
-        );
-    }
-    checks.same(table.rows(), [0, 1_000, 3_000].as_slice());
+    let table = shared(table_of(rt.alloc(), THREE_ROWS)?);
+    check_volumes(&mut checks, &table, OF_THREE_ROWS);
+    checks.same_at("the rows", table.rows(), THREE_ROWS);
+    drop(table);
     Ok(checks.end()?)
 }
+
+const HALF_A_LITRE: Volumes = &[
+    ("a half away from zero", 5, Mode::HalfAway, Ok(501)),
+    ("a half toward zero", 5, Mode::TowardZero, Ok(500)),
+];
 
 #[test]
 fn a_half_litre_goes_by_the_mode(rt: HostRuntime) -> Result<(), Fail> {
     let mut checks = Checks::new(&rt);
-    let table = CapTable::from_rows(vec![in rt.alloc(); 0, 1_001]?)?;
-    checks.same(litres_at(&table, 5, Mode::HalfAway)?, Ok(501));
-    checks.same(litres_at(&table, 5, Mode::TowardZero)?, Ok(500));
+    let table = table_of(rt.alloc(), &[0, 1_001])?;
+    check_volumes(&mut checks, &table, HALF_A_LITRE);
+    drop(table);
     Ok(checks.end()?)
 }
 
@@ -73,15 +93,18 @@ fn rows_are_refused_at_their_first_fault(rt: HostRuntime) -> Result<(), Fail> {
     Ok(checks.end()?)
 }
 
-#[test]
-fn tanks_and_roofs_may_go_to_another_thread(rt: HostRuntime) -> Result<(), Fail> {
-    let mut checks = Checks::new(&rt);
-    let roof = Roof {
+// A roof of 85,000 kg with its zone from 1,500 to 1,800 mm.
+fn roof() -> Result<Roof, OutOfRange> {
+    Ok(Roof {
         mass: Kg::new(85_000)?,
         low: Mm::new(1_500)?,
         high: Mm::new(1_800)?,
-    };
-    let tank = TankSpec {
+    })
+}
+
+// A bare shell under this roof.
+fn tank_under(roof: Roof) -> Result<TankSpec, OutOfRange> {
+    Ok(TankSpec {
         shell: Shell {
             insulated: false,
             coefficient: 112,
@@ -89,8 +112,23 @@ fn tanks_and_roofs_may_go_to_another_thread(rt: HostRuntime) -> Result<(), Fail>
         },
         height: Mm::new(15_000)?,
         roof: Some(roof),
-    };
-    checks.same(shared(roof), roof);
-    checks.same(shared(tank), tank);
+    })
+}
+
+// A value may go to another thread.
+fn check_shared<T: Send + Sync + Copy + PartialEq + Debug + Drop, R: Print>(
+    checks: &mut Checks<'_, R>,
+    name: &str,
+    value: T,
+) {
+    checks.same_at(name, shared(value), value);
+}
+
+#[test]
+fn tanks_and_roofs_may_go_to_another_thread(rt: HostRuntime) -> Result<(), Fail> {
+    let mut checks = Checks::new(&rt);
+    let roof = roof()?;
+    check_shared(&mut checks, "a roof", roof);
+    check_shared(&mut checks, "a tank", tank_under(roof)?);
     Ok(checks.end()?)
 }

@@ -3,6 +3,7 @@
 ghost use Rattle.std.specs.Prelude.{◌^◌, pos};
 ghost use Rattle.farm_fixed.specs.Range.{IsWithin};
 
+use crate::ten_figures::{Figure, Figures, check_figures};
 use farm_chain::figures;
 use farm_fixed::{
     Centi, ChainRule, Dens, Fac5, Kg, Litres, OutOfRange, Permil5, Quantities, Sample, Shell,
@@ -41,44 +42,38 @@ fn figures_of(tov: i64, fw: i64, roof: i64) -> Result<Result<Quantities, ChainRu
     ))
 }
 
-// The ten figures in their order, in units.
-fn in_order(q: Quantities) -> [i64; 10] {
-    [
-        q.tov.get(),
-        q.fw.get(),
-        q.ctsh.get(),
-        q.vcf.get(),
-        q.fra.get(),
-        q.gov.get(),
-        q.gsv.get(),
-        q.nsv.get(),
-        q.swv.get(),
-        q.mass.get(),
-    ]
-}
+const WITHOUT_A_ROOF: Figures = &[
+    ("tov", Figure::Tov, 12_345_000),
+    ("fw", Figure::Fw, 45_000),
+    ("ctsh", Figure::Ctsh, 100_025),
+    ("vcf", Figure::Vcf, 99_150),
+    ("fra", Figure::Fra, 0),
+    ("gov", Figure::Gov, 12_303_075),
+    ("gsv", Figure::Gsv, 12_198_499),
+    ("nsv", Figure::Nsv, 12_168_003),
+    ("swv", Figure::Swv, 30_496),
+    ("mass", Figure::Mass, 10_342_803),
+];
+
+const UNDER_A_ROOF: Figures = &[
+    ("tov under a roof", Figure::Tov, 12_345_000),
+    ("fw under a roof", Figure::Fw, 45_000),
+    ("ctsh under a roof", Figure::Ctsh, 100_025),
+    ("vcf under a roof", Figure::Vcf, 99_150),
+    ("fra under a roof", Figure::Fra, -100_857),
+    ("gov under a roof", Figure::Gov, 12_202_218),
+    ("gsv under a roof", Figure::Gsv, 12_098_499),
+    ("nsv under a roof", Figure::Nsv, 12_068_253),
+    ("swv under a roof", Figure::Swv, 30_246),
+    ("mass under a roof", Figure::Mass, 10_258_015),
+];
 
 #[test]
 fn observed_volumes_with_and_without_a_roof(rt: HostRuntime) -> Result<(), Fail> {
     let mut checks = Checks::new(&rt);
-    let cases = [
-        (
-            0,
-            [
-                12_345_000, 45_000, 100_025, 99_150, 0, 12_303_075, 12_198_499, 12_168_003, 30_496,
-                10_342_803,
-            ],
-        ),
-        (
-            85_000,
-            [
-                12_345_000, 45_000, 100_025, 99_150, -100_857, 12_202_218, 12_098_499, 12_068_253,
-                30_246, 10_258_015,
-            ],
-        ),
-    ];
-    for (roof, want) in cases {
-        let figures = figures_of(12_345_000, 45_000, roof)?.map(in_order);
-        checks.same_at(roof, figures, Ok(want));
+    for (roof, wants) in [(0, WITHOUT_A_ROOF), (85_000, UNDER_A_ROOF)] {
+        let figures = figures_of(12_345_000, 45_000, roof)?;
+        check_figures(&mut checks, figures, wants);
     }
     Ok(checks.end()?)
 }

@@ -9,14 +9,24 @@ mod chain;
 #[cfg(test)]
 mod factors;
 #[cfg(test)]
+mod out_of_range;
+#[cfg(test)]
 mod quantities;
 #[cfg(test)]
 mod readings;
+#[cfg(test)]
+mod records;
 #[cfg(test)]
 mod roofs;
 #[cfg(test)]
 mod rounding;
 #[cfg(test)]
+mod strap_faults;
+#[cfg(test)]
 mod strapping;
+#[cfg(test)]
+mod ten_figures;
+#[cfg(test)]
+mod texts;
 #[cfg(test)]
 mod twelve_rows;

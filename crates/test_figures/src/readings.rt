@@ -3,9 +3,9 @@
 ghost use Rattle.std.specs.Prelude.{◌≡◌, IfSome, Ok, ◌+ℤ◌};
 ghost use Rattle.farm_readings.specs.Readings.{tape_reading};
 
-use farm_fixed::{Centi, Mm};
+use farm_fixed::{Centi, Mm, OutOfRange};
 use farm_readings::{BelowDatum, TapeFault, innage, mean_temp, tape};
-use farm_rounding::{Mode, RoundTable};
+use farm_rounding::{BadRow, Mode, RoundTable};
 use std::alloc::Global;
 use std::test::Fail;
 use test_checks::{Checks, shared};
@@ -77,19 +77,85 @@ fn two_tapes_of_an_outage_give_an_innage(rt: HostRuntime) -> Result<(), Fail> {
     Ok(checks.end()?)
 }
 
-// By hand: 2,503.33 is 2,505 to a step of 5 and 2,500 below it to 100, and 12,345.33 is 12,300 below it to 100.
-#[test]
-fn a_mean_is_rounded_by_its_row(rt: HostRuntime) -> Result<(), Fail> {
-    let mut checks = Checks::new(&rt);
-    let list = [Centi::new(2_500)?, Centi::new(2_500)?, Centi::new(2_510)?];
-    let usual = RoundTable::usual();
+// What has a mean: three temperatures in 0.01 C, or three tapes in mm.
+#[derive(Clone, Copy)]
+enum Three {
+    Temperatures([i64; 3]),
+    Tapes([i64; 3]),
+}
+
+// Means, each in its units.
+type Means = &'static [(&'static str, Three, i64)];
+
+// The mean of three temperatures.
+fn mean_of([first, second, third]: [i64; 3], rounding: &RoundTable) -> Result<i64, OutOfRange> {
+    let list = [Centi::new(first)?, Centi::new(second)?, Centi::new(third)?];
+    Ok(mean_temp(&list, rounding).get())
+}
+
+// The mean of three is that of its row.
+fn check_mean<R: Print>(
+    checks: &mut Checks<'_, R>,
+    alloc: Global,
+    rounding: &RoundTable,
+    (name, three, want): (&str, Three, i64),
+) -> Result<(), Fail> {
+    match three {
+        Three::Temperatures(units) => checks.same_at(name, mean_of(units, rounding), Ok(want)),
+        Three::Tapes(heights) => {
+            let reading = reading(alloc, &heights, rounding)?;
+            checks.same_at(name, reading.map(Mm::get), Ok(want));
+        }
+    }
+    Ok(())
+}
+
+// Means are those of their rows.
+fn check_means<R: Print>(
+    checks: &mut Checks<'_, R>,
+    alloc: Global,
+    rounding: &RoundTable,
+    means: Means,
+) -> Result<(), Fail> {
+    for mean in means {
+        check_mean(checks, alloc, rounding, *mean)?;
+    }
+    Ok(())
+}
+
+// Rows whose means are rounded toward zero to 100.
+fn coarse() -> Result<RoundTable, BadRow> {
     let mut rows = [(1, Mode::HalfAway); 12];
     rows[0] = (100, Mode::TowardZero);
     rows[1] = (100, Mode::TowardZero);
-    let coarse = RoundTable::new(rows)?;
-    checks.same(mean_temp(&list, &usual).get(), 2_505);
-    checks.same(mean_temp(&list, &coarse).get(), 2_500);
-    let reading = reading(rt.alloc(), &[12_344, 12_346, 12_346], &coarse)?;
-    checks.same(reading.map(Mm::get), Ok(12_300));
+    RoundTable::new(rows)
+}
+
+// By hand: 2,503.33 is 2,505 to a step of 5 and 2,500 below it to 100, and 12,345.33 is 12,300 below it to 100.
+const USUAL_MEANS: Means = &[(
+    "temperatures to a step of 5",
+    Three::Temperatures([2_500, 2_500, 2_510]),
+    2_505,
+)];
+
+const COARSE_MEANS: Means = &[
+    (
+        "temperatures below to 100",
+        Three::Temperatures([2_500, 2_500, 2_510]),
+        2_500,
+    ),
+    (
+        "tapes below to 100",
+        Three::Tapes([12_344, 12_346, 12_346]),
+        12_300,
+    ),
+];
+
+#[test]
+fn a_mean_is_rounded_by_its_row(rt: HostRuntime) -> Result<(), Fail> {
+    let mut checks = Checks::new(&rt);
+    let alloc = rt.alloc();
+    check_means(&mut checks, alloc, &RoundTable::usual(), USUAL_MEANS)?;
+    check_means(&mut checks, alloc, &coarse()?, COARSE_MEANS)?;
     Ok(checks.end()?)
 }

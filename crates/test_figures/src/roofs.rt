@@ -1,5 +1,6 @@
 //! The figures of a reading under a floating roof, and their refusals in order.
 
+use crate::ten_figures::{Figure, Figures, check_figures};
 use farm_chain::quantities;
 use farm_fixed::{
     Centi, ChainRule, Dens, Fac5, Kg, Mm, Permil5, Quantities, Reading, Sample, Shell,
@@ -22,21 +23,15 @@ fn table(alloc: Global) -> Result<CapTable, Fail> {
 
 // A factor of 1.00000 at a density of 850.0 and at 15.00 C alone.
 fn vcf(alloc: Global) -> Result<Vcf, Fail> {
-    Ok(Vcf::from_grid(
-        vec![in alloc; Dens::new(8_500)?]?,
-        vec![in alloc; Centi::new(1_500)?]?,
-        vec![in alloc; Fac5::new(100_000)?]?,
-    )?)
+    let densities = vec![in alloc; Dens::new(8_500)?]?;
+    let temperatures = vec![in alloc; Centi::new(1_500)?]?;
+    let factors = vec![in alloc; Fac5::new(100_000)?]?;
+    Ok(Vcf::from_grid(densities, temperatures, factors)?)
 }
 
-// The figures of a bare shell under a roof of 85,000 kg with its zone from 1,500 to 1,800 mm.
-fn figures_at(
-    alloc: Global,
-    level: i64,
-    water: i64,
-    density: i64,
-) -> Result<Result<Quantities, ChainRule>, Fail> {
-    let tank = TankSpec {
+// A bare shell under a roof of 85,000 kg with its zone from 1,500 to 1,800 mm.
+fn tank() -> Result<TankSpec, Fail> {
+    Ok(TankSpec {
         shell: Shell {
             insulated: false,
             coefficient: 112,
@@ -48,58 +43,106 @@ fn figures_at(
             low: Mm::new(1_500)?,
             high: Mm::new(1_800)?,
         }),
-    };
-    let reading = Reading {
+    })
+}
+
+// A level and water, at 15.00 C.
+fn reading(level: i64, water: i64) -> Result<Reading, Fail> {
+    Ok(Reading {
         level: Mm::new(level)?,
         water: Mm::new(water)?,
         liquid: Centi::new(1_500)?,
         ambient: Centi::new(1_500)?,
-    };
+    })
+}
+
+// A level and water in mm, and a density in 0.1 kg/m3.
+type Gauged = (i64, i64, i64);
+
+// The figures of a reading of that tank on this table and these factors.
+fn figures_on(
+    table: &CapTable,
+    vcf: &Vcf,
+    (level, water, density): Gauged,
+) -> Result<Result<Quantities, ChainRule>, Fail> {
+    let tank = tank()?;
+    let reading = reading(level, water)?;
     let sample = Sample {
         density: Dens::new(density)?,
         sw: Permil5::new(0)?,
     };
     let rounding = RoundTable::usual();
+    Ok(quantities(&tank, table, vcf, &rounding, &reading, &sample))
+}
+
+// The figures of a reading of that tank.
+fn figures_at(alloc: Global, gauged: Gauged) -> Result<Result<Quantities, ChainRule>, Fail> {
     let table = table(alloc)?;
     let vcf = vcf(alloc)?;
-    Ok(quantities(&tank, &table, &vcf, &rounding, &reading, &sample))
+    figures_on(&table, &vcf, gauged)
 }
+
+// The adjustment for the roof at a level.
+const ZONE: &[(&str, i64, Result<i64, ChainRule>)] = &[
+    ("below the zone", 1_499, Ok(0)),
+    ("its low end", 1_500, Err(ChainRule::CriticalZone)),
+    ("its high end", 1_800, Err(ChainRule::CriticalZone)),
+    ("above the zone", 1_801, Ok(-100_000)),
+];
+
+const ABOVE_THE_ZONE: Figures = &[
+    ("tov", Figure::Tov, 1_801_000),
+    ("fw", Figure::Fw, 5_000),
+    ("gov", Figure::Gov, 1_696_000),
+    ("mass", Figure::Mass, 1_441_600),
+];
 
 #[test]
 fn a_roof_floats_above_its_zone(rt: HostRuntime) -> Result<(), Fail> {
     let mut checks = Checks::new(&rt);
-    let alloc = rt.alloc();
-    let cases = [
-        (1_499, Ok(0)),
-        (1_500, Err(ChainRule::CriticalZone)),
-        (1_800, Err(ChainRule::CriticalZone)),
-        (1_801, Ok(-100_000)),
-    ];
-    for (level, want) in cases {
-        let adjustment = figures_at(alloc, level, 0, 8_500)?.map(|q| q.fra.get());
-        checks.same_at(level, adjustment, want);
+    for (name, level, want) in ZONE {
+        let figures = figures_at(rt.alloc(), (*level, 0, 8_500))?;
+        checks.same_at(name, figures.map(|q| q.fra.get()), *want);
     }
-    let figures = figures_at(alloc, 1_801, 5, 8_500)?;
-    checks.same(
-        figures.map(|q| [q.tov.get(), q.fw.get(), q.gov.get(), q.mass.get()]),
-        Ok([1_801_000, 5_000, 1_696_000, 1_441_600]),
-    );
+    let figures = figures_at(rt.alloc(), (1_801, 5, 8_500))?;
+    check_figures(&mut checks, figures, ABOVE_THE_ZONE);
     Ok(checks.end()?)
 }
+
+const REFUSALS: &[(&str, Gauged, ChainRule)] = &[
+    (
+        "above the table, and water above it",
+        (1_991, 1_992, 9_000),
+        ChainRule::AboveTable,
+    ),
+    (
+        "water above the level, and no factor",
+        (1_600, 1_601, 9_000),
+        ChainRule::WaterAboveLevel,
+    ),
+    (
+        "no factor, and within the zone",
+        (1_600, 1_600, 9_000),
+        ChainRule::NoEntry,
+    ),
+    (
+        "within the zone",
+        (1_600, 1_600, 8_500),
+        ChainRule::CriticalZone,
+    ),
+    (
+        "less than the roof displaces",
+        (1_801, 1_801, 8_500),
+        ChainRule::Negative,
+    ),
+];
 
 #[test]
 fn the_first_refusal_of_a_reading_is_answered(rt: HostRuntime) -> Result<(), Fail> {
     let mut checks = Checks::new(&rt);
-    let cases = [
-        (1_991, 1_992, 9_000, ChainRule::AboveTable),
-        (1_600, 1_601, 9_000, ChainRule::WaterAboveLevel),
-        (1_600, 1_600, 9_000, ChainRule::NoEntry),
-        (1_600, 1_600, 8_500, ChainRule::CriticalZone),
-        (1_801, 1_801, 8_500, ChainRule::Negative),
-    ];
-    for (level, water, density, want) in cases {
-        let figures = figures_at(rt.alloc(), level, water, density)?;
-        checks.same_at(water, figures, Err(want));
+    for (name, gauged, want) in REFUSALS {
+        let figures = figures_at(rt.alloc(), *gauged)?;
+        checks.same_at(name, figures, Err(*want));
     }
     Ok(checks.end()?)
 }

@@ -52,17 +52,29 @@ fn mass_row(rows: [(u8, Mode); 12]) -> Result<(i64, Mode), BadRow> {
     Ok(RoundTable::new(rows)?.row(MASS))
 }
 
+// Rows with a step of 1, but for these.
+fn rows_with(others: &[(usize, u8)]) -> [(u8, Mode); 12] {
+    let mut rows = [(1, Mode::TowardZero); 12];
+    for (index, step) in others {
+        if let Some(row) = rows.get_mut(*index) {
+            *row = (*step, Mode::HalfAway);
+        }
+    }
+    rows
+}
+
+// Indices from 0 with their steps, and the row of the mass or the number of the first bad row.
+const TABLES: &[(&str, &[(usize, u8)], Result<(i64, Mode), BadRow>)] = &[
+    ("a good table", &[], Ok((1, Mode::TowardZero))),
+    ("two odd steps", &[(0, 3), (9, 0)], Err(BadRow(1))),
+    ("wide ties", &[(6, 5)], Err(BadRow(7))),
+];
+
 #[test]
 fn a_table_is_refused_at_its_first_bad_row(rt: HostRuntime) -> Result<(), Fail> {
     let mut checks = Checks::new(&rt);
-    let good = [(1, Mode::TowardZero); 12];
-    let mut odd_step = good;
-    odd_step[0] = (3, Mode::HalfAway);
-    odd_step[9] = (0, Mode::HalfAway);
-    let mut wide_ties = good;
-    wide_ties[6] = (5, Mode::HalfAway);
-    checks.same(mass_row(good), Ok((1, Mode::TowardZero)));
-    checks.same(mass_row(odd_step), Err(BadRow(1)));
-    checks.same(mass_row(wide_ties), Err(shared(BadRow(7))));
+    for (name, others, want) in TABLES {
+        checks.same_at(name, mass_row(rows_with(others)), shared(*want));
+    }
     Ok(checks.end()?)
 }

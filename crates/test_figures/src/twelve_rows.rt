@@ -1,5 +1,6 @@
 //! The figures of a reading under twelve different rounding rows, which docs/trade.md works out by hand.
 
+use crate::ten_figures::{Figure, Figures, check_figures};
 use farm_chain::quantities;
 use farm_fixed::{
     Centi, ChainRule, Dens, Fac5, Kg, Mm, Permil5, Quantities, Reading, Sample, Shell,
@@ -67,8 +68,8 @@ fn reading() -> Result<Reading, Fail> {
     })
 }
 
-// The figures of that reading, with 0.250 percent of sediment and water.
-fn figures(alloc: Global) -> Result<Result<Quantities, ChainRule>, Fail> {
+// The figures of that reading on this table and these factors, with 0.250 percent of sediment and water.
+fn figures_on(table: &CapTable, vcf: &Vcf) -> Result<Result<Quantities, ChainRule>, Fail> {
     let sample = Sample {
         density: Dens::new(8_500)?,
         sw: Permil5::new(250)?,
@@ -76,31 +77,32 @@ fn figures(alloc: Global) -> Result<Result<Quantities, ChainRule>, Fail> {
     let tank = tank()?;
     let reading = reading()?;
     let rounding = RoundTable::new(TWELVE_ROWS)?;
+    Ok(quantities(&tank, table, vcf, &rounding, &reading, &sample))
+}
+
+// The figures of that reading.
+fn figures(alloc: Global) -> Result<Result<Quantities, ChainRule>, Fail> {
     let table = table(alloc)?;
     let vcf = vcf(alloc)?;
-    Ok(quantities(&tank, &table, &vcf, &rounding, &reading, &sample))
+    figures_on(&table, &vcf)
 }
+
+const ROUNDED: Figures = &[
+    ("tov", Figure::Tov, 1_188_550),
+    ("fw", Figure::Fw, 428_010),
+    ("ctsh", Figure::Ctsh, 100_024),
+    ("vcf", Figure::Vcf, 99_150),
+    ("fra", Figure::Fra, -100_860),
+    ("gov", Figure::Gov, 659_850),
+    ("gsv", Figure::Gsv, 654_200),
+    ("nsv", Figure::Nsv, 652_560),
+    ("swv", Figure::Swv, 1_640),
+    ("mass", Figure::Mass, 554_650),
+];
 
 #[test]
 fn each_figure_is_rounded_by_its_own_row(rt: HostRuntime) -> Result<(), Fail> {
     let mut checks = Checks::new(&rt);
-    let in_order = figures(rt.alloc())?.map(|q| {
-        [
-            q.tov.get(),
-            q.fw.get(),
-            q.ctsh.get(),
-            q.vcf.get(),
-            q.fra.get(),
-            q.gov.get(),
-            q.gsv.get(),
-            q.nsv.get(),
-            q.swv.get(),
-            q.mass.get(),
-        ]
-    });
-    let expected = [
-        1_188_550, 428_010, 100_024, 99_150, -100_860, 659_850, 654_200, 652_560, 1_640, 554_650,
-    ];
-    checks.same(in_order, Ok(expected));
+    check_figures(&mut checks, figures(rt.alloc())?, ROUNDED);
     Ok(checks.end()?)
 }

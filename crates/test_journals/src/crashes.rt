@@ -1,13 +1,13 @@
 //! What each moment's crash leaves of a journal: each image is recovered.
 
-use crate::files::{EMPTY, ONE, new_journal, recovered, two_bodies};
+use crate::files::{EMPTY, ONE, check_recovery, new_journal, two_bodies};
 use farm_disk::{Disk, Fill, MemDisk};
-use std::alloc::Global;
+use std::alloc::{AllocError, Global};
 use std::test::Fail;
 use test_checks::Checks;
 
 // What a crash leaves where it may leave any byte: old bytes, new ones, and some that are gates or look like lengths.
-const FILLS: [Fill; 7] = [
+const FILLS: &[Fill] = &[
     Fill::Old,
     Fill::New,
     Fill::Byte(0),
@@ -17,24 +17,39 @@ const FILLS: [Fill; 7] = [
     Fill::Byte(255),
 ];
 
-// Each image at a moment is recovered as the second of these two where what the crash left is an open gate, and else as the first.
-fn check_recovered<R: Print>(
+// What is recovered of the image of a fill: the second of these two where what the crash left is an open gate, and else the first.
+fn want_of(fill: Fill, (before, after): (&'static str, &'static str)) -> &'static str {
+    match fill {
+        Fill::New | Fill::Byte(1) => after,
+        _ => before,
+    }
+}
+
+// The image of a fill at a moment is recovered as this.
+fn check_image<R: Print>(
     checks: &mut Checks<'_, R>,
     alloc: Global,
     disk: &MemDisk,
-    moment: u64,
-    (before, after): (&str, &str),
+    (moment, fill): (u64, Fill),
+    want: &str,
 ) -> Result<(), Fail> {
     if moment > disk.stand().moment {
         return Err("the disk has no such moment")?;
     }
+    let image = disk.image(alloc, moment, fill)?;
+    check_recovery(checks, alloc, moment, &image, want)
+}
+
+// Each image at a moment is recovered as one of these two.
+fn check_images<R: Print>(
+    checks: &mut Checks<'_, R>,
+    alloc: Global,
+    disk: &MemDisk,
+    moment: u64,
+    wants: (&'static str, &'static str),
+) -> Result<(), Fail> {
     for fill in FILLS {
-        let image = disk.image(alloc, moment, fill)?;
-        let want = match fill {
-            Fill::New | Fill::Byte(1) => after,
-            _ => before,
-        };
-        checks.same_at(moment, recovered(alloc, &image)?.as_str(), want);
+        check_image(checks, alloc, disk, (moment, *fill), want_of(*fill, wants))?;
     }
     Ok(())
 }
@@ -57,7 +72,7 @@ fn a_body_is_there_whole_or_not_at_all(rt: HostRuntime) -> Result<(), Fail> {
     checks.same(disk.stand().moment, start.saturating_add(8));
     for moment in 0..9 {
         let at = start.saturating_add(moment);
-        check_recovered(&mut checks, alloc, &disk, at, wants_at(moment))?;
+        check_images(&mut checks, alloc, &disk, at, wants_at(moment))?;
     }
     Ok(checks.end()?)
 }
@@ -80,24 +95,38 @@ fn a_crash_within_the_making_leaves_no_journal_or_the_empty_one(
     let disk = new_journal(alloc, &[])?.into_disk();
     for moment in 0..13 {
         let wants = wants_within_the_making(moment);
-        check_recovered(&mut checks, alloc, &disk, moment, wants)?;
+        check_images(&mut checks, alloc, &disk, moment, wants)?;
     }
     Ok(checks.end()?)
+}
+
+// The empty journal with another gate at its end, and bytes after it.
+fn with_gate(alloc: Global, gate: u8, rest: &[u8]) -> Result<Vec<u8>, AllocError> {
+    let mut bytes = EMPTY.to_vec(alloc)?;
+    bytes.pop();
+    bytes.push(gate)?;
+    bytes.extend_from_slice(rest)?;
+    Ok(bytes)
+}
+
+// No byte, the rest of a record after its gate, and that of another.
+const RESTS: &[&[u8]] = &[b"", b"\x01\0\0\0\x03one\0", b"\0\0\0\x03one\x01"];
+
+// Whatever stands after a closed gate, the journal is empty.
+fn check_gate<R: Print>(checks: &mut Checks<'_, R>, alloc: Global, gate: u8) -> Result<(), Fail> {
+    for rest in RESTS {
+        let bytes = with_gate(alloc, gate, rest)?;
+        check_recovery(checks, alloc, gate, &bytes, " site")?;
+    }
+    Ok(())
 }
 
 #[test]
 fn what_stands_after_a_closed_gate_counts_for_nothing(rt: HostRuntime) -> Result<(), Fail> {
     let mut checks = Checks::new(&rt);
-    let alloc = rt.alloc();
     for gate in [0, 2, 0x37, 255] {
-        for rest in [b"".as_slice(), b"\x01\0\0\0\x03one\0", b"\0\0\0\x03one\x01"] {
-            let mut bytes = EMPTY.to_vec(alloc)?;
-            bytes.pop();
-            bytes.push(gate)?;
-            bytes.extend_from_slice(rest)?;
-            checks.same_at(gate, recovered(alloc, &bytes)?.as_str(), " site");
-        }
+        check_gate(&mut checks, rt.alloc(), gate)?;
     }
-    checks.same(recovered(alloc, ONE)?.as_str(), " site one");
+    check_recovery(&mut checks, rt.alloc(), "an open gate", ONE, " site one")?;
     Ok(checks.end()?)
 }

@@ -4,7 +4,7 @@ ghost use Rattle.std.specs.Prelude.{◌≡◌, ◌<◌, ◌≤◌, ◌+◌, None
 
 use crate::Listing;
 use crate::files::{
-    EMPTY, ONE, TWO, bytes_of, disk_of, keep, new_journal, recovered, refused_making,
+    EMPTY, ONE, TWO, bytes_of, check_recovery, disk_of, keep, new_journal, refused_making,
 };
 use farm_disk::{Disk, Fill, MemDisk};
 use farm_journal::{CreateFault, DiskFault, Journal, RecoverFault, Taken};
@@ -30,24 +30,31 @@ fn put_in_vain(journal: &mut Journal<MemDisk>, body: &[u8]) -> Result<(), Fail>
     }
 }
 
-// The faults of a journal one of whose puts fails, and its disk after the next put.
-fn put_again(alloc: Global, failing: u64) -> Result<(u64, MemDisk), Fail> {
+// The faults of a journal one of whose puts fails, and its bytes after the next put.
+fn put_again(alloc: Global, failing: u64) -> Result<(u64, Vec<u8>), Fail> {
     let mut journal = new_journal(alloc, &[failing])?;
     put_in_vain(&mut journal, b"three")?;
     let faults = journal.stand().faults;
     keep(&mut journal, b"one")?;
-    Ok((faults, journal.into_disk()))
+    Ok((faults, bytes_of(alloc, &mut journal.into_disk())?))
+}
+
+// The call of this number fails, and the body is put again.
+fn check_put_again<R: Print>(
+    checks: &mut Checks<'_, R>,
+    alloc: Global,
+    failing: u64,
+) -> Result<(), Fail> {
+    let (faults, bytes) = put_again(alloc, failing)?;
+    checks.same_at(failing, faults, 1);
+    check_recovery(checks, alloc, failing, &bytes, " site one")
 }
 
 #[test]
 fn a_body_that_was_not_put_is_put_again(rt: HostRuntime) -> Result<(), Fail> {
     let mut checks = Checks::new(&rt);
-    let alloc = rt.alloc();
     for failing in [MADE + 1, MADE + 2] {
-        let (faults, mut disk) = put_again(alloc, failing)?;
-        checks.same(faults, 1);
-        let bytes = bytes_of(alloc, &mut disk)?;
-        checks.same_at(failing, recovered(alloc, &bytes)?.as_str(), " site one");
+        check_put_again(&mut checks, rt.alloc(), failing)?;
     }
     Ok(checks.end()?)
 }
@@ -85,21 +92,36 @@ fn a_gate_that_was_not_opened_is_opened_again(rt: HostRuntime) -> Result<(), Fai
     let mut checks = Checks::new(&rt);
     // The gate's write fails, or its sync; then the other call of the second try.
     for failing in [MADE + 3, MADE + 4] {
-        checks.same(opened_again(rt.alloc(), failing)?.as_slice(), TWO);
+        checks.same_at(failing, opened_again(rt.alloc(), failing)?.as_slice(), TWO);
     }
     Ok(checks.end()?)
+}
+
+// Why a making fails at this call, the faults of its disk, and its old bytes.
+fn failed_making(alloc: Global, failing: u64) -> Result<(CreateFault, u64, Vec<u8>), Fail> {
+    let (disk, fault) = refused_making(alloc, b"", &[failing])?;
+    let stand = disk.stand();
+    let old = disk.image(alloc, stand.moment, Fill::Old)?;
+    Ok((fault, stand.faults, old))
+}
+
+// The call of this number of a making fails.
+fn check_making<R: Print>(
+    checks: &mut Checks<'_, R>,
+    alloc: Global,
+    failing: u64,
+) -> Result<(), Fail> {
+    let (fault, faults, old) = failed_making(alloc, failing)?;
+    checks.same_at(failing, fault, shared(CreateFault::DiskFault));
+    checks.same_at(failing, faults, 1);
+    check_recovery(checks, alloc, failing, &old, "not a journal")
 }
 
 #[test]
 fn a_fault_within_the_making_leaves_no_journal(rt: HostRuntime) -> Result<(), Fail> {
     let mut checks = Checks::new(&rt);
-    let alloc = rt.alloc();
     for failing in 1..8 {
-        let (disk, fault) = refused_making(alloc, b"", &[failing])?;
-        checks.same_at(failing, fault, shared(CreateFault::DiskFault));
-        checks.same(disk.stand().faults, 1);
-        let old = disk.image(alloc, disk.stand().moment, Fill::Old)?;
-        checks.same(recovered(alloc, &old)?.as_str(), "not a journal");
+        check_making(&mut checks, rt.alloc(), failing)?;
     }
     Ok(checks.end()?)
 }
@@ -113,17 +135,33 @@ fn refused_recovery(alloc: Global, failing: u64) -> Result<(MemDisk, RecoverFaul
     }
 }
 
+// Why a recovery fails at this call, the faults of the disk that it gives back, and its bytes.
+fn failed_recovery(alloc: Global, failing: u64) -> Result<(RecoverFault, u64, Vec<u8>), Fail> {
+    let (mut disk, fault) = refused_recovery(alloc, failing)?;
+    let faults = disk.stand().faults;
+    Ok((fault, faults, bytes_of(alloc, &mut disk)?))
+}
+
+// The call of this number of a recovery fails.
+fn check_failed_recovery<R: Print>(
+    checks: &mut Checks<'_, R>,
+    alloc: Global,
+    failing: u64,
+) -> Result<(), Fail> {
+    let (fault, faults, bytes) = failed_recovery(alloc, failing)?;
+    checks.same_at(failing, fault, shared(RecoverFault::DiskFault));
+    checks.same_at(failing, faults, 1);
+    checks.same_at(failing, bytes.as_slice(), ONE);
+    Ok(())
+}
+
 #[test]
 fn a_fault_of_recovery_gives_the_disk_back(rt: HostRuntime) -> Result<(), Fail> {
     let mut checks = Checks::new(&rt);
-    let alloc = rt.alloc();
     for failing in 1..3 {
-        let (mut disk, fault) = refused_recovery(alloc, failing)?;
-        checks.same_at(failing, fault, shared(RecoverFault::DiskFault));
-        checks.same(disk.stand().faults, 1);
-        checks.same(bytes_of(alloc, &mut disk)?.as_slice(), ONE);
+        check_failed_recovery(&mut checks, rt.alloc(), failing)?;
     }
-    checks.same(recovered(alloc, EMPTY)?.as_str(), " site");
+    check_recovery(&mut checks, rt.alloc(), "no fault", EMPTY, " site")?;
     Ok(checks.end()?)
 }
 

@@ -8,6 +8,7 @@ use farm_disk::{Disk, Fill, MemDisk};
 use farm_journal::{CreateFault, Journal, RecoverFault};
 use farm_ports::Bytes;
 use std::alloc::{AllocError, Global};
+use std::fmt::Display;
 use std::test::Fail;
 use test_checks::{Checks, shared};
 
@@ -59,6 +60,18 @@ pub fn recovered(alloc: Global, bytes: &[u8]) -> Result<String, Fail> {
         None => Ok(text_of(alloc, listing.taken())?),
         Some(fault) => Ok(format!(in alloc; "{fault}")?),
     }
+}
+
+/// Bytes are recovered as this.
+pub fn check_recovery<N: Display + Drop, R: Print>(
+    checks: &mut Checks<'_, R>,
+    alloc: Global,
+    case: N,
+    bytes: &[u8],
+    want: &str,
+) -> Result<(), Fail> {
+    checks.same_at(case, recovered(alloc, bytes)?.as_str(), want);
+    Ok(())
 }
 
 /// All bytes that reads of a disk give.
@@ -115,14 +128,22 @@ pub fn two_bodies(alloc: Global) -> Result<(MemDisk, u64), Fail> {
     Ok((shared(journal).into_disk(), start))
 }
 
+// What reads of that disk give, and what a crash leaves of it.
+fn written(alloc: Global) -> Result<(Vec<u8>, Vec<u8>), Fail> {
+    let (mut disk, _) = two_bodies(alloc)?;
+    let read = bytes_of(alloc, &mut disk)?;
+    let left = disk.image(alloc, disk.stand().moment, Fill::Byte(b'?'))?;
+    Ok((read, left))
+}
+
 #[test]
 fn a_journal_is_written_byte_by_byte(rt: HostRuntime) -> Result<(), Fail> {
     let mut checks = Checks::new(&rt);
-    let alloc = rt.alloc();
-    let (mut disk, _) = two_bodies(alloc)?;
-    checks.same(bytes_of(alloc, &mut disk)?.as_slice(), TWO);
-    let synced = disk.image(alloc, disk.stand().moment, Fill::Byte(b'?'))?;
-    checks.same(synced.as_slice(), TWO);
+    let (read, left) = written(rt.alloc())?;
+    for (name, bytes) in [("what reads give", &read), ("what a crash leaves", &left)] {
+        checks.same_at(name, bytes.as_slice(), TWO);
+    }
+    drop((read, left));
     Ok(checks.end()?)
 }
 
@@ -159,12 +180,18 @@ fn a_journal_is_recovered_and_goes_on(rt: HostRuntime) -> Result<(), Fail> {
     Ok(checks.end()?)
 }
 
+// Why no journal is made on a disk with these bytes, and what reads of it then give.
+fn not_made(alloc: Global, bytes: &[u8]) -> Result<(CreateFault, Vec<u8>), Fail> {
+    let (mut disk, fault) = refused_making(alloc, bytes, &[])?;
+    Ok((fault, bytes_of(alloc, &mut disk)?))
+}
+
 #[test]
 fn a_journal_is_made_on_an_empty_disk_alone(rt: HostRuntime) -> Result<(), Fail> {
     let mut checks = Checks::new(&rt);
-    let alloc = rt.alloc();
-    let (mut disk, fault) = refused_making(alloc, b"\0", &[])?;
-    checks.same(fault, CreateFault::NotEmpty);
-    checks.same(bytes_of(alloc, &mut disk)?.as_slice(), b"\0".as_slice());
+    let (fault, bytes) = not_made(rt.alloc(), b"\0")?;
+    checks.same_at("the fault", fault, CreateFault::NotEmpty);
+    checks.same_at("what reads give", bytes.as_slice(), b"\0".as_slice());
+    drop(bytes);
     Ok(checks.end()?)
 }

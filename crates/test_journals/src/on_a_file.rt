@@ -20,16 +20,24 @@ fn begin(rt: &HostRuntime, path: &str) -> Result<(), Fail> {
     }
 }
 
+// The bytes of a journal on a new file, and those after it was recovered and `three` was put on it.
+fn kept(rt: &HostRuntime, path: &str) -> Result<(Vec<u8>, Vec<u8>), Fail> {
+    begin(rt, path)?;
+    let first = bytes_of(rt.alloc(), &mut over(rt, path)?)?;
+    let then = gone_on(rt.alloc(), over(rt, path)?)?;
+    Ok((first, then))
+}
+
 #[test]
 fn a_journal_is_recovered_from_its_file(rt: HostRuntime) -> Result<(), Fail> {
     let mut checks = Checks::new(&rt);
-    let alloc = rt.alloc();
     let path = "out/journal";
     fs::create_dir_all(&rt, "out")?;
     let _ = fs::remove_file(&rt, path);
-    begin(&rt, path)?;
-    checks.same(bytes_of(alloc, &mut over(&rt, path)?)?.as_slice(), ONE);
-    checks.same(gone_on(alloc, over(&rt, path)?)?.as_slice(), TWO);
+    let (first, then) = kept(&rt, path)?;
+    checks.same_at("a journal on a file", first.as_slice(), ONE);
+    checks.same_at("recovered and gone on with", then.as_slice(), TWO);
+    drop((first, then));
     fs::remove_file(&rt, path)?;
     Ok(checks.end()?)
 }

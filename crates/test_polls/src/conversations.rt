@@ -2,9 +2,9 @@
 
 use crate::gauges::{GAUGE, poller, wire};
 use farm_base::NoMemory;
-use farm_ports::LinkCall;
+use farm_ports::{LinkCall, Wire};
 use modbus_poll::Polled::{Exception, Wrong};
-use modbus_poll::{Polled, Raw};
+use modbus_poll::{Polled, Poller, Raw};
 use std::alloc::Global;
 use std::test::Fail;
 use test_checks::Checks;
@@ -31,9 +31,11 @@ const GOOD: [u8; 30] = [
     0, 2, 0, 0, 0, 9, 17, 4, 6, 0, 0, 0, 0, 0, 1,
 ];
 
-// Conversations: from this index on these bytes stand in place of the good ones, this many bytes are answered to the first transaction,
+// A conversation: from this index on these bytes stand in place of the good ones, this many bytes are answered to the first transaction,
 // this call of the link fails (none where it is 0), and this is what the poll answers.
-const CASES: [(usize, &[u8], usize, u64, Polled); 56] = [
+type Case = (usize, &'static [u8], usize, u64, Polled);
+
+const CASES: [Case; 56] = [
     // Whole responses: the level, the temperature, and the word with the validity bit.
     (0, &[], 15, 0, READING),
     (13, &[0xFF, 0xFF], 15, 0, READING),
@@ -99,11 +101,19 @@ const CASES: [(usize, &[u8], usize, u64, Polled); 56] = [
     (0, &[], 15, 5, READING),
 ];
 
+// Puts these bytes in place of others, from an index on.
+fn put(bytes: &mut [u8], at: usize, other: &[u8]) {
+    for (index, byte) in other.iter().enumerate() {
+        if let Some(place) = bytes.get_mut(at.saturating_add(index)) {
+            *place = *byte;
+        }
+    }
+}
+
 // The good responses with other bytes from this index on, and this many of them.
 fn response(alloc: Global, at: usize, other: &[u8], size: usize) -> Result<Vec<u8>, NoMemory> {
-    let mut bytes = GOOD.get(..at).unwrap_or(&[]).to_vec(alloc)?;
-    bytes.extend_from_slice(other)?;
-    bytes.extend_from_slice(GOOD.get(bytes.len()..).unwrap_or(&[]))?;
+    let mut bytes = GOOD.to_vec(alloc)?;
+    put(&mut bytes, at, other);
     bytes.truncate(size);
     Ok(bytes)
 }
@@ -114,13 +124,18 @@ fn is_connect(call: &&LinkCall) -> bool {
 }
 
 // The answer of the first of two polls, and whether the second one begins without a connect.
+fn poll_twice(poller: &mut Poller, wire: &mut Wire) -> (Polled, bool) {
+    let answer = poller.turn(wire);
+    poller.turn(wire);
+    let connects = wire.calls().iter().filter(is_connect).count();
+    (answer, connects == 1)
+}
+
+// The same of a poller at a link with this response, one call of which fails.
 fn converse(alloc: Global, response: &[u8], fails: u64) -> Result<(Polled, bool), NoMemory> {
     let mut poller = poller(alloc, GAUGE)?;
     let mut wire = wire(alloc, &[response], &[fails])?;
-    let answer = poller.turn(&mut wire);
-    poller.turn(&mut wire);
-    let connects = wire.calls().iter().filter(is_connect).count();
-    Ok((answer, connects == 1))
+    Ok(poll_twice(&mut poller, &mut wire))
 }
 
 // Whether the connection stands after an answer.
@@ -131,14 +146,24 @@ fn stands_after(answer: Polled) -> bool {
     }
 }
 
+// A conversation has its answer, and the connection stands after it or not.
+fn check_case<R: Print>(
+    checks: &mut Checks<'_, R>,
+    alloc: Global,
+    number: usize,
+    (at, other, size, fails, want): Case,
+) -> Result<(), NoMemory> {
+    let response = response(alloc, at, other, size)?;
+    let got = converse(alloc, &response, fails)?;
+    checks.same_at(number, got, (want, stands_after(want)));
+    Ok(())
+}
+
 #[test]
 fn each_conversation_has_its_answer(rt: HostRuntime) -> Result<(), Fail> {
     let mut checks = Checks::new(&rt);
-    let alloc = rt.alloc();
     for (number, case) in CASES.iter().enumerate() {
-        let (at, other, size, fails, want) = *case;
-        let got = converse(alloc, &response(alloc, at, other, size)?, fails)?;
-        checks.same_at(number, got, (want, stands_after(want)));
+        check_case(&mut checks, rt.alloc(), number, *case)?;
     }
     Ok(checks.end()?)
 }

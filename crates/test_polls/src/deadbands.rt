@@ -3,10 +3,8 @@
 ghost use Rattle.std.specs.Prelude.{◌≡◌, IfSome};
 
 use crate::gauges::{GAUGE, poller, wire};
-use farm_base::NoMemory;
 use farm_ports::Link;
 use modbus_poll::{Polled, Poller, Raw};
-use std::alloc::Global;
 use std::test::Fail;
 use test_checks::{Checks, shared};
 
@@ -24,43 +22,39 @@ fn due_reading<L: Link>(poller: &mut Poller, link: &mut L) -> Option<(usize, Raw
     Some((gauge, raw))
 }
 
-// The levels of three polls of the gauge, where they are to be submitted.
-fn due_levels(alloc: Global, responses: &[&[u8]]) -> Result<[Option<i64>; 3], NoMemory> {
-    let mut poller = shared(poller(alloc, GAUGE)?);
-    let mut wire = wire(alloc, responses, &[])?;
-    Ok([
-        due_reading(&mut poller, &mut wire).map(|due| due.1.level),
-        due_reading(&mut poller, &mut wire).map(|due| due.1.level),
-        due_reading(&mut poller, &mut wire).map(|due| due.1.level),
-    ])
+// The level of the next poll, where it is to be submitted.
+fn due_level<L: Link>(poller: &mut Poller, link: &mut L) -> Option<i64> {
+    due_reading(poller, link).map(|due| due.1.level)
 }
 
-// A response to a transaction with a level whose low byte is this one, the high one 0x13, at 20.00 C.
-fn response(transaction: u8, low: u8) -> [u8; 15] {
-    [
-        0,
-        transaction,
-        0,
-        0,
-        0,
-        9,
-        17,
-        4,
-        6,
-        0x13,
-        low,
-        0,
-        200,
-        0,
-        1,
-    ]
+// Responses to three transactions with levels of 5,000, 5,000 and 5,001 mm, at 20.00 C.
+const RESPONSES: &[&[u8]] = &[
+    &[0, 1, 0, 0, 0, 9, 17, 4, 6, 0x13, 0x88, 0, 200, 0, 1],
+    &[0, 2, 0, 0, 0, 9, 17, 4, 6, 0x13, 0x88, 0, 200, 0, 1],
+    &[0, 3, 0, 0, 0, 9, 17, 4, 6, 0x13, 0x89, 0, 200, 0, 1],
+];
+
+// The levels of the polls, where they are to be submitted.
+const LEVELS: &[(&str, Option<i64>)] = &[
+    ("the first reading", Some(5_000)),
+    ("the same again", None),
+    ("one of 1 mm more", Some(5_001)),
+];
+
+// The levels of the next polls are to be submitted as their rows say.
+fn check_levels<L: Link, R: Print>(checks: &mut Checks<'_, R>, poller: &mut Poller, link: &mut L) {
+    for (name, want) in LEVELS {
+        checks.same_at(name, due_level(poller, link), *want);
+    }
 }
 
 #[test]
 fn a_reading_is_due_that_differs_by_the_deadband(rt: HostRuntime) -> Result<(), Fail> {
     let mut checks = Checks::new(&rt);
-    let responses: [&[u8]; 3] = [&response(1, 0x88), &response(2, 0x88), &response(3, 0x89)];
-    let levels = due_levels(rt.alloc(), &responses)?;
-    checks.same(levels, [Some(5_000), None, Some(5_001)]);
+    let mut poller = shared(poller(rt.alloc(), GAUGE)?);
+    let mut wire = wire(rt.alloc(), RESPONSES, &[])?;
+    check_levels(&mut checks, &mut poller, &mut wire);
+    drop(wire);
+    drop(poller);
     Ok(checks.end()?)
 }

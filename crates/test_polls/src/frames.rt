@@ -108,20 +108,36 @@ fn the_first_field_that_disagrees_is_named(rt: HostRuntime) -> Result<(), Fail> 
     Ok(checks.end()?)
 }
 
-#[test]
-fn a_response_has_up_to_125_registers(rt: HostRuntime) -> Result<(), Fail> {
-    let mut checks = Checks::new(&rt);
+// A response with 125 registers, the last of them 0x0102.
+fn longest() -> [u8; 259] {
+    let mut bytes = [0; 259];
+    bytes[..9].copy_from_slice(&[0, 1, 0, 0, 0, 253, 17, 4, 250]);
+    bytes[257..].copy_from_slice(&[1, 2]);
+    bytes
+}
+
+// Its registers.
+fn most_registers() -> Registers {
+    let mut words = [0; 125];
+    words[124] = 0x0102;
+    Registers { count: 125, words }
+}
+
+// What bytes are as a response with 125 registers.
+fn check_longest<R: Print>(checks: &mut Checks<'_, R>, name: &str, bytes: &[u8], want: Frame) {
     let expect = Expect {
         quantity: MOST_QUANTITY,
         ..asked(1)
     };
-    let mut bytes = [0; 259];
-    bytes[..9].copy_from_slice(&[0, 1, 0, 0, 0, 253, 17, 4, 250]);
-    bytes[257..].copy_from_slice(&[1, 2]);
-    let mut words = [0; 125];
-    words[124] = 0x0102;
-    let registers = Registers { count: 125, words };
-    checks.same(read_response(&bytes, &expect), Frame::Words(registers, 259));
-    checks.same(read_response(&bytes[..258], &expect), Frame::Need(1));
+    checks.same_at(name, read_response(bytes, &expect), want);
+}
+
+#[test]
+fn a_response_has_up_to_125_registers(rt: HostRuntime) -> Result<(), Fail> {
+    let mut checks = Checks::new(&rt);
+    let bytes = longest();
+    let words = Frame::Words(most_registers(), 259);
+    check_longest(&mut checks, "all bytes", &bytes, words);
+    check_longest(&mut checks, "one less", &bytes[..258], Frame::Need(1));
     Ok(checks.end()?)
 }

@@ -4,8 +4,9 @@ ghost use Rattle.std.specs.Prelude.{◌≡◌, ℕ, List, OnOk};
 ghost use Rattle.farm_base.specs.Known.{WhereKnown};
 ghost use Rattle.farm_disk.specs.Images.{IsCrashImage, present};
 
+use crate::disk_calls::{Call, Calls, check_calls};
 use farm_base::NoMemory;
-use farm_disk::{Disk, Fill, MemDisk, Stand, disk_laws};
+use farm_disk::{Disk, Fill, MemDisk, disk_laws};
 use farm_ports::Failed;
 use std::alloc::Global;
 use std::test::Fail;
@@ -14,13 +15,6 @@ use test_checks::{Checks, shared};
 // A disk with "abcd" and these calls that fail.
 fn four_bytes(alloc: Global, fails: &[u64]) -> Result<MemDisk, NoMemory> {
     MemDisk::new(alloc, b"abcd".to_vec(alloc)?, fails.to_vec(alloc)?)
-}
-
-// What reads give, up to eight bytes.
-fn seen<D: Disk>(alloc: Global, disk: &mut D) -> Result<Vec<u8>, Fail> {
-    let mut buffer = [0; 8];
-    let count = disk.read_at(0, &mut buffer)?;
-    Ok(buffer[..count].to_vec(alloc)?)
 }
 
 // The images at a moment: the old bytes, the new ones, and "?" wherever a crash may leave any byte.
@@ -62,13 +56,18 @@ fn what_was_synced_is_all_that_a_crash_leaves(rt: HostRuntime) -> Result<(), Fai
     Ok(checks.end()?)
 }
 
-// "abcd" with "XY" written at 1, a write of "ZZ" at 3 that fails, a sync, and "Q" written at 6.
-fn four_calls(alloc: Global) -> Result<MemDisk, Fail> {
-    let mut disk = four_bytes(alloc, &[2])?;
-    disk.write_at(1, b"XY")?;
-    let _ = disk.write_at(3, b"ZZ");
-    disk.sync()?;
-    disk.write_at(6, b"Q")?;
+// "XY" written at 1, a write of "ZZ" at 3 that fails, a sync, and "Q" written at 6.
+const FOUR_CALLS: Calls = &[
+    ("a write within", Call::Write(1, b"XY", Ok(()))),
+    ("a write that fails", Call::Write(3, b"ZZ", Err(Failed))),
+    ("a sync", Call::Sync(Ok(()))),
+    ("a write past the end", Call::Write(6, b"Q", Ok(()))),
+];
+
+// A disk with "abcd" and those four calls.
+fn four_calls<R: Print>(checks: &mut Checks<'_, R>, alloc: Global) -> Result<MemDisk, NoMemory> {
+    let mut disk = shared(four_bytes(alloc, &[2])?);
+    check_calls(checks, &mut disk, &mut [], FOUR_CALLS);
     Ok(disk)
 }
 
@@ -87,85 +86,83 @@ fn wants_at(moment: u64) -> [&'static [u8]; 3] {
 #[test]
 fn a_crash_leaves_the_images_of_its_moment(rt: HostRuntime) -> Result<(), Fail> {
     let mut checks = Checks::new(&rt);
-    let disk = four_calls(rt.alloc())?;
+    let disk = four_calls(&mut checks, rt.alloc())?;
     for moment in 0..9 {
         check_images(&mut checks, rt.alloc(), &disk, moment, wants_at(moment))?;
     }
     Ok(checks.end()?)
 }
 
+const AFTER_FOUR_CALLS: Calls = &[
+    ("two moments each", Call::Stands(8, 1)),
+    ("what reads give", Call::Seen(b"aXYd\0\0Q")),
+];
+
 #[test]
 fn reads_give_what_was_written(rt: HostRuntime) -> Result<(), Fail> {
     let mut checks = Checks::new(&rt);
-    let mut disk = shared(four_calls(rt.alloc())?);
-    checks.same(
-        shared(disk.stand()),
-        Stand {
-            moment: 8,
-            faults: 1,
-        },
-    );
-    checks.same(
-        seen(rt.alloc(), &mut disk)?.as_slice(),
-        b"aXYd\0\0Q".as_slice(),
-    );
+    let mut disk = four_calls(&mut checks, rt.alloc())?;
+    check_calls(&mut checks, &mut disk, &mut [0; 8], AFTER_FOUR_CALLS);
+    drop(disk);
     Ok(checks.end()?)
 }
+
+const A_SYNC_THAT_FAILS: Calls = &[
+    ("a write", Call::Write(0, b"W", Ok(()))),
+    ("a sync that fails", Call::Sync(Err(Failed))),
+    ("one fault", Call::Stands(4, 1)),
+];
 
 #[test]
 fn a_failed_sync_keeps_the_base(rt: HostRuntime) -> Result<(), Fail> {
     let mut checks = Checks::new(&rt);
-    let alloc = rt.alloc();
-    let mut disk = four_bytes(alloc, &[2])?;
-    checks.same(disk.write_at(0, b"W"), Ok(()));
-    checks.same(disk.sync(), Err(Failed));
-    checks.same(
-        disk.stand(),
-        Stand {
-            moment: 4,
-            faults: 1,
-        },
-    );
-    check_images(&mut checks, alloc, &disk, 4, [b"abcd", b"Wbcd", b"?bcd"])?;
+    let mut disk = four_bytes(rt.alloc(), &[2])?;
+    check_calls(&mut checks, &mut disk, &mut [], A_SYNC_THAT_FAILS);
+    check_images(
+        &mut checks,
+        rt.alloc(),
+        &disk,
+        4,
+        [b"abcd", b"Wbcd", b"?bcd"],
+    )?;
     Ok(checks.end()?)
 }
+
+const MEASURINGS_AND_READS: Calls = &[
+    ("a measuring", Call::Len(Ok(4))),
+    ("a measuring that fails", Call::Len(Err(Failed))),
+    ("a read to the end", Call::Read(1, Ok(3))),
+    ("what it read", Call::Holds(b"bcd")),
+    ("a read that fails", Call::Read(1, Err(Failed))),
+    ("a read of the last byte", Call::Read(3, Ok(1))),
+    ("a read past the end", Call::Read(u64::MAX, Ok(0))),
+    ("two faults and no moment", Call::Stands(0, 2)),
+];
 
 #[test]
 fn measurings_and_reads_are_counted(rt: HostRuntime) -> Result<(), Fail> {
     let mut checks = Checks::new(&rt);
     let mut disk = four_bytes(rt.alloc(), &[2, 4])?;
-    let mut buffer = [0; 3];
-    checks.same(disk.len(), Ok(4));
-    checks.same(disk.len(), Err(Failed));
-    checks.same(disk.read_at(1, &mut buffer), Ok(3));
-    checks.same(buffer, *b"bcd");
-    checks.same(disk.read_at(1, &mut buffer), Err(Failed));
-    checks.same(disk.read_at(3, &mut buffer), Ok(1));
-    checks.same(disk.read_at(u64::MAX, &mut buffer), Ok(0));
-    checks.same(
-        disk.stand(),
-        Stand {
-            moment: 0,
-            faults: 2,
-        },
-    );
+    check_calls(&mut checks, &mut disk, &mut [0; 3], MEASURINGS_AND_READS);
+    drop(disk);
     Ok(checks.end()?)
 }
+
+const WITHOUT_MEMORY: Calls = &[
+    (
+        "a write beyond all memory",
+        Call::Write(u64::MAX, b"XY", Err(Failed)),
+    ),
+    ("what reads give", Call::Seen(b"abcd")),
+    ("one fault and no moment", Call::Stands(0, 1)),
+];
 
 #[test]
 fn a_write_without_memory_has_no_moment(rt: HostRuntime) -> Result<(), Fail> {
     let mut checks = Checks::new(&rt);
-    let alloc = rt.alloc();
-    let mut disk = four_bytes(alloc, &[])?;
-    checks.same(disk.write_at(u64::MAX, b"XY"), Err(Failed));
-    checks.same(seen(alloc, &mut disk)?.as_slice(), b"abcd".as_slice());
-    checks.same(
-        disk.stand(),
-        Stand {
-            moment: 0,
-            faults: 1,
-        },
-    );
+    let mut disk = four_bytes(rt.alloc(), &[])?;
+    check_calls(&mut checks, &mut disk, &mut [0; 8], WITHOUT_MEMORY);
+    drop(disk);
     Ok(checks.end()?)
 }
 

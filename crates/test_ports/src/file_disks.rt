@@ -1,6 +1,7 @@
 //! A disk over a file of the system: what it makes, keeps and refuses.
 
-use farm_disk::{Disk, FileDisk, Stand};
+use crate::disk_calls::{Call, Calls, check_call, check_calls};
+use farm_disk::FileDisk;
 use farm_ports::Failed;
 use std::fs;
 use std::os::unix::fs::symlink;
@@ -9,155 +10,249 @@ use test_checks::{Checks, shared};
 
 // A disk over the file at a path, not opened yet.
 fn over<'a>(rt: &'a HostRuntime, path: &str) -> Result<FileDisk<&'a HostRuntime>, Fail> {
-    Ok(FileDisk::new(rt, String::from_str(rt.alloc(), path)?))
+    Ok(shared(FileDisk::new(rt, String::from_str(rt.alloc(), path)?)))
 }
 
-// The same below `out`, where no file has the name.
-fn over_none<'a>(rt: &'a HostRuntime, path: &str) -> Result<FileDisk<&'a HostRuntime>, Fail> {
+// Leaves no file of this name, which lies below `out`.
+fn clear(rt: &HostRuntime, path: &str) -> Result<(), Fail> {
     fs::create_dir_all(rt, "out")?;
     let _ = fs::remove_file(rt, path);
-    over(rt, path)
+    Ok(())
+}
+
+// Calls of a disk over the file at a path, which is dropped after them.
+fn check_over(
+    checks: &mut Checks<'_, HostRuntime>,
+    rt: &HostRuntime,
+    path: &str,
+    buffer: &mut [u8],
+    calls: Calls,
+) -> Result<(), Fail> {
+    let mut disk = over(rt, path)?;
+    check_calls(checks, &mut disk, buffer, calls);
+    Ok(())
+}
+
+// A call of a disk, or what its path names.
+#[derive(Clone, Copy)]
+enum Step {
+    Disk(Call),
+    // Whether nothing has the name.
+    IsMissing(bool),
+    // How long the file is.
+    Size(u64),
+    // Whether the name is a link.
+    IsLink(bool),
+}
+
+// What a path names is as a row says.
+fn check_named(
+    checks: &mut Checks<'_, HostRuntime>,
+    rt: &HostRuntime,
+    path: &str,
+    name: &str,
+    step: Step,
+) -> Result<(), Fail> {
+    match step {
+        Step::IsMissing(want) => checks.same_at(name, !fs::exists(rt, path)?, want),
+        Step::Size(want) => checks.same_at(name, fs::metadata(rt, path)?.len(), want),
+        Step::IsLink(want) => {
+            checks.same_at(name, fs::symlink_metadata(rt, path)?.is_symlink(), want);
+        }
+        Step::Disk(_) => {}
+    }
+    Ok(())
+}
+
+// One step of a disk over a path.
+fn check_step(
+    checks: &mut Checks<'_, HostRuntime>,
+    rt: &HostRuntime,
+    path: &str,
+    disk: &mut FileDisk<&HostRuntime>,
+    (name, step): (&str, Step),
+) -> Result<(), Fail> {
+    if let Step::Disk(call) = step {
+        check_call(checks, disk, &mut [], name, call);
+        return Ok(());
+    }
+    check_named(checks, rt, path, name, step)
+}
+
+const FIRST_CALLS: &[(&str, Step)] = &[
+    ("a new disk", Step::Disk(Call::Stands(0, 0))),
+    ("a stand opens nothing", Step::IsMissing(true)),
+    ("the first measuring", Step::Disk(Call::Len(Ok(0)))),
+    ("an empty file is made", Step::Size(0)),
+    (
+        "a measuring takes no moment",
+        Step::Disk(Call::Stands(0, 0)),
+    ),
+];
+
+// The steps of a disk over a path.
+fn check_steps(
+    checks: &mut Checks<'_, HostRuntime>,
+    rt: &HostRuntime,
+    path: &str,
+    steps: &[(&str, Step)],
+) -> Result<(), Fail> {
+    let mut disk = over(rt, path)?;
+    for step in steps {
+        check_step(checks, rt, path, &mut disk, *step)?;
+    }
+    Ok(())
 }
 
 #[test]
 fn the_first_call_makes_an_empty_file(rt: HostRuntime) -> Result<(), Fail> {
     let mut checks = Checks::new(&rt);
-    let path = "out/made_by_len";
-    let mut disk = shared(over_none(&rt, path)?);
-    let first = Stand {
-        moment: 0,
-        faults: 0,
-    };
-    checks.same(disk.stand(), first);
-    checks.same_at("a stand opens nothing", !fs::exists(&rt, path)?, true);
-    checks.same(disk.len(), Ok(0));
-    checks.same(fs::metadata(&rt, path)?.len(), 0);
-    checks.same(disk.stand(), first);
-    let _ = fs::remove_file(&rt, path);
+    clear(&rt, "out/made_by_len")?;
+    check_steps(&mut checks, &rt, "out/made_by_len", FIRST_CALLS)?;
+    clear(&rt, "out/made_by_len")?;
     Ok(checks.end()?)
 }
+
+const WRITTEN_AND_SYNCED: Calls = &[
+    ("a write of four bytes", Call::Write(0, b"abcd", Ok(()))),
+    ("a write without a byte", Call::Write(9, b"", Ok(()))),
+    ("a sync", Call::Sync(Ok(()))),
+    ("two moments each", Call::Stands(6, 0)),
+];
+
+const READ_AGAIN: Calls = &[
+    ("a read to the end", Call::Read(1, Ok(3))),
+    ("what it read", Call::Holds(b"bcd\0\0\0\0\0")),
+    ("a read at the end", Call::Read(4, Ok(0))),
+    ("a measuring", Call::Len(Ok(4))),
+];
 
 #[test]
 fn the_next_disk_reads_what_was_synced(rt: HostRuntime) -> Result<(), Fail> {
     let mut checks = Checks::new(&rt);
-    let path = "out/kept";
-    let mut first = over_none(&rt, path)?;
-    checks.same(first.write_at(0, b"abcd"), Ok(()));
-    checks.same(first.write_at(9, b""), Ok(()));
-    checks.same(first.sync(), Ok(()));
-    checks.same(
-        first.stand(),
-        Stand {
-            moment: 6,
-            faults: 0,
-        },
-    );
-    drop(first);
-    let mut second = over(&rt, path)?;
-    let mut buffer = [0; 8];
-    checks.same(second.read_at(1, &mut buffer), Ok(3));
-    checks.same(buffer, *b"bcd\0\0\0\0\0");
-    checks.same(second.read_at(4, &mut buffer), Ok(0));
-    checks.same(second.len(), Ok(4));
-    let _ = fs::remove_file(&rt, path);
+    clear(&rt, "out/kept")?;
+    check_over(&mut checks, &rt, "out/kept", &mut [], WRITTEN_AND_SYNCED)?;
+    check_over(&mut checks, &rt, "out/kept", &mut [0; 8], READ_AGAIN)?;
+    clear(&rt, "out/kept")?;
     Ok(checks.end()?)
 }
+
+const PAST_THE_END: Calls = &[
+    ("a write past the end", Call::Write(2, b"Q", Ok(()))),
+    ("a read of all", Call::Read(0, Ok(3))),
+    ("zeros before it", Call::Holds(b"\0\0Q\x01")),
+];
 
 #[test]
 fn a_write_past_the_end_leaves_zeros(rt: HostRuntime) -> Result<(), Fail> {
     let mut checks = Checks::new(&rt);
-    let path = "out/gap";
-    let mut disk = over_none(&rt, path)?;
-    checks.same(disk.write_at(2, b"Q"), Ok(()));
-    let mut buffer = [1; 4];
-    checks.same(disk.read_at(0, &mut buffer), Ok(3));
-    checks.same(buffer, *b"\0\0Q\x01");
-    let _ = fs::remove_file(&rt, path);
+    clear(&rt, "out/gap")?;
+    check_over(&mut checks, &rt, "out/gap", &mut [1; 4], PAST_THE_END)?;
+    clear(&rt, "out/gap")?;
     Ok(checks.end()?)
 }
+
+const BEYOND: u64 = 1 << 63;
+
+const BEYOND_THE_SYSTEM: Calls = &[
+    ("a read", Call::Read(BEYOND, Err(Failed))),
+    ("a write", Call::Write(BEYOND, b"Q", Err(Failed))),
+    (
+        "a write without a byte",
+        Call::Write(BEYOND, b"", Err(Failed)),
+    ),
+    ("three faults", Call::Stands(4, 3)),
+];
 
 #[test]
 fn an_offset_beyond_the_system_fails(rt: HostRuntime) -> Result<(), Fail> {
     let mut checks = Checks::new(&rt);
-    let path = "out/beyond";
-    let mut disk = over_none(&rt, path)?;
-    let mut buffer = [0; 4];
-    let beyond = 1 << 63;
-    checks.same(disk.read_at(beyond, &mut buffer), Err(Failed));
-    checks.same(disk.write_at(beyond, b"Q"), Err(Failed));
-    checks.same(disk.write_at(beyond, b""), Err(Failed));
-    checks.same(
-        disk.stand(),
-        Stand {
-            moment: 4,
-            faults: 3,
-        },
-    );
-    let _ = fs::remove_file(&rt, path);
+    clear(&rt, "out/beyond")?;
+    check_over(
+        &mut checks,
+        &rt,
+        "out/beyond",
+        &mut [0; 4],
+        BEYOND_THE_SYSTEM,
+    )?;
+    clear(&rt, "out/beyond")?;
     Ok(checks.end()?)
+}
+
+const FIRST_DISK: Calls = &[("the first disk measures", Call::Len(Ok(0)))];
+
+const LOCKED: Calls = &[
+    ("the second disk measures", Call::Len(Err(Failed))),
+    ("it reads", Call::Read(0, Err(Failed))),
+    ("it writes", Call::Write(0, b"b", Err(Failed))),
+    ("it syncs", Call::Sync(Err(Failed))),
+    ("four faults", Call::Stands(4, 4)),
+];
+
+const UNLOCKED: Calls = &[
+    ("it measures after the first is dropped", Call::Len(Ok(0))),
+    ("no further fault", Call::Faults(4)),
+];
+
+// Calls of a second disk over a path before and after the first is dropped.
+fn check_second(
+    checks: &mut Checks<'_, HostRuntime>,
+    mut second: FileDisk<&HostRuntime>,
+    first: FileDisk<&HostRuntime>,
+) {
+    check_calls(checks, &mut second, &mut [0; 4], LOCKED);
+    drop(first);
+    check_calls(checks, &mut second, &mut [0; 4], UNLOCKED);
 }
 
 #[test]
 fn a_second_disk_fails_until_the_first_is_dropped(rt: HostRuntime) -> Result<(), Fail> {
     let mut checks = Checks::new(&rt);
-    let path = "out/locked";
-    let mut first = over_none(&rt, path)?;
-    checks.same(first.len(), Ok(0));
-    let mut second = over(&rt, path)?;
-    let mut buffer = [0; 4];
-    checks.same(second.len(), Err(Failed));
-    checks.same(second.read_at(0, &mut buffer), Err(Failed));
-    checks.same(second.write_at(0, b"b"), Err(Failed));
-    checks.same(second.sync(), Err(Failed));
-    checks.same(
-        second.stand(),
-        Stand {
-            moment: 4,
-            faults: 4,
-        },
-    );
-    drop(first);
-    checks.same(second.len(), Ok(0));
-    checks.same(second.stand().faults, 4);
-    let _ = fs::remove_file(&rt, path);
+    clear(&rt, "out/locked")?;
+    let second = over(&rt, "out/locked")?;
+    let mut first = over(&rt, "out/locked")?;
+    check_calls(&mut checks, &mut first, &mut [], FIRST_DISK);
+    check_second(&mut checks, second, first);
+    clear(&rt, "out/locked")?;
     Ok(checks.end()?)
 }
+
+const NOT_REGULAR: Calls = &[
+    ("a sync", Call::Sync(Err(Failed))),
+    ("a measuring", Call::Len(Err(Failed))),
+    ("two faults", Call::Stands(2, 2)),
+];
 
 #[test]
 fn no_file_but_a_regular_one_is_a_disk(rt: HostRuntime) -> Result<(), Fail> {
     let mut checks = Checks::new(&rt);
     fs::create_dir_all(&rt, "out")?;
     for path in ["out", "/dev/null", "out/no_folder/file", ""] {
-        let mut disk = over(&rt, path)?;
-        checks.same_at(path, disk.sync(), Err(Failed));
-        checks.same_at(path, disk.len(), Err(Failed));
-        checks.same(
-            disk.stand(),
-            Stand {
-                moment: 2,
-                faults: 2,
-            },
-        );
+        check_over(&mut checks, &rt, path, &mut [], NOT_REGULAR)?;
     }
     Ok(checks.end()?)
 }
+
+const THROUGH_A_LINK: Calls = &[("a write", Call::Write(0, b"abc", Ok(())))];
 
 #[test]
 fn a_link_is_followed(rt: HostRuntime) -> Result<(), Fail> {
     let mut checks = Checks::new(&rt);
     let link = "out/link";
     let target = "out/linked";
-    let mut disk = over_none(&rt, link)?;
-    let _ = fs::remove_file(&rt, target);
+    clear(&rt, link)?;
+    clear(&rt, target)?;
     symlink(&rt, "linked", link)?;
-    checks.same(disk.write_at(0, b"abc"), Ok(()));
-    checks.same(fs::metadata(&rt, target)?.len(), 3);
-    checks.same_at(
-        "the link stays",
-        fs::symlink_metadata(&rt, link)?.is_symlink(),
-        true,
-    );
-    let _ = fs::remove_file(&rt, link);
-    let _ = fs::remove_file(&rt, target);
+    check_over(&mut checks, &rt, link, &mut [], THROUGH_A_LINK)?;
+    check_named(
+        &mut checks,
+        &rt,
+        target,
+        "the target is written",
+        Step::Size(3),
+    )?;
+    check_named(&mut checks, &rt, link, "the link stays", Step::IsLink(true))?;
+    clear(&rt, link)?;
+    clear(&rt, target)?;
     Ok(checks.end()?)
 }

@@ -2,9 +2,13 @@
 #![tactic(auto)]
 
 #[cfg(test)]
+mod disk_calls;
+#[cfg(test)]
 mod disks;
 #[cfg(test)]
 mod file_disks;
+#[cfg(test)]
+mod folders;
 #[cfg(test)]
 mod links;
 #[cfg(test)]

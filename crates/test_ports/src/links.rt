@@ -22,22 +22,81 @@ fn two_responses(alloc: Global) -> Result<Wire, NoMemory> {
     Wire::new(alloc, responses, vec![in alloc; 1]?)
 }
 
+// A call of a link, and what it answers.
+#[derive(Clone, Copy)]
+enum Call {
+    // A connect to a host.
+    Connect(&'static [u8], Result<(), Failed>),
+    // A send.
+    Send(&'static [u8], Result<usize, Failed>),
+    // A receive into the buffer: how many bytes it gives.
+    Recv(Result<usize, Failed>),
+    // A connect, a send and a receive.
+    Ask(Result<usize, Failed>),
+    // The first bytes of the buffer.
+    Front(&'static [u8]),
+    Pause,
+}
+
+// Calls in their order, each with its name.
+type Calls = &'static [(&'static str, Call)];
+
+// One call of a link at a port answers as its row says.
+fn check_call<L: Link, R: Print>(
+    checks: &mut Checks<'_, R>,
+    link: &mut L,
+    port: u16,
+    buffer: &mut [u8],
+    (name, call): (&str, Call),
+) {
+    match call {
+        Call::Connect(host, want) => checks.same_at(name, link.connect(host, port), want),
+        Call::Send(bytes, want) => checks.same_at(name, link.send(bytes), want),
+        Call::Recv(want) => checks.same_at(name, link.recv(buffer), want),
+        Call::Ask(want) => checks.same_at(name, ask(link, port, buffer), want),
+        Call::Front(want) => checks.same_at(name, buffer.get(..want.len()), Some(want)),
+        Call::Pause => link.pause(),
+    }
+}
+
+// Calls of a link at a port, with a buffer for what it receives, answer as their rows say.
+fn check_calls<L: Link, R: Print>(
+    checks: &mut Checks<'_, R>,
+    link: &mut L,
+    port: u16,
+    buffer: &mut [u8],
+    calls: Calls,
+) {
+    for call in calls {
+        check_call(checks, link, port, buffer, *call);
+    }
+}
+
+const WIRE_CALLS: Calls = &[
+    ("a connect that fails", Call::Ask(Err(Failed))),
+    ("the first response", Call::Ask(Ok(2))),
+    ("its first bytes", Call::Front(b"ab")),
+    ("what was left is dropped", Call::Ask(Ok(2))),
+    ("the second response", Call::Front(b"de")),
+    ("nothing is left", Call::Recv(Err(Failed))),
+    ("a pause", Call::Pause),
+];
+
+// What a wire kept of its calls.
+fn check_kept<R: Print>(checks: &mut Checks<'_, R>, wire: &Wire) {
+    checks.same_at("faults", wire.faults(), 2);
+    checks.same_at("calls", wire.calls().len(), 9);
+    let is_pause = matches!(wire.calls().last(), Some(LinkCall::Paused));
+    checks.same_at("the last is the pause", is_pause, true);
+}
+
 #[test]
 fn a_wire_gives_its_responses(rt: HostRuntime) -> Result<(), Fail> {
     let mut checks = Checks::new(&rt);
     let mut wire = shared(two_responses(rt.alloc())?);
-    let mut buffer = [0; 2];
-    checks.same(ask(&mut wire, 502, &mut buffer), Err(Failed));
-    checks.same(ask(&mut wire, 502, &mut buffer), Ok(2));
-    checks.same(buffer, *b"ab");
-    // What was left is dropped.
-    checks.same(ask(&mut wire, 502, &mut buffer), Ok(2));
-    checks.same(buffer, *b"de");
-    checks.same(wire.recv(&mut buffer), Err(Failed));
-    wire.pause();
-    checks.same(wire.faults(), 2);
-    checks.same(wire.calls().len(), 9);
-    checks.same(matches!(wire.calls().last(), Some(LinkCall::Paused)), true);
+    check_calls(&mut checks, &mut wire, 502, &mut [0; 2], WIRE_CALLS);
+    check_kept(&mut checks, &wire);
+    drop(wire);
     Ok(checks.end()?)
 }
 
@@ -65,26 +124,54 @@ fn device_of<R: Net>(rt: &R) -> io::Result<(R::Listener, u16)> {
     Ok((device, port))
 }
 
+const ASKED: Calls = &[
+    ("a send before a connect", Call::Send(b"", Err(Failed))),
+    ("a connect", Call::Connect(b"127.0.0.1", Ok(()))),
+    ("a send", Call::Send(b"ask", Ok(3))),
+];
+
+const ANSWERED: Calls = &[
+    ("what the device read", Call::Front(b"ask")),
+    ("a receive", Call::Recv(Ok(5))),
+    ("what it gave", Call::Front(b"level")),
+    ("a pause", Call::Pause),
+];
+
+const AT_THE_END: Calls = &[("a receive at the end", Call::Recv(Err(Failed)))];
+
+const NOBODY_LISTENS: Calls = &[
+    ("nobody listens any more", Call::Ask(Err(Failed))),
+    (
+        "a host has to be a text",
+        Call::Connect(&[255], Err(Failed)),
+    ),
+];
+
+// A request to a device and its answer.
+fn check_asked(
+    checks: &mut Checks<'_, HostRuntime>,
+    link: &mut TcpLink<&HostRuntime>,
+    device: &TcpListener,
+    port: u16,
+) {
+    let mut buffer = [0; 8];
+    check_calls(checks, link, port, &mut buffer, ASKED);
+    let read = answer_one(device, &mut buffer).unwrap_or(0);
+    checks.same_at("the device reads", read, 3);
+    check_calls(checks, link, port, &mut buffer, ANSWERED);
+    checks.same_at("one fault", link.faults(), 1);
+    check_calls(checks, link, port, &mut buffer, AT_THE_END);
+}
+
 #[test]
 fn a_device_is_asked_over_tcp(rt: HostRuntime) -> Result<(), Fail> {
     let mut checks = Checks::new(&rt);
     let (device, port) = device_of(&rt)?;
     let mut link = shared(TcpLink::new(&rt));
-    let mut buffer = [0; 8];
-    checks.same(link.send(b""), Err(Failed));
-    checks.same(link.connect(b"127.0.0.1", port), Ok(()));
-    checks.same(link.send(b"ask"), Ok(3));
-    checks.same(answer_one(&device, &mut buffer).unwrap_or(0), 3);
-    checks.same(&buffer[..3], b"ask".as_slice());
-    checks.same(link.recv(&mut buffer), Ok(5));
-    checks.same(&buffer[..5], b"level".as_slice());
-    link.pause();
-    checks.same(link.faults(), 1);
-    checks.same(link.recv(&mut buffer), Err(Failed));
-    // Nobody listens there any more, and a host has to be a text.
+    check_asked(&mut checks, &mut link, &device, port);
     drop(device);
-    checks.same(ask(&mut link, port, &mut buffer), Err(Failed));
-    checks.same(link.connect(&[255], port), Err(Failed));
-    checks.same(link.faults(), 4);
+    check_calls(&mut checks, &mut link, port, &mut [0; 8], NOBODY_LISTENS);
+    checks.same_at("four faults", link.faults(), 4);
+    drop(link);
     Ok(checks.end()?)
 }

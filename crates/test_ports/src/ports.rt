@@ -1,18 +1,16 @@
-//! Sources, sinks, folders and clocks, in memory and real.
+//! Sources and sinks, in memory and real.
 
-ghost use Rattle.std.specs.Prelude.{ℕ, List, IfOk, OnOk};
-ghost use Rattle.farm_base.specs.Known.{Adds, Takes, WhereKnown};
-ghost use Rattle.farm_ports.specs.Folders.{ReadsFile};
+ghost use Rattle.std.specs.Prelude.{ℕ, List, OnOk};
+ghost use Rattle.farm_base.specs.Known.{Adds, Takes};
 
 use farm_base::NoMemory;
 use farm_ports::{
-    Clock, DirFolder, Failed, Files, Fixed, Folder, FolderFault, Gather, Port, PortFault, Script,
-    Sink, Source, StdSink, StdSource, SystemClock, put_all, read_up_to,
+    Failed, Gather, Port, PortFault, Script, Sink, Source, StdSink, StdSource, put_all, read_up_to,
 };
-use std::alloc::{AllocError, Global};
+use std::alloc::Global;
+use std::io;
 use std::io::Read;
 use std::test::Fail;
-use std::{fs, io};
 use test_checks::{Checks, shared};
 
 // "ab", then a piece without a byte, then "cde"; the second take fails.
@@ -25,43 +23,128 @@ fn three_pieces(alloc: Global) -> Result<Script, NoMemory> {
     Script::new(alloc, pieces, vec![in alloc; 2]?)
 }
 
+// A call of a script, and what it answers.
+#[derive(Clone, Copy)]
+enum ScriptCall {
+    // A take into the buffer: how many bytes it gives.
+    Take(Result<usize, Failed>),
+    // The first bytes of the buffer.
+    Front(&'static [u8]),
+    Taken(&'static [u8]),
+    Left(&'static [u8]),
+    Faults(u64),
+}
+
+// One call of a script answers as its row says.
+fn check_script_call<R: Print>(
+    checks: &mut Checks<'_, R>,
+    script: &mut Script,
+    buffer: &mut [u8],
+    (name, call): (&str, ScriptCall),
+) {
+    match call {
+        ScriptCall::Take(want) => checks.same_at(name, script.take(buffer), want),
+        ScriptCall::Front(want) => checks.same_at(name, buffer.get(..want.len()), Some(want)),
+        ScriptCall::Taken(want) => checks.same_at(name, script.taken(), want),
+        ScriptCall::Left(want) => checks.same_at(name, script.left(), want),
+        ScriptCall::Faults(want) => checks.same_at(name, script.faults(), want),
+    }
+}
+
+// Calls of a script with a buffer for its takes.
+fn check_script<R: Print>(
+    checks: &mut Checks<'_, R>,
+    script: &mut Script,
+    buffer: &mut [u8],
+    calls: &[(&str, ScriptCall)],
+) {
+    for call in calls {
+        check_script_call(checks, script, buffer, *call);
+    }
+}
+
+const PIECE_BY_PIECE: &[(&str, ScriptCall)] = &[
+    ("the first piece", ScriptCall::Take(Ok(2))),
+    ("a take that fails", ScriptCall::Take(Err(Failed))),
+    ("the third piece", ScriptCall::Take(Ok(3))),
+    ("the end", ScriptCall::Take(Ok(0))),
+    ("the buffer", ScriptCall::Front(b"cde")),
+    ("what was taken", ScriptCall::Taken(b"abcde")),
+    ("what is left", ScriptCall::Left(b"")),
+    ("one fault", ScriptCall::Faults(1)),
+];
+
 #[test]
 fn a_script_gives_piece_by_piece(rt: HostRuntime) -> Result<(), Fail> {
     let mut checks = Checks::new(&rt);
     let mut script = shared(three_pieces(rt.alloc())?);
-    let mut buffer = [0; 8];
-    let counts = [Ok(2), Err(Failed), Ok(3), Ok(0)];
-    for (take, want) in counts.iter().enumerate() {
-        checks.same_at(take, script.take(&mut buffer), *want);
-    }
-    checks.same(&buffer[..3], b"cde".as_slice());
-    checks.same(script.taken(), b"abcde".as_slice());
-    checks.same(script.left(), b"".as_slice());
-    checks.same(script.faults(), 1);
+    check_script(&mut checks, &mut script, &mut [0; 8], PIECE_BY_PIECE);
+    drop(script);
     Ok(checks.end()?)
 }
+
+const ONE_BYTE: &[(&str, ScriptCall)] = &[
+    ("a take", ScriptCall::Take(Ok(1))),
+    ("what was taken", ScriptCall::Taken(b"a")),
+    ("what is left", ScriptCall::Left(b"bcde")),
+];
 
 #[test]
 fn a_small_buffer_is_filled(rt: HostRuntime) -> Result<(), Fail> {
     let mut checks = Checks::new(&rt);
     let mut script = three_pieces(rt.alloc())?;
-    let mut buffer = [0; 1];
-    checks.same(script.take(&mut buffer), Ok(1));
-    checks.same(script.taken(), b"a".as_slice());
-    checks.same(script.left(), b"bcde".as_slice());
+    check_script(&mut checks, &mut script, &mut [0; 1], ONE_BYTE);
+    drop(script);
     Ok(checks.end()?)
 }
+
+// A put, and what it answers.
+#[derive(Clone, Copy)]
+enum Put {
+    // By one call.
+    Some(&'static [u8], Result<usize, Failed>),
+    // Of all bytes.
+    All(&'static [u8], Result<(), Failed>),
+}
+
+// One put answers as its row says.
+fn check_put<K: Sink, R: Print>(
+    checks: &mut Checks<'_, R>,
+    sink: &mut K,
+    (name, put): (&str, Put),
+) {
+    match put {
+        Put::Some(bytes, want) => checks.same_at(name, sink.put(bytes), want),
+        Put::All(bytes, want) => checks.same_at(name, put_all(sink, bytes), want),
+    }
+}
+
+// Puts to a sink answer as their rows say.
+fn check_puts<K: Sink, R: Print>(checks: &mut Checks<'_, R>, sink: &mut K, puts: &[(&str, Put)]) {
+    for put in puts {
+        check_put(checks, sink, *put);
+    }
+}
+
+// A gather whose puts of these numbers fail.
+fn gather_of(alloc: Global, fails: &[u64]) -> Result<Gather, NoMemory> {
+    Ok(shared(Gather::new(alloc, fails.to_vec(alloc)?)?))
+}
+
+const GATHERED: &[(&str, Put)] = &[
+    ("a put", Put::Some(b"ab", Ok(2))),
+    ("a put that fails", Put::Some(b"lost", Err(Failed))),
+    ("a put of all", Put::All(b"cd", Ok(()))),
+];
 
 #[test]
 fn a_gather_keeps_what_it_takes(rt: HostRuntime) -> Result<(), Fail> {
     let mut checks = Checks::new(&rt);
-    let alloc = rt.alloc();
-    let mut gather = shared(Gather::new(alloc, vec![in alloc; 2]?)?);
-    checks.same(gather.put(b"ab"), Ok(2));
-    checks.same(gather.put(b"lost"), Err(shared(Failed)));
-    checks.same(put_all(&mut gather, b"cd"), Ok(()));
-    checks.same(gather.bytes(), b"abcd".as_slice());
-    checks.same(gather.faults(), 1);
+    let mut gather = gather_of(rt.alloc(), &[2])?;
+    check_puts(&mut checks, &mut gather, GATHERED);
+    checks.same_at("what was gathered", gather.bytes(), b"abcd".as_slice());
+    checks.same_at("one fault", gather.faults(), 1);
+    drop(gather);
     Ok(checks.end()?)
 }
 
@@ -75,34 +158,64 @@ fn relay<S: Source, K: Sink>(alloc: Global, source: &mut S, sink: &mut K) -> Res
     Ok(())
 }
 
+// What each relay answers, and what the sink then has.
+const RELAYS: &[(&str, Result<(), PortFault>, &[u8])] = &[
+    ("a take fails", Err(PortFault::Failed), b""),
+    ("the rest", Ok(()), b"cde"),
+];
+
+// Each relay from a script to a gather.
+fn check_relays<R: Print>(
+    checks: &mut Checks<'_, R>,
+    alloc: Global,
+    script: &mut Script,
+    gather: &mut Gather,
+) {
+    for (name, want, held) in RELAYS {
+        checks.same_at(name, relay(alloc, script, gather), shared(*want));
+        checks.same_at(name, gather.bytes(), held);
+    }
+}
+
 #[test]
 fn a_relay_goes_on_after_a_fault(rt: HostRuntime) -> Result<(), Fail> {
     let mut checks = Checks::new(&rt);
-    let alloc = rt.alloc();
-    let mut script = three_pieces(alloc)?;
-    let mut gather = Gather::new(alloc, Vec::new(alloc))?;
-    let failed = relay(alloc, &mut script, &mut gather);
-    checks.same(failed, Err(shared(PortFault::Failed)));
-    checks.same(gather.bytes(), b"".as_slice());
-    relay(alloc, &mut script, &mut gather)?;
-    checks.same(gather.bytes(), b"cde".as_slice());
+    let mut script = three_pieces(rt.alloc())?;
+    let mut gather = gather_of(rt.alloc(), &[])?;
+    check_relays(&mut checks, rt.alloc(), &mut script, &mut gather);
+    drop(gather);
+    drop(script);
     Ok(checks.end()?)
 }
+
+// Reads of up to a number of bytes from a source, and the bytes that each gives.
+fn check_reads<S: Source, R: Print>(
+    checks: &mut Checks<'_, R>,
+    alloc: Global,
+    source: &mut S,
+    most: usize,
+    reads: &[(&str, &[u8])],
+) {
+    for (name, want) in reads {
+        let read = read_up_to(alloc, source, most);
+        checks.same_at(name, read.as_deref(), Ok(want));
+    }
+}
+
+// A script of the pieces "ab" and "cde".
+fn two_pieces(alloc: Global) -> Result<Script, NoMemory> {
+    let pieces = vec![in alloc; b"ab".to_vec(alloc)?, b"cde".to_vec(alloc)?]?;
+    Script::new(alloc, pieces, Vec::new(alloc))
+}
+
+const READS: &[(&str, &[u8])] = &[("two pieces", b"abcd"), ("what is left", b"e")];
 
 #[test]
 fn a_read_stops_at_its_bound(rt: HostRuntime) -> Result<(), Fail> {
     let mut checks = Checks::new(&rt);
-    let alloc = rt.alloc();
-    let pieces = vec![in alloc; b"ab".to_vec(alloc)?, b"cde".to_vec(alloc)?]?;
-    let mut script = Script::new(alloc, pieces, Vec::new(alloc))?;
-    checks.same(
-        read_up_to(alloc, &mut script, 4)?.as_slice(),
-        b"abcd".as_slice(),
-    );
-    checks.same(
-        read_up_to(alloc, &mut script, 4)?.as_slice(),
-        b"e".as_slice(),
-    );
+    let mut script = two_pieces(rt.alloc())?;
+    check_reads(&mut checks, rt.alloc(), &mut script, 4, READS);
+    drop(script);
     Ok(checks.end()?)
 }
 
@@ -110,8 +223,7 @@ fn a_read_stops_at_its_bound(rt: HostRuntime) -> Result<(), Fail> {
 fn a_reader_is_a_source(rt: HostRuntime) -> Result<(), Fail> {
     let mut checks = Checks::new(&rt);
     let mut source = shared(StdSource::new(b"abc".as_slice()));
-    let bytes = read_up_to(rt.alloc(), &mut source, 10)?;
-    checks.same(bytes.as_slice(), b"abc".as_slice());
+    check_reads(&mut checks, rt.alloc(), &mut source, 10, &[("all", b"abc")]);
     checks.same(source.faults(), 0);
     Ok(checks.end()?)
 }
@@ -135,120 +247,18 @@ fn a_failed_read_is_counted(rt: HostRuntime) -> Result<(), Fail> {
     Ok(checks.end()?)
 }
 
+const UNTIL_FULL: &[(&str, Put)] = &[
+    ("as much as there is room", Put::All(b"abc", Ok(()))),
+    ("a byte more", Put::Some(b"d", Err(Failed))),
+];
+
 #[test]
 fn a_writer_is_a_sink_until_it_is_full(rt: HostRuntime) -> Result<(), Fail> {
     let mut checks = Checks::new(&rt);
     let mut room = [0; 3];
     let mut sink = shared(StdSink::new(&mut room[..]));
-    checks.same(put_all(&mut sink, b"abc"), Ok(()));
-    checks.same(sink.put(b"d"), Err(Failed));
-    checks.same(sink.faults(), 1);
-    checks.same(room, *b"abc");
-    Ok(checks.end()?)
-}
-
-// The first four bytes of a file.
-fn first_four<F: Folder>(folder: &mut F, alloc: Global, name: &str) -> Result<Vec<u8>, FolderFault>
-    ensures known { IfOk result (λ bytes. WhereKnown (F.files folder.new) (ReadsFile name.now 4 bytes.items)) }
-{
-    folder.read(alloc, name, 4)
-}
-
-// A file of a name and bytes.
-fn file(alloc: Global, name: &str, bytes: &[u8]) -> Result<(String, Vec<u8>), AllocError> {
-    Ok((String::from_str(alloc, name)?, bytes.to_vec(alloc)?))
-}
-
-// A long file, two files of one name, and a file without a byte; the second read fails.
-fn four_files(alloc: Global) -> Result<Files, NoMemory> {
-    let files = vec![in alloc;
-        file(alloc, "long", b"abcdef")?,
-        file(alloc, "twice", b"one")?,
-        file(alloc, "twice", b"two")?,
-        file(alloc, "none", b"")?,
-    ]?;
-    Files::new(alloc, files, vec![in alloc; 2]?)
-}
-
-#[test]
-fn a_folder_in_memory_is_read_by_name(rt: HostRuntime) -> Result<(), Fail> {
-    let mut checks = Checks::new(&rt);
-    let alloc = rt.alloc();
-    let mut files = shared(four_files(alloc)?);
-    for name in ["lone", "long"] {
-        let read = first_four(&mut files, alloc, name);
-        checks.same_at(name, read, Err(PortFault::Failed));
-    }
-    for (name, want) in [("long", "abcd"), ("twice", "one"), ("none", "")] {
-        let read = first_four(&mut files, alloc, name)?;
-        checks.same_at(name, read.as_slice(), want.as_bytes());
-    }
-    checks.same(files.faults(), 2);
-    Ok(checks.end()?)
-}
-
-// Tests write below out/, which is never committed.
-#[test]
-fn a_folder_of_the_system_is_read_by_name(rt: HostRuntime) -> Result<(), Fail> {
-    let mut checks = Checks::new(&rt);
-    let alloc = rt.alloc();
-    fs::create_dir_all(&rt, "out/site/tables")?;
-    fs::write(&rt, "out/site/tables/long", "abcdef")?;
-    fs::write(&rt, "out/site/short", "abc")?;
-    let mut folder = shared(DirFolder::new(&rt, String::from_str(alloc, "out/site")?));
-    for (name, want) in [("tables/long", "abcd"), ("short", "abc")] {
-        let read = first_four(&mut folder, alloc, name)?;
-        checks.same_at(name, read.as_slice(), want.as_bytes());
-    }
-    checks.same(folder.faults(), 0);
-    // A name that no file has, a directory, and a name that the system refuses.
-    for (count, name) in [(1, "long"), (2, "tables"), (3, "a\0b")] {
-        let read = first_four(&mut folder, alloc, name);
-        checks.same_at(name, read, Err(PortFault::Failed));
-        checks.same(folder.faults(), count);
-    }
-    Ok(checks.end()?)
-}
-
-// More than four megabytes, in a file whose length is no multiple of what a read takes at once.
-#[test]
-fn a_large_file_is_read_whole(rt: HostRuntime) -> Result<(), Fail> {
-    let mut checks = Checks::new(&rt);
-    let alloc = rt.alloc();
-    let mut written = Vec::new(alloc);
-    for index in 0..4_200_001u32 {
-        written.push((index % 251) as u8)?;
-    }
-    fs::create_dir_all(&rt, "out")?;
-    fs::write(&rt, "out/large", written.as_slice())?;
-    let mut folder = DirFolder::new(&rt, String::from_str(alloc, "out")?);
-    let read = folder.read(alloc, "large", usize::MAX)?;
-    checks.same(read.as_slice() == written.as_slice(), true);
-    Ok(checks.end()?)
-}
-
-// What a clock gives.
-fn given<C: Clock>(clock: &C) -> i64
-    ensures { C.may_give clock.now result }
-{
-    clock.now()
-}
-
-#[test]
-fn a_fixed_clock_gives_its_moment(rt: HostRuntime) -> Result<(), Fail> {
-    let mut checks = Checks::new(&rt);
-    for moment in [1_790_000_000, 0, -86_400] {
-        let clock = shared(Fixed::new(rt.alloc(), moment)?);
-        checks.same(given(&clock), moment);
-        checks.same(given(&clock), moment);
-    }
-    Ok(checks.end()?)
-}
-
-#[test]
-fn the_clock_of_the_system_is_past_2020(rt: HostRuntime) -> Result<(), Fail> {
-    let mut checks = Checks::new(&rt);
-    let clock = shared(SystemClock::new(&rt));
-    checks.same(given(&clock) > 1_600_000_000, true);
+    check_puts(&mut checks, &mut sink, UNTIL_FULL);
+    checks.same_at("one fault", sink.faults(), 1);
+    checks.same_at("what was written", room, *b"abc");
     Ok(checks.end()?)
 }

@@ -1,9 +1,14 @@
 -- Answers to the open goals of `laws`.
-use Rattle.std.proofs.Common.{refl}
-use Rattle.serde_json.proofs.OnLiterals.{serde_json_on_literals}
-use Rattle.farm_http.specs.PageTexts.{body_text}
+use Rattle.farm_http.proofs.Bodies.{gain_in_bytes, place_in_bytes, refusal_in_bytes, status_in_bytes, stock_in_bytes, ticket_in_bytes, total_in_bytes}
 use Rattle.farm_http.proofs.answers.laws.Goals as goal
 
 pub returns : goal.returns
-unfolding body_text serde_json_on_literals
-returns c = record { place = λ place. refl }
+returns c = record {
+  place = place_in_bytes;
+  ticket = ticket_in_bytes;
+  gain = gain_in_bytes;
+  stock = stock_in_bytes;
+  total = total_in_bytes;
+  refusal = refusal_in_bytes;
+  status = status_in_bytes;
+}
