@@ -102,19 +102,6 @@ fn roof() -> Result<Roof, OutOfRange> {
     })
 }
 
-// A bare shell under this roof.
-fn tank_under(roof: Roof) -> Result<TankSpec, OutOfRange> {
-    Ok(TankSpec {
-        shell: Shell {
-            insulated: false,
-            coefficient: 112,
-            reference: Centi::new(1_500)?,
-        },
-        height: Mm::new(15_000)?,
-        roof: Some(roof),
-    })
-}
-
 // A value may go to another thread.
 fn check_shared<T: Send + Sync + Copy + PartialEq + Debug + Drop, R: Print>(
     checks: &mut Checks<'_, R>,
@@ -128,7 +115,16 @@ fn check_shared<T: Send + Sync + Copy + PartialEq + Debug + Drop, R: Print>(
 fn tanks_and_roofs_may_go_to_another_thread(rt: HostRuntime) -> Result<(), Fail> {
     let mut checks = Checks::new(&rt);
     let roof = roof()?;
+    let tank = TankSpec {
+        shell: Shell {
+            insulated: false,
+            coefficient: 112,
+            reference: Centi::new(1_500)?,
+        },
+        height: Mm::new(15_000)?,
+        roof: Some(roof),
+    };
     check_shared(&mut checks, "a roof", roof);
-    check_shared(&mut checks, "a tank", tank_under(roof)?);
+    check_shared(&mut checks, "a tank", tank);
     Ok(checks.end()?)
 }

@@ -59,27 +59,21 @@ fn reading(level: i64, water: i64) -> Result<Reading, Fail> {
 // A level and water in mm, and a density in 0.1 kg/m3.
 type Gauged = (i64, i64, i64);
 
-// The figures of a reading of that tank on this table and these factors.
-fn figures_on(
-    table: &CapTable,
-    vcf: &Vcf,
+// The figures of a reading of that tank.
+fn figures_at(
+    alloc: Global,
     (level, water, density): Gauged,
 ) -> Result<Result<Quantities, ChainRule>, Fail> {
-    let tank = tank()?;
-    let reading = reading(level, water)?;
     let sample = Sample {
         density: Dens::new(density)?,
         sw: Permil5::new(0)?,
     };
+    let tank = tank()?;
+    let reading = reading(level, water)?;
     let rounding = RoundTable::usual();
-    Ok(quantities(&tank, table, vcf, &rounding, &reading, &sample))
-}
-
-// The figures of a reading of that tank.
-fn figures_at(alloc: Global, gauged: Gauged) -> Result<Result<Quantities, ChainRule>, Fail> {
     let table = table(alloc)?;
     let vcf = vcf(alloc)?;
-    figures_on(&table, &vcf, gauged)
+    Ok(quantities(&tank, &table, &vcf, &rounding, &reading, &sample))
 }
 
 // The adjustment for the roof at a level.

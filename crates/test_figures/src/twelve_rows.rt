@@ -68,8 +68,8 @@ fn reading() -> Result<Reading, Fail> {
     })
 }
 
-// The figures of that reading on this table and these factors, with 0.250 percent of sediment and water.
-fn figures_on(table: &CapTable, vcf: &Vcf) -> Result<Result<Quantities, ChainRule>, Fail> {
+// The figures of that reading, with 0.250 percent of sediment and water.
+fn figures(alloc: Global) -> Result<Result<Quantities, ChainRule>, Fail> {
     let sample = Sample {
         density: Dens::new(8_500)?,
         sw: Permil5::new(250)?,
@@ -77,14 +77,9 @@ fn figures_on(table: &CapTable, vcf: &Vcf) -> Result<Result<Quantities, ChainRul
     let tank = tank()?;
     let reading = reading()?;
     let rounding = RoundTable::new(TWELVE_ROWS)?;
-    Ok(quantities(&tank, table, vcf, &rounding, &reading, &sample))
-}
-
-// The figures of that reading.
-fn figures(alloc: Global) -> Result<Result<Quantities, ChainRule>, Fail> {
     let table = table(alloc)?;
     let vcf = vcf(alloc)?;
-    figures_on(&table, &vcf)
+    Ok(quantities(&tank, &table, &vcf, &rounding, &reading, &sample))
 }
 
 const ROUNDED: Figures = &[
