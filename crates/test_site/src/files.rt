@@ -113,14 +113,3 @@ pub const FILES: [(&str, &str); 5] = [
     ("strapping.toml", STRAPPING),
     ("table.csv", TABLE),
 ];
-
-/// Rows of the strapped tank, and their litres.
-pub const STRAPPED: [(usize, i64); 7] = [
-    (0, 0),
-    (1, 1_003),
-    (2, 2_006),
-    (20, 20_058),
-    (45, 44_879),
-    (70, 69_701),
-    (100, 99_788),
-];

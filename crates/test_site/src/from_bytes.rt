@@ -61,42 +61,61 @@ fn bytes_are_neither_missing_nor_too_many(rt: HostRuntime) -> Result<(), Fail> {
     Ok(checks.end()?)
 }
 
+// An offset, a byte that may not stand there, and what it would say.
+const BAD_BYTES: [(usize, u8, &str); 7] = [
+    (0, 2, "another format"),
+    (3, 3, "a step that no row may have"),
+    (4, 2, "another mode"),
+    (70, 2, "a product that the site doesn't have"),
+    (71, 2, "another insulation"),
+    (78, 2, "a roof that is neither there nor missing"),
+    (128, 4, "flags of no field"),
+];
+
 #[test]
 fn a_byte_that_may_not_stand_there_is_bad(rt: HostRuntime) -> Result<(), Fail> {
     let mut checks = Checks::new(&rt);
-    let cases: [(usize, u8, &str); 7] = [
-        (0, 2, "another format"),
-        (3, 3, "a step that no row may have"),
-        (4, 2, "another mode"),
-        (70, 2, "a product that the site doesn't have"),
-        (71, 2, "another insulation"),
-        (78, 2, "a roof that is neither there nor missing"),
-        (128, 4, "flags of no field"),
-    ];
-    for (offset, byte, what) in cases {
+    for (offset, byte, what) in BAD_BYTES {
         let front = bytes_from(0, offset);
-        let rest = bytes_from(offset + 1, BYTES.len());
+        let rest = bytes_from(offset.saturating_add(1), BYTES.len());
         let fault = fault_of(rt.alloc(), &[front, &[byte], rest])?;
         checks.same_at(what, fault, BAD);
     }
     Ok(checks.end()?)
 }
 
-#[test]
-fn tanks_rise_and_have_one_gauge(rt: HostRuntime) -> Result<(), Fail> {
-    let mut checks = Checks::new(&rt);
-    let alloc = rt.alloc();
+// The numbers of the tank and of the same tank once more, and why they are no site's.
+const TWO_TANKS: [(&str, u8, u8, Option<SiteBytesFault>); 3] = [
+    ("tanks in rising order", 6, 7, None),
+    ("equal tank numbers", 7, 7, BAD),
+    ("tanks in falling order", 7, 6, BAD),
+];
+
+// Why the site with its tank under two numbers is none.
+fn fault_of_tanks(alloc: Global, first: u8, second: u8) -> Result<Option<SiteBytesFault>, Fail> {
     let front = bytes_from(0, TANKS);
     let tank = bytes_from(TANK + 2, LINES);
     let lines = bytes_from(LINES, BYTES.len());
+    fault_of(
+        alloc,
+        &[front, &[2, 0, first], tank, &[0, second], tank, lines],
+    )
+}
+
+// Why the site with its gauge twice is none.
+fn fault_of_gauges(alloc: Global) -> Result<Option<SiteBytesFault>, Fail> {
     let gauge = bytes_from(GAUGE, BYTES.len());
-    let rising = fault_of(alloc, &[front, &[2, 0, 6], tank, &[0, 7], tank, lines])?;
-    checks.same(rising, None);
-    let equal = fault_of(alloc, &[front, &[2, 0, 7], tank, &[0, 7], tank, lines])?;
-    checks.same_at("equal tank numbers", equal, BAD);
-    let falling = fault_of(alloc, &[front, &[2, 0, 7], tank, &[0, 6], tank, lines])?;
-    checks.same_at("tanks in falling order", falling, BAD);
-    let twice = fault_of(alloc, &[bytes_from(0, GAUGES), &[2], gauge, gauge])?;
+    fault_of(alloc, &[bytes_from(0, GAUGES), &[2], gauge, gauge])
+}
+
+#[test]
+fn tanks_rise_and_have_one_gauge(rt: HostRuntime) -> Result<(), Fail> {
+    let mut checks = Checks::new(&rt);
+    for (name, first, second, want) in TWO_TANKS {
+        let fault = fault_of_tanks(rt.alloc(), first, second)?;
+        checks.same_at(name, fault, want);
+    }
+    let twice = fault_of_gauges(rt.alloc())?;
     checks.same_at("two gauges on one tank", twice, BAD);
     Ok(checks.end()?)
 }

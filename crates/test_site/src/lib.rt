@@ -13,3 +13,7 @@ mod files;
 mod folders;
 #[cfg(test)]
 mod from_bytes;
+#[cfg(test)]
+mod gauges;
+#[cfg(test)]
+mod parts;
