@@ -1,48 +1,46 @@
 //! Entries as bytes one by one, and the offsets of bad bytes.
 
-ghost use Rattle.farm_history.specs.Commands.{IsWellFormedCommand};
-ghost use Rattle.farm_history.specs.History.{IsMoment, IsWellFormed};
+ghost use Rattle.farm_history.specs.History.{IsWellFormed};
 
-use crate::commands::{gauged, none, one, two};
 use crate::entry_bytes::{
-    CANCEL, CLOSING, CLOSING_OF_TWO, DIP, GAUGE, LAST, RECEIPT, REVERSE, SAMPLE, SETTLE, STOP,
-    TRANSFER,
+    CANCEL, CLOSING, CLOSING_OF_TWO, DIP, LAST, RECEIPT, REVERSE, SETTLE, STOP, TRANSFER,
 };
-use farm_history::{BadEntry, Command, Entry, LAST_MOMENT, Plan};
-use farm_ticket::Way;
+use crate::entry_rows::{ENDS, Entries, MOVEMENTS, READINGS, SETTLEMENTS};
+use farm_base::NoMemory;
+use farm_history::{BadEntry, Entry};
 use std::alloc::Global;
 use std::test::Fail;
 use test_checks::{Checks, shared};
 
-// An entry of caller 0 and account 1.
-fn entry(key: u64, at: i64, cmd: Command) -> Entry
-    requires moment { IsMoment at }
-    requires command { IsWellFormedCommand cmd }
-    ensures well_formed { IsWellFormed result }
-{
-    Entry {
-        caller: 0,
-        account: 1,
-        key,
-        at,
-        cmd,
-    }
-}
-
-// An entry has these bytes, and is read from them.
-fn check_bytes<R: Print>(
-    checks: &mut Checks<'_, R>,
-    alloc: Global,
-    entry: Entry,
-    bytes: &[u8],
-) -> Result<(), Fail>
-    requires well_formed { IsWellFormed entry }
+// The bytes of an entry.
+fn written(alloc: Global, entry: &Entry) -> Result<Vec<u8>, NoMemory>
+    requires { IsWellFormed entry.now }
 {
     let mut out = Vec::new(alloc);
     entry.write(&mut out)?;
-    checks.same(out.as_slice(), bytes);
-    checks.same(shared(Entry::read(bytes)), Ok(entry));
-    Ok(())
+    Ok(out)
+}
+
+// An entry is read from its bytes, and has these bytes.
+fn check_entry<R: Print>(
+    checks: &mut Checks<'_, R>,
+    alloc: Global,
+    name: &str,
+    entry: &Entry,
+    bytes: &[u8],
+) {
+    let read = shared(Entry::read(bytes));
+    checks.same_at(name, read.as_ref(), Ok(entry));
+    if let Ok(read) = read {
+        checks.same_at(name, written(alloc, &read).as_deref(), Ok(bytes));
+    }
+}
+
+// Each entry is read from its bytes, and has these bytes.
+fn check_entries<R: Print>(checks: &mut Checks<'_, R>, alloc: Global, entries: Entries) {
+    for (name, entry, bytes) in entries {
+        check_entry(checks, alloc, name, entry, bytes);
+    }
 }
 
 // The offset of the first bad byte.
@@ -56,123 +54,28 @@ fn bad_offset(bytes: &[u8]) -> Option<usize> {
 #[test]
 fn entries_have_their_bytes(rt: HostRuntime) -> Result<(), Fail> {
     let mut checks = Checks::new(&rt);
-    let alloc = rt.alloc();
-    let moment = 1_700_000_000;
-    check_bytes(&mut checks, alloc, entry(1, moment, Command::Stop), &STOP)?;
-    check_bytes(
-        &mut checks,
-        alloc,
-        entry(1, LAST_MOMENT, Command::Stop),
-        &LAST,
-    )?;
-    let sample = Command::Sample {
-        tank: 101,
-        density: 8_500,
-        sw: 0,
-    };
-    check_bytes(&mut checks, alloc, entry(2, moment, sample), &SAMPLE)?;
-    let gauge = Command::Gauge {
-        tank: 101,
-        level: 8_000,
-        water: 0,
-        temperature: 1_500,
-        ambient: 1_500,
-    };
-    check_bytes(&mut checks, alloc, entry(1, moment, gauge), &GAUGE)?;
-    let dip = Command::Dip {
-        tank: 102,
-        outage: false,
-        tapes: two(5_000, 5_000),
-        water: none(),
-        temperatures: one(1_500),
-        ambient: -50,
-    };
-    check_bytes(&mut checks, alloc, entry(1, moment, dip), &DIP)?;
+    check_entries(&mut checks, rt.alloc(), READINGS);
     Ok(checks.end()?)
 }
 
 #[test]
 fn entries_of_movements_have_their_bytes(rt: HostRuntime) -> Result<(), Fail> {
     let mut checks = Checks::new(&rt);
-    let alloc = rt.alloc();
-    let receipt = Command::Opening(Plan::Outside {
-        way: Way::Inward,
-        tank: 101,
-        party: 7,
-        gauged: gauged(2, 1),
-    });
-    check_bytes(
-        &mut checks,
-        alloc,
-        entry(1, 1_700_000_000, receipt),
-        &RECEIPT,
-    )?;
-    let transfer = Command::Opening(Plan::Transfer {
-        from: 101,
-        to: 102,
-        from_gauged: gauged(4, 1),
-        to_gauged: gauged(7, 6),
-    });
-    check_bytes(
-        &mut checks,
-        alloc,
-        entry(1, 1_700_000_000, transfer),
-        &TRANSFER,
-    )?;
-    let closing = Command::Closing {
-        movement: 3,
-        first: gauged(4, 1),
-        second: None,
-    };
-    check_bytes(
-        &mut checks,
-        alloc,
-        entry(1, 1_700_000_000, closing),
-        &CLOSING,
-    )?;
-    let closing = Command::Closing {
-        movement: 8,
-        first: gauged(9, 1),
-        second: Some(gauged(10, 6)),
-    };
-    check_bytes(
-        &mut checks,
-        alloc,
-        entry(1, 1_700_000_000, closing),
-        &CLOSING_OF_TWO,
-    )?;
+    check_entries(&mut checks, rt.alloc(), MOVEMENTS);
     Ok(checks.end()?)
 }
 
 #[test]
 fn entries_that_end_movements_have_their_bytes(rt: HostRuntime) -> Result<(), Fail> {
     let mut checks = Checks::new(&rt);
-    let alloc = rt.alloc();
-    let cancel = Command::Cancel { movement: 3 };
-    check_bytes(&mut checks, alloc, entry(1, 1_700_000_000, cancel), &CANCEL)?;
-    let reverse = Command::Reverse { ticket: 14 };
-    check_bytes(
-        &mut checks,
-        alloc,
-        entry(1, 1_700_000_000, reverse),
-        &REVERSE,
-    )?;
+    check_entries(&mut checks, rt.alloc(), ENDS);
     Ok(checks.end()?)
 }
 
 #[test]
 fn a_settlement_has_its_bytes(rt: HostRuntime) -> Result<(), Fail> {
     let mut checks = Checks::new(&rt);
-    let settle = Command::Settle {
-        tank: 101,
-        gauged: gauged(15, 1),
-    };
-    check_bytes(
-        &mut checks,
-        rt.alloc(),
-        entry(16, 1_700_000_000, settle),
-        &SETTLE,
-    )?;
+    check_entries(&mut checks, rt.alloc(), SETTLEMENTS);
     Ok(checks.end()?)
 }
 
@@ -204,54 +107,74 @@ fn check_first_bytes<R: Print>(checks: &mut Checks<'_, R>, entry: &[u8]) {
     }
 }
 
+// An entry, an offset, a byte that can't stand there, and the offset of the first bad byte.
+type BadBytes = &'static [(&'static str, &'static [u8], usize, u8, usize)];
+
+const BAD_BYTES: BadBytes = &[
+    ("the tag 0", &STOP, 24, 0, 24),
+    ("a settlement without its fields", &STOP, 24, 7, 25),
+    ("the tag 0 with fields", &SETTLE, 24, 0, 24),
+    ("the tag 10 with fields", &SETTLE, 24, 10, 24),
+    ("the way 0", &RECEIPT, 25, 0, 25),
+    ("the way 4", &RECEIPT, 25, 4, 25),
+    ("a transfer without its last fields", &RECEIPT, 25, 3, 38),
+    ("neither one tank nor two", &CLOSING, 37, 2, 37),
+    ("a second tank without its fields", &CLOSING, 37, 1, 38),
+    ("fields of no second tank", &CLOSING_OF_TWO, 37, 0, 38),
+    ("a gauge without its last fields", &CANCEL, 24, 1, 29),
+    ("the tag 10", &STOP, 24, 10, 24),
+    ("a gauge without its fields", &STOP, 24, 1, 25),
+    ("a moment one second late", &LAST, 23, 1, 23),
+    ("a moment below zero", &LAST, 16, 0x80, 16),
+    (
+        "a moment too great from its fourth byte on",
+        &LAST,
+        19,
+        0x3b,
+        19,
+    ),
+    ("a dip's kind", &DIP, 27, 2, 27),
+    ("nine tapes", &DIP, 28, 9, 28),
+    ("nine tapes of the water", &DIP, 45, 9, 45),
+    ("nine temperatures", &DIP, 46, 9, 46),
+];
+
+// Each entry has no bad byte, and one where its row says once its byte is replaced.
+fn check_bad_bytes<R: Print>(checks: &mut Checks<'_, R>, rows: BadBytes) {
+    for (name, whole, offset, byte, want) in rows {
+        checks.same_at(name, bad_offset(whole), None);
+        checks.same_at(name, bad_offset_with(whole, *offset, *byte), Some(*want));
+    }
+}
+
+// Entries, and where the byte after each stands.
+type Ends = &'static [(&'static str, &'static [u8], usize)];
+
+const LONGER: Ends = &[
+    ("a receipt", &RECEIPT, 38),
+    ("a transfer", &TRANSFER, 46),
+    ("a closing", &CLOSING, 38),
+    ("a closing of two tanks", &CLOSING_OF_TWO, 46),
+    ("a cancel", &CANCEL, 29),
+    ("a reversal", &REVERSE, 29),
+    ("a settlement", &SETTLE, 35),
+    ("a dip", &DIP, 63),
+];
+
+// The first bytes of each entry are bad where they end, and one byte more where it stands.
+fn check_ends<R: Print>(checks: &mut Checks<'_, R>, rows: Ends) {
+    for (name, entry, want) in rows {
+        check_first_bytes(checks, entry);
+        checks.same_at(name, bad_offset_of_longer(entry), Some(*want));
+    }
+}
+
 #[test]
 fn a_bad_byte_is_refused_at_its_offset(rt: HostRuntime) -> Result<(), Fail> {
     let mut checks = Checks::new(&rt);
-    let cases: [(&[u8], usize, u8, usize); 20] = [
-        (&STOP, 24, 0, 24),
-        (&STOP, 24, 7, 25),
-        (&SETTLE, 24, 0, 24),
-        (&SETTLE, 24, 10, 24),
-        // The ways of a plan, and the byte of a Closing that says whether a second tank is named.
-        (&RECEIPT, 25, 0, 25),
-        (&RECEIPT, 25, 4, 25),
-        (&RECEIPT, 25, 3, 38),
-        (&CLOSING, 37, 2, 37),
-        (&CLOSING, 37, 1, 38),
-        (&CLOSING_OF_TWO, 37, 0, 38),
-        (&CANCEL, 24, 1, 29),
-        (&STOP, 24, 10, 24),
-        // A tag whose fields are missing.
-        (&STOP, 24, 1, 25),
-        // A moment one second late, one below zero, and one too great from its fourth byte on.
-        (&LAST, 23, 1, 23),
-        (&LAST, 16, 0x80, 16),
-        (&LAST, 19, 0x3b, 19),
-        // A dip's kind, and the counts of its lists.
-        (&DIP, 27, 2, 27),
-        (&DIP, 28, 9, 28),
-        (&DIP, 45, 9, 45),
-        (&DIP, 46, 9, 46),
-    ];
-    for (whole, offset, byte, want) in cases {
-        checks.same(bad_offset(whole), None);
-        checks.same_at(offset, bad_offset_with(whole, offset, byte), Some(want));
-    }
+    check_bad_bytes(&mut checks, BAD_BYTES);
     check_first_bytes(&mut checks, &STOP);
-    check_first_bytes(&mut checks, &DIP);
-    for entry in [
-        RECEIPT.as_slice(),
-        TRANSFER.as_slice(),
-        CLOSING.as_slice(),
-        CLOSING_OF_TWO.as_slice(),
-        CANCEL.as_slice(),
-        REVERSE.as_slice(),
-        SETTLE.as_slice(),
-    ] {
-        check_first_bytes(&mut checks, entry);
-        checks.same(bad_offset_of_longer(entry), Some(entry.len()));
-    }
-    checks.same(bad_offset_of_longer(&DIP), Some(63));
+    check_ends(&mut checks, LONGER);
     Ok(checks.end()?)
 }
 

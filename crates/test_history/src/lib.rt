@@ -11,9 +11,15 @@ mod entries;
 #[cfg(test)]
 mod entry_bytes;
 #[cfg(test)]
+mod entry_rows;
+#[cfg(test)]
+mod line_rows;
+#[cfg(test)]
 mod movements;
 #[cfg(test)]
 mod pieces;
+#[cfg(test)]
+mod refusals;
 #[cfg(test)]
 mod requests;
 #[cfg(test)]

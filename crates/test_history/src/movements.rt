@@ -1,6 +1,6 @@
 //! Movements that are closed with a ticket or stay open, and one that is cancelled.
 
-ghost use Rattle.std.specs.Prelude.{◌≡◌, IfOk, IsNone, None};
+ghost use Rattle.std.specs.Prelude.{◌≡◌, IfOk, IsNone, IsSome, None};
 ghost use Rattle.farm_movement.specs.Closing.{ticket_of};
 
 use crate::tickets::figures;
@@ -64,6 +64,13 @@ fn received(opening: &Quantities, closing: &Quantities, nsv: i64, mass: i64) -> 
     }
 }
 
+// The litres and kg of the tank at closing, and what the receipt then moved, `None` where it stays open.
+const CLOSINGS: [(i64, i64, Option<(i64, i64)>); 3] = [
+    (8_925_463, 7_586_644, Some((925_463, 786_644))),
+    (8_000_000, 6_799_999, Some((0, -1))),
+    (7_999_999, 6_800_001, None),
+];
+
 #[test]
 fn a_receipt_is_closed_with_its_ticket_unless_the_tank_has_less(
     rt: HostRuntime,
@@ -71,12 +78,7 @@ fn a_receipt_is_closed_with_its_ticket_unless_the_tank_has_less(
     let mut checks = Checks::new(&rt);
     let opening = figures_of(8_000_000, 6_800_000)?;
     let receipt = OpenMove::new(3, 7, shared(leg(101, Way::Inward, opening)), None);
-    let cases = [
-        (8_925_463, 7_586_644, Some((925_463, 786_644))),
-        (8_000_000, 6_799_999, Some((0, -1))),
-        (7_999_999, 6_800_001, None),
-    ];
-    for (litres, kg, want) in cases {
+    for (litres, kg, want) in CLOSINGS {
         let closing = figures_of(litres, kg)?;
         let answer = ticket_of(receipt, 5, 1, closing);
         let want = match want {
@@ -88,18 +90,56 @@ fn a_receipt_is_closed_with_its_ticket_unless_the_tank_has_less(
     Ok(checks.end()?)
 }
 
+// What the tanks of a transfer hold at closing, first litres and then kg, and its tanks, `None` where it stays open.
+type Closing = (
+    &'static str,
+    (i64, i64),
+    (i64, i64),
+    Option<(u16, Option<u16>)>,
+);
+
+const BOTH: [Closing; 2] = [
+    (
+        "each tank its way",
+        (1_000, 850),
+        (2_000, 1_700),
+        Some((101, Some(102))),
+    ),
+    ("less in the second tank", (2_000, 1_700), (999, 849), None),
+];
+
+// A transfer from a tank that holds 2,000 litres to one that holds 1,000.
+fn transfer() -> Result<OpenMove, Fail>
+    ensures { IfOk result (λ movement. IsSome movement.second) }
+{
+    let first = leg(101, Way::Outward, figures_of(2_000, 1_700)?);
+    let second = leg(102, Way::Inward, figures_of(1_000, 850)?);
+    Ok(OpenMove::new(4, 7, first, Some(second)))
+}
+
+// The tanks of a transfer that is closed, or the movement where it has to stay open.
+fn tanks_of(
+    movement: OpenMove,
+    first: Quantities,
+    second: Quantities,
+) -> Result<(u16, Option<u16>), OpenMove>
+    requires { IsSome movement.second }
+{
+    let closed = shared(movement.close(11, 2, first, Some(second))?);
+    Ok(closed.tanks())
+}
+
 #[test]
 fn both_sides_of_a_transfer_go_their_way(rt: HostRuntime) -> Result<(), Fail> {
     let mut checks = Checks::new(&rt);
-    let [less, more] = [figures_of(1_000, 850)?, figures_of(2_000, 1_700)?];
-    let legs = (leg(101, Way::Outward, more), leg(102, Way::Inward, less));
-    let transfer = OpenMove::new(4, 7, legs.0, Some(legs.1));
-    let closed = shared(transfer.close(11, 2, less, Some(more)));
-    checks.same(closed.map(|closed| closed.tanks()), Ok((101, Some(102))));
-    checks.same(
-        transfer.close(11, 2, more, Some(figures_of(999, 849)?)),
-        Err(transfer),
-    );
-    checks.same(shared(transfer.cancel(12)).tanks(), transfer.tanks());
+    let transfer = transfer()?;
+    for (name, first, second, want) in BOTH {
+        let first = figures_of(first.0, first.1)?;
+        let second = figures_of(second.0, second.1)?;
+        let tanks = tanks_of(transfer, first, second);
+        checks.same_at(name, tanks, want.ok_or(transfer));
+    }
+    let cancelled = shared(transfer.cancel(12)).tanks();
+    checks.same_at("cancelled", cancelled, transfer.tanks());
     Ok(checks.end()?)
 }

@@ -26,11 +26,8 @@ fn write_row(out: &mut Vec<u8>, mm: u64, litres: i64) -> Result<(), NoMemory>
     )
 }
 
-// A line, the line of a row after it, and then a piece of each kind, with a bar after it.
-fn pieces_text(alloc: Global, density: Dens) -> Result<Vec<u8>, NoMemory> {
-    let mut out = b"rows\n".to_vec(alloc)?;
-    write_row(&mut out, 10, -2_500)?;
-    append(&mut out, &[])?;
+// Appends a piece of each kind, with a bar after it.
+fn add_pieces(out: &mut Vec<u8>, density: Dens) -> Result<(), NoMemory> {
     let pieces = [
         Piece::Text(b"a b"),
         Piece::Number(u64::MAX),
@@ -46,8 +43,22 @@ fn pieces_text(alloc: Global, density: Dens) -> Result<Vec<u8>, NoMemory> {
         },
     ];
     for piece in pieces {
-        append(&mut out, &[piece, Piece::Text(b"|")])?;
+        append(out, &[piece, Piece::Text(b"|")])?;
     }
+    Ok(())
+}
+
+// Appends the line of a row, nothing, and then a piece of each kind.
+fn add_all(out: &mut Vec<u8>, density: Dens) -> Result<(), NoMemory> {
+    write_row(out, 10, -2_500)?;
+    append(out, &[])?;
+    add_pieces(out, density)
+}
+
+// A line, and what is appended to it.
+fn pieces_text(alloc: Global, density: Dens) -> Result<Vec<u8>, NoMemory> {
+    let mut out = b"rows\n".to_vec(alloc)?;
+    add_all(&mut out, density)?;
     Ok(out)
 }
 

@@ -45,6 +45,22 @@ fn posting(tank: u16, kind: Kind, party: u16, amount: Amount) -> Posting
     }
 }
 
+// Tanks and the litres and kg that each then holds by its book, `None` where the stock has no such tank.
+const HELD: [(u16, Option<(i64, i64)>); 3] = [
+    (101, Some((8_429_604, 7_165_163))),
+    (102, Some((4_000_000, 3_400_000))),
+    (103, None),
+];
+
+// The books of the tanks, and their sum.
+fn check_held<R: Print>(checks: &mut Checks<'_, R>, stock: &Stock) {
+    for (tank, want) in HELD {
+        let held = stock.book(tank).map(|held| (held.litres, held.kg));
+        checks.same_at(tank, held, want);
+    }
+    checks.same_at("the sum", stock.total(), amount(12_429_604, 10_565_163));
+}
+
 #[test]
 fn a_book_is_its_opening_and_its_postings(rt: HostRuntime) -> Result<(), Fail> {
     let mut checks = Checks::new(&rt);
@@ -58,10 +74,8 @@ fn a_book_is_its_opening_and_its_postings(rt: HostRuntime) -> Result<(), Fail> {
     stock.post(&posting(102, Kind::TransferIn, 0, amount(495_859, 421_481)));
     stock.post(&posting(102, Kind::Gain, 0, amount(-859, -731)));
     stock.post(&posting(102, Kind::Delivery, 8, amount(-1_495_000, -1_270_750)));
-    checks.same(stock.book(101), Some(amount(8_429_604, 7_165_163)));
-    checks.same(stock.book(102), Some(amount(4_000_000, 3_400_000)));
-    checks.same(stock.book(103), None);
-    checks.same(stock.total(), amount(12_429_604, 10_565_163));
+    check_held(&mut checks, &stock);
+    drop(stock);
     Ok(checks.end()?)
 }
 

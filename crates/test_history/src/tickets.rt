@@ -52,95 +52,117 @@ const EIGHT_MILLION: [i64; 6] = [8_000_000, 100_000, 100_000, 8_000_000, 8_000_0
 
 const NINE_MILLION: [i64; 6] = [9_000_000, 100_022, 99_150, 9_001_980, 8_925_463, 7_586_644];
 
-#[test]
-fn a_ticket_has_one_line(rt: HostRuntime) -> Result<(), Fail> {
-    let mut checks = Checks::new(&rt);
-    let side = shared(received(101, figures(EIGHT_MILLION)?, figures(NINE_MILLION)?)?);
-    let receipt = shared(Ticket {
-        place: 5,
-        number: 1,
+// A side of a tank that goes a way, by these amounts of net standard volume and mass. Its figures, which a line doesn't have, are
+// those of another side.
+fn side_like(side: &Side, tank: u16, way: Way, nsv: i64, mass: i64) -> Side {
+    Side {
+        tank,
+        way,
+        opening: side.opening,
+        closing: side.closing,
+        moved: Moved {
+            gsv: nsv,
+            nsv,
+            swv: 0,
+            mass,
+        },
+    }
+}
+
+// A ticket of movement 2.
+fn ticket(
+    (place, number, party, reverses): (u32, u32, u16, u32),
+    first: Side,
+    second: Option<Side>,
+) -> Ticket {
+    Ticket {
+        place,
+        number,
         movement: 2,
-        reverses: 0,
-        party: 7,
-        first: side,
-        second: None,
-    });
-    // The figures of the other tickets' sides are not printed.
-    let amount = |nsv, mass| Moved {
-        gsv: nsv,
-        nsv,
-        swv: 0,
-        mass,
-    };
-    let sent = Side {
-        way: Way::Outward,
-        moved: amount(495_859, 421_481),
-        ..side
-    };
-    let arrived = Side {
-        tank: 102,
-        moved: amount(495_000, 420_750),
-        ..side
-    };
-    let transfer = Ticket {
-        number: 2,
-        place: 11,
-        first: sent,
-        second: Some(arrived),
-        ..receipt
-    };
-    let sold = Side {
-        tank: 102,
-        moved: amount(1_495_000, 1_270_750),
-        ..sent
-    };
-    let delivery = Ticket {
-        number: 3,
-        place: 14,
-        party: 8,
-        first: sold,
-        ..receipt
-    };
-    let back = Side {
-        moved: amount(-1_495_000, -1_270_750),
-        ..sold
-    };
-    let reversal = Ticket {
-        number: 4,
-        place: 15,
-        reverses: 14,
-        first: back,
-        ..delivery
-    };
-    let lines = "ticket 1 place 5 receipt tank 101 party 7 nsv 925463 kg 786644
+        reverses,
+        party,
+        first,
+        second,
+    }
+}
+
+// A receipt on a side, a transfer, a delivery, and its reversal.
+fn tickets_on(side: Side) -> [Ticket; 4] {
+    let sent = side_like(&side, 101, Way::Outward, 495_859, 421_481);
+    let arrived = side_like(&side, 102, Way::Inward, 495_000, 420_750);
+    let sold = side_like(&side, 102, Way::Outward, 1_495_000, 1_270_750);
+    let back = side_like(&side, 102, Way::Outward, -1_495_000, -1_270_750);
+    [
+        shared(ticket((5, 1, 7, 0), side, None)),
+        ticket((11, 2, 7, 0), sent, Some(arrived)),
+        ticket((14, 3, 8, 0), sold, None),
+        ticket((15, 4, 8, 14), back, None),
+    ]
+}
+
+const LINES: &str = "ticket 1 place 5 receipt tank 101 party 7 nsv 925463 kg 786644
 ticket 2 place 11 transfer tank 101 to 102 nsv 495859 kg 421481 received 495000 kg 420750
 ticket 3 place 14 delivery tank 102 party 8 nsv 1495000 kg 1270750
 ticket 4 place 15 delivery tank 102 party 8 nsv -1495000 kg -1270750 reverses 14
 ";
-    let written = lines_of(rt.alloc(), &[receipt, transfer, delivery, reversal])?;
-    checks.same(written.as_slice(), lines.as_bytes());
+
+#[test]
+fn a_ticket_has_one_line(rt: HostRuntime) -> Result<(), Fail> {
+    let mut checks = Checks::new(&rt);
+    let side = shared(received(101, figures(EIGHT_MILLION)?, figures(NINE_MILLION)?)?);
+    let written = lines_of(rt.alloc(), &tickets_on(side))?;
+    checks.same(written.as_slice(), LINES.as_bytes());
+    drop(written);
     Ok(checks.end()?)
 }
+
+// The net standard volume and the mass at closing, a way, and what moved of each.
+type Closing = (i64, i64, Way, Result<(i64, i64), WrongWay>);
+
+const CLOSINGS: [Closing; 7] = [
+    (8_000_000, 6_800_000, Way::Inward, Ok((0, 0))),
+    (8_000_000, 6_799_999, Way::Inward, Ok((0, -1))),
+    (7_999_999, 6_800_001, Way::Inward, Err(WrongWay)),
+    (8_000_001, 6_799_999, Way::Inward, Ok((1, -1))),
+    (8_000_000, 6_800_001, Way::Outward, Ok((0, -1))),
+    (8_000_001, 6_799_999, Way::Outward, Err(WrongWay)),
+    (7_999_999, 6_799_000, Way::Outward, Ok((1, 1_000))),
+];
 
 #[test]
 fn the_net_volume_alone_decides_the_way(rt: HostRuntime) -> Result<(), Fail> {
     let mut checks = Checks::new(&rt);
-    let cases = [
-        (8_000_000, 6_800_000, Way::Inward, Ok((0, 0))),
-        (8_000_000, 6_799_999, Way::Inward, Ok((0, -1))),
-        (7_999_999, 6_800_001, Way::Inward, Err(WrongWay)),
-        (8_000_001, 6_799_999, Way::Inward, Ok((1, -1))),
-        (8_000_000, 6_800_001, Way::Outward, Ok((0, -1))),
-        (8_000_001, 6_799_999, Way::Outward, Err(WrongWay)),
-        (7_999_999, 6_799_000, Way::Outward, Ok((1, 1_000))),
-    ];
     let opening = figures(EIGHT_MILLION)?;
-    for (nsv, mass, way, want) in cases {
+    for (nsv, mass, way, want) in CLOSINGS {
         let closing = figures([8_000_000, 100_000, 100_000, 8_000_000, nsv, mass])?;
         let moved = shared(moved(&opening, &closing, shared(way)));
         checks.same_at(nsv, moved.map(|moved| (moved.nsv, moved.mass)), want);
     }
     Ok(checks.end()?)
+}
+
+// What a reversal moves.
+const BACK: Moved = Moved {
+    gsv: -925_463,
+    nsv: -925_463,
+    swv: 0,
+    mass: -786_644,
+};
+
+// Its place, its number, its movement, the ticket that it reverses, and its party.
+const NUMBERS: (u32, u32, u32, u32, u16) = (6, 2, 2, 5, 7);
+
+// A reversal has these amounts and numbers.
+fn check_reversal<R: Print>(checks: &mut Checks<'_, R>, reversal: &Ticket) {
+    checks.same_at("what moved", reversal.first.moved, BACK);
+    let numbers = (
+        reversal.place,
+        reversal.number,
+        reversal.movement,
+        reversal.reverses,
+        reversal.party,
+    );
+    checks.same_at("its numbers", numbers, NUMBERS);
 }
 
 #[test]
@@ -164,15 +186,6 @@ fn a_reversal_moves_the_opposite_amounts(rt: HostRuntime) -> Result<(), Fail> {
         second: None,
     };
     let reversal = receipt.reversal(6, 2);
-    let back = Moved {
-        gsv: -925_463,
-        nsv: -925_463,
-        swv: 0,
-        mass: -786_644,
-    };
-    checks.same(reversal.first.moved, back);
-    checks.same((reversal.place, reversal.number), (6, 2));
-    checks.same((reversal.movement, reversal.reverses), (2, 5));
-    checks.same(reversal.party, 7);
+    check_reversal(&mut checks, &reversal);
     Ok(checks.end()?)
 }
