@@ -108,15 +108,7 @@ fn the_first_field_that_disagrees_is_named(rt: HostRuntime) -> Result<(), Fail> 
     Ok(checks.end()?)
 }
 
-// A response with 125 registers, the last of them 0x0102.
-fn longest() -> [u8; 259] {
-    let mut bytes = [0; 259];
-    bytes[..9].copy_from_slice(&[0, 1, 0, 0, 0, 253, 17, 4, 250]);
-    bytes[257..].copy_from_slice(&[1, 2]);
-    bytes
-}
-
-// Its registers.
+// 125 registers, the last of them 0x0102.
 fn most_registers() -> Registers {
     let mut words = [0; 125];
     words[124] = 0x0102;
@@ -135,7 +127,9 @@ fn check_longest<R: Print>(checks: &mut Checks<'_, R>, name: &str, bytes: &[u8],
 #[test]
 fn a_response_has_up_to_125_registers(rt: HostRuntime) -> Result<(), Fail> {
     let mut checks = Checks::new(&rt);
-    let bytes = longest();
+    let mut bytes = [0; 259];
+    bytes[..9].copy_from_slice(&[0, 1, 0, 0, 0, 253, 17, 4, 250]);
+    bytes[257..].copy_from_slice(&[1, 2]);
     let words = Frame::Words(most_registers(), 259);
     check_longest(&mut checks, "all bytes", &bytes, words);
     check_longest(&mut checks, "one less", &bytes[..258], Frame::Need(1));
