@@ -29,9 +29,15 @@ fn vcf(alloc: Global) -> Result<Vcf, Fail> {
     Ok(Vcf::from_grid(densities, temperatures, factors)?)
 }
 
-// A bare shell under a roof of 85,000 kg with its zone from 1,500 to 1,800 mm.
-fn tank() -> Result<TankSpec, Fail> {
-    Ok(TankSpec {
+// A level and water in mm, and a density in 0.1 kg/m3.
+type Gauged = (i64, i64, i64);
+
+// The figures of a bare shell under a roof of 85,000 kg with its zone from 1,500 to 1,800 mm, at 15.00 C.
+fn figures_at(
+    alloc: Global,
+    (level, water, density): Gauged,
+) -> Result<Result<Quantities, ChainRule>, Fail> {
+    let tank = TankSpec {
         shell: Shell {
             insulated: false,
             coefficient: 112,
@@ -43,33 +49,17 @@ fn tank() -> Result<TankSpec, Fail> {
             low: Mm::new(1_500)?,
             high: Mm::new(1_800)?,
         }),
-    })
-}
-
-// A level and water, at 15.00 C.
-fn reading(level: i64, water: i64) -> Result<Reading, Fail> {
-    Ok(Reading {
+    };
+    let reading = Reading {
         level: Mm::new(level)?,
         water: Mm::new(water)?,
         liquid: Centi::new(1_500)?,
         ambient: Centi::new(1_500)?,
-    })
-}
-
-// A level and water in mm, and a density in 0.1 kg/m3.
-type Gauged = (i64, i64, i64);
-
-// The figures of a reading of that tank.
-fn figures_at(
-    alloc: Global,
-    (level, water, density): Gauged,
-) -> Result<Result<Quantities, ChainRule>, Fail> {
+    };
     let sample = Sample {
         density: Dens::new(density)?,
         sw: Permil5::new(0)?,
     };
-    let tank = tank()?;
-    let reading = reading(level, water)?;
     let rounding = RoundTable::usual();
     let table = table(alloc)?;
     let vcf = vcf(alloc)?;

@@ -41,9 +41,10 @@ fn vcf(alloc: Global) -> Result<Vcf, Fail> {
     Ok(Vcf::from_grid(densities, temperatures, factors)?)
 }
 
-// A bare shell, whose roof floats above 20 mm.
-fn tank() -> Result<TankSpec, Fail> {
-    Ok(TankSpec {
+// The figures of a bare shell whose roof floats above 20 mm, at a level of 37 mm with 13 mm of water, 25.00 C and 33.00 C ambient, with
+// 0.250 percent of sediment and water.
+fn figures(alloc: Global) -> Result<Result<Quantities, ChainRule>, Fail> {
+    let tank = TankSpec {
         shell: Shell {
             insulated: false,
             coefficient: 112,
@@ -55,27 +56,17 @@ fn tank() -> Result<TankSpec, Fail> {
             low: Mm::new(10)?,
             high: Mm::new(20)?,
         }),
-    })
-}
-
-// A level of 37 mm with 13 mm of water, at 25.00 C and 33.00 C ambient.
-fn reading() -> Result<Reading, Fail> {
-    Ok(Reading {
+    };
+    let reading = Reading {
         level: Mm::new(37)?,
         water: Mm::new(13)?,
         liquid: Centi::new(2_500)?,
         ambient: Centi::new(3_300)?,
-    })
-}
-
-// The figures of that reading, with 0.250 percent of sediment and water.
-fn figures(alloc: Global) -> Result<Result<Quantities, ChainRule>, Fail> {
+    };
     let sample = Sample {
         density: Dens::new(8_500)?,
         sw: Permil5::new(250)?,
     };
-    let tank = tank()?;
-    let reading = reading()?;
     let rounding = RoundTable::new(TWELVE_ROWS)?;
     let table = table(alloc)?;
     let vcf = vcf(alloc)?;

@@ -58,72 +58,47 @@ pub fn row_book(alloc: Global) -> Result<Book<4>, Fail> {
     Ok(Book::new(alloc, sample_site(alloc)?)?)
 }
 
-// A call of a book, and what it answers.
-#[derive(Clone, Copy)]
-enum Call {
-    // A command under a key.
-    Place(u64, Given, Reply),
-    Look(Query, Reply),
-    // How many entries it has.
-    Entries(usize),
-    // How many tanks its site has.
-    Tanks(usize),
-}
-
-// One call of a book answers as its row says.
-fn check_call<R: Print>(
-    checks: &mut Checks<'_, R>,
-    book: &mut Book<4>,
-    (name, call): (&str, Call),
-) {
-    match call {
-        Call::Place(key, given, want) => {
-            checks.same_at(name, placed(book, key, command_of(given)), Ok(want));
-        }
-        Call::Look(query, want) => checks.same_at(name, book.look(&query), want),
-        Call::Entries(want) => checks.same_at(name, book.entries().len(), want),
-        Call::Tanks(want) => checks.same_at(name, book.site().tanks.get().len(), want),
-    }
-}
-
 const READING: Given = Given::Gauge(101, 5_000, 0, 2_000, 2_000);
 
 const OTHER: Given = Given::Gauge(101, 5_001, 0, 2_000, 2_000);
 
-// Four readings fill a book. Then it refuses a fifth, answers a repeat, and takes a Stop.
-const UNTIL_FULL: [(&str, Call); 11] = [
-    (
-        "the first reading",
-        Call::Place(1, READING, Reply::Placed(1)),
-    ),
-    ("the second", Call::Place(2, READING, Reply::Placed(2))),
-    ("the third", Call::Place(3, READING, Reply::Placed(3))),
-    ("the fourth", Call::Place(4, READING, Reply::Placed(4))),
-    (
-        "a fifth",
-        Call::Place(5, READING, Reply::Refused(Rule::HistoryFull)),
-    ),
-    ("a repeat", Call::Place(2, READING, Reply::Placed(2))),
-    (
-        "a key of another reading",
-        Call::Place(2, OTHER, Reply::Refused(Rule::KeyReused(2))),
-    ),
-    ("a Stop", Call::Place(5, Given::Stop, Reply::Placed(5))),
-    (
-        "a reading has no ticket",
-        Call::Look(Query::Ticket(1), Reply::Refused(Rule::UnknownTicket)),
-    ),
-    ("five entries", Call::Entries(5)),
-    ("the tanks of the site", Call::Tanks(6)),
-];
+// Four readings fill a book.
+fn check_four<R: Print>(checks: &mut Checks<'_, R>, book: &mut Book<4>) {
+    for key in 1..=4 {
+        let reply = placed(book, key, command_of(READING));
+        checks.same_at(key, reply, Ok(Reply::Placed(key as u32)));
+    }
+}
+
+// The full book refuses a fifth, answers a repeat, and takes a Stop.
+fn check_full<R: Print>(checks: &mut Checks<'_, R>, book: &mut Book<4>) {
+    let fifth = placed(book, 5, command_of(READING));
+    checks.same_at("a fifth", fifth, Ok(Reply::Refused(Rule::HistoryFull)));
+    let repeat = placed(book, 2, command_of(READING));
+    checks.same_at("a repeat", repeat, Ok(Reply::Placed(2)));
+    let reused = placed(book, 2, command_of(OTHER));
+    checks.same_at(
+        "a key of another",
+        reused,
+        Ok(Reply::Refused(Rule::KeyReused(2))),
+    );
+    checks.same_at(
+        "a Stop",
+        placed(book, 5, Command::Stop),
+        Ok(Reply::Placed(5)),
+    );
+    let look = book.look(&Query::Ticket(1));
+    checks.same_at("no ticket", look, Reply::Refused(Rule::UnknownTicket));
+    checks.same_at("entries", book.entries().len(), 5);
+    checks.same_at("tanks", book.site().tanks.get().len(), 6);
+}
 
 #[test]
 fn a_full_book_takes_repeats_and_stops(rt: HostRuntime) -> Result<(), Fail> {
     let mut checks = Checks::new(&rt);
     let mut book = shared(row_book(rt.alloc())?);
-    for call in UNTIL_FULL {
-        check_call(&mut checks, &mut book, call);
-    }
+    check_four(&mut checks, &mut book);
+    check_full(&mut checks, &mut book);
     drop(book);
     Ok(checks.end()?)
 }
