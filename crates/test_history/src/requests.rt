@@ -1,7 +1,6 @@
 //! Lines of a batch as requests, lines that aren't, and the bodies of answers.
 
 use crate::line_rows::{ENDS, Lines, OPENINGS, READINGS, SETTLEMENTS, STOPS};
-use farm_base::NoMemory;
 use farm_history::{Ask, Command, Query, Reply, Rule};
 use farm_http::{LineAsked, Page, body, line};
 use std::alloc::{AllocError, Global};
