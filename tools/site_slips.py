@@ -49,8 +49,8 @@ def slips(file, kind, table, start, what, top="top"):
 
 def why_unknown(file, kind, key, missing, top):
     """What may have been meant by a key that no format names."""
-    if kind != top and key in TOPS[top] and key not in file.table:
-        return f": `{key}` belongs before the first `[[..]]`"
+    if kind != top and key in TOPS[top] and (key not in file.table or key in ("rounding", "bottom")):
+        return f": `{key}` belongs before the first `[[..]]`" + (", where one stands" if key in file.table else "")
     near = [other for other in missing if are_near(key, other)]
     return f"; `{max(near, key=lambda other: likeness(key, other))}` is missing" if near else ""
 
@@ -97,6 +97,8 @@ def opening_slips(site, folder, tank, item):
     if type(litres) is not int or type(kg) is not int or abs(litres) < LEAST_LITRES or not isinstance(name, str) or no_file(folder, name):
         return
     densities = [density for _, density, _, _ in numbers(folder, name, 3)]
+    if len(densities) < len(records(folder, name)) - 1:
+        return  # A record isn't three numbers: the program refuses the file, and the densities below it aren't known.
     # By half a kilogram and half a litre each was rounded at most.
     if densities and not min(densities) * (abs(litres) - 1) / 1000 - 1 <= kg * (1 if litres > 0 else -1) <= max(densities) * (abs(litres) + 1) / 1000 + 1:
         line = site.key(site.block("tank", item) or 0, "opening_kg") or site.block("tank", item)
