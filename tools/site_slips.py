@@ -6,8 +6,8 @@ Use: tools/site_slips.py DIR
 - keys that no format names: a key with a typing error is passed over, and where the key may be missing its default holds;
 - files that site.toml names and the folder doesn't have;
 - CSV files whose first line reads as data: the first line is never data;
-- numbers that are in range and hardly meant: an opening mass in tonnes, a maker's number of a register as a start, and a factor or a
-  volume that is far from those beside it;
+- numbers that are in range and hardly meant: an opening mass in tonnes, a maker's number of a register as a start, a factor or a
+  volume that is far from those beside it, and a circumference that is far from the others of its tank;
 - at the end, as a note, files of the folder that nothing names.
 
 It ends with 0 where there is nothing to look at but notes, with 1 where there is something, and with 2 where a file can't be read as
@@ -141,6 +141,18 @@ def strapping_slips(folder, name):
         for item, block in enumerate(tables(file.table, kind), 1):
             if isinstance(block, dict):
                 yield from slips(file, kind, block, file.block(kind, item), f"{kind} {item}", "strapping")
+    yield from course_slips(file)
+
+
+def course_slips(file):
+    """Circumferences of a strapping that are far from the others: the courses of a tank are equally wide but for some thousandths."""
+    found = [(Decimal(block[key]), item, key) for item, block in enumerate(tables(file.table, "course"), 1) if isinstance(block, dict)
+             for key in ("lower", "upper") if isinstance(block.get(key), str) and re.fullmatch(r"[0-9]+(\.[0-9]+)?", block[key])]
+    usual = sorted(found)[len(found) // 2][0] if found else 0
+    for length, item, key in found:
+        if abs(length - usual) > usual / 20:
+            line = file.key(file.block("course", item) or 0, key) or file.block("course", item)
+            yield f"{at_line(file.name, line)}: course {item}: {key} is {length} mm, and others have about {usual}"
 
 
 def volume_slips(folder, name):
