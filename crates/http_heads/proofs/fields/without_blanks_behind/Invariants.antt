@@ -1,0 +1,10 @@
+-- The invariants of the loops of `without_blanks_behind`.
+use Rattle.std.proofs.Common.{◌≡◌, length, reverse}
+use Rattle.httparse.specs.Grammar.{skip_ows}
+use Rattle.http_heads.proofs.fields.without_blanks_behind.Given as goal
+
+abbrev pub invariant-loop-rest : goal.invariant-loop-rest
+invariant-loop-rest l = skip_ows (reverse l.rest) ≡ skip_ows (reverse l.fn.value)
+
+abbrev pub decreases-loop-rest : goal.decreases-loop-rest
+decreases-loop-rest l = length l.rest
