@@ -1,12 +1,15 @@
 -- Heads within the limit of bytes.
-use Rattle.std.proofs.Common.{◌≡◌, ℕ, ◌+◌, ◌<◌, ◌≤◌, List, [], ◌++◌, length, take, drop, refl, sym, ap, subst, ◌∙◌, arith, inl, inr, length-append, length-take, take-append-drop}
-use Rattle.std.proofs.lemmas.Bool.{cases_lt}
+use Rattle.std.proofs.Common.{◌≡◌, ℕ, ◌+◌, ◌<◌, ◌≤◌, true, leb, ltb, List, [], ◌++◌, length, take, drop, refl, sym, ap, subst, ◌∙◌, arith, inl, inr, length-append, length-take, take-append-drop}
+use Rattle.std.proofs.lemmas.Bool.{cases_lt, le-leb, leb-true, lt-ltb, ltb-true}
 use Rattle.std.proofs.lemmas.List.{take-take, take_at}
 use Rattle.httparse.specs.Grammar.{HasNoRequest, NeverHasRequest, ReadsRequest, RequestHead, print_request}
 use Rattle.httparse.proofs.GrammarLemmas.{ReadsRequest-append, request_unique}
 use Rattle.http_heads.specs.Limits.{most_head_bytes}
 use Rattle.http_heads.specs.Fields.{HasBadLength, HasTooManyFields}
-use Rattle.http_heads.specs.Rows.{IsBad, IsTooLarge}
+use Rattle.http_heads.specs.Rows.{HasNoWholeHead, IsBad, IsTooLarge}
+use Rattle.http_heads.specs.Fronts.{HasHead}
+use Rattle.http_heads.specs.declared.heads.Head.{Head}
+use Rattle.http_heads.specs.Gathered.{IsHeadOf}
 
 -- a head of the first bytes is one of all
 all_read : (bytes : List ℕ) (limit : ℕ) (head : RequestHead) (rest : List ℕ) → ReadsRequest (take limit bytes) head rest
@@ -70,3 +73,39 @@ pub head_good : (bytes : List ℕ) (head : RequestHead) (rest : List ℕ) → Re
     → ¬ (IsBad bytes)
 head_good bytes head rest reads good (inl never) = never_now bytes never head rest reads
 head_good bytes head rest reads good (inr bad) = good bad
+
+-- row 1 speaks of a whole head by its length
+pub whole_lacks : (bytes : List ℕ) (len : ℕ) (head : RequestHead) (rest : List ℕ) → ReadsRequest bytes head rest
+    → len ≡ length (print_request head)
+    → (ltb most_head_bytes len ≡ true → HasNoWholeHead bytes) × (HasNoWholeHead bytes → ltb most_head_bytes len ≡ true)
+whole_lacks bytes len head rest reads len_is = (
+  λ over.
+      let far : most_head_bytes < length (print_request head) = omega (arith, ltb-true most_head_bytes len over, len_is) in
+      record {
+        enough = omega (arith, head_length bytes head rest reads);
+        none = head_over bytes most_head_bytes head rest reads far;
+      },
+  λ none.
+      elim (cases_lt most_head_bytes len) [
+        | inl over ↦ lt-ltb most_head_bytes len over
+        | inr fits ↦ absurd (head_within bytes most_head_bytes head rest reads (omega (arith, len_is)) none.none)
+      ],
+)
+
+-- and where no head is whole, by the number of bytes
+pub none_lacks : (bytes : List ℕ) → HasNoRequest bytes
+    → (leb most_head_bytes (length bytes) ≡ true → HasNoWholeHead bytes) × (HasNoWholeHead bytes → leb most_head_bytes (length bytes) ≡ true)
+none_lacks bytes none = (
+  λ enough. record { enough = leb-true most_head_bytes (length bytes) enough; none = none_within bytes most_head_bytes none },
+  λ lacks. le-leb most_head_bytes (length bytes) lacks.enough,
+)
+
+-- a whole head that rows 1 and 2 don't refuse
+pub has_head : (bytes : List ℕ) (found : Head) (head : RequestHead) → ¬ (IsTooLarge bytes) → IsHeadOf bytes found head
+    → ¬ (HasBadLength bytes) → HasHead bytes head
+has_head bytes found head fine is good = record {
+  within_limits = fine;
+  good = head_good bytes head (drop found.len bytes) is.reads good;
+  rest = drop found.len bytes;
+  reads = is.reads;
+}

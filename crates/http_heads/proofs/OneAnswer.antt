@@ -1,5 +1,6 @@
 -- The list has one answer, but for a front that ends within the target.
 use Rattle.std.proofs.Common.{◌≡◌, ◌⊎◌, ℕ, ◌+◌, ◌<◌, ◌≤◌, Bool, true, false, IsTrue, List, [], length, refl, sym, ap, subst, ◌∙◌, arith, inl, inr}
+use Rattle.std.proofs.lemmas.Bool.{false≢true}
 use Rattle.std.specs.Prelude.{◌↔◌}
 use Rattle.httparse.specs.Grammar.{EndsInTarget, ReadsRequest, RequestHead, print_request}
 use Rattle.httparse.proofs.GrammarLemmas.{request_unique}
@@ -83,8 +84,8 @@ one_status bytes status other (too_long at head has stated long) (too_long is ag
 -- two tests of one fact
 same_test : {P : Type 0} (one other : Bool) → (IsTrue one ↔ P) → (IsTrue other ↔ P) → one ≡ other
 same_test true true is has = refl
-same_test true false is has = absurd (elim (has.1 (is.0 refl)) [ ])
-same_test false true is has = absurd (elim (is.1 (has.0 refl)) [ ])
+same_test true false is has = absurd (false≢true (has.1 (is.0 refl)))
+same_test false true is has = absurd (false≢true (is.1 (has.0 refl)))
 same_test false false is has = refl
 
 -- two whole requests

@@ -1,5 +1,6 @@
 -- An answer stays whatever follows.
-use Rattle.std.proofs.Common.{◌≡◌, ◌⊎◌, ℕ, ◌+◌, ◌<◌, ◌≤◌, Bool, IsTrue, List, [], ◌++◌, length, take, codes, refl, sym, ap, subst, ◌∙◌, arith, append_assoc, inl, inr, length-append, take-append-le}
+use Rattle.std.proofs.Common.{◌≡◌, ◌⊎◌, ℕ, ◌+◌, ◌<◌, ◌≤◌, Bool, IsTrue, List, [], ◌++◌, length, take, codes, refl, sym, ap, subst, ◌∙◌, arith, append_assoc, inl, inr, length-append}
+use Rattle.std.proofs.lemmas.List.{take-append-le}
 use Rattle.std.specs.Prelude.{◌↔◌}
 use Rattle.std.specs.List.{list_any}
 use Rattle.httparse.specs.Grammar.{HasNoRequest, NeverHasRequest, ReadsRequest, RequestHead, print_request}
@@ -39,18 +40,18 @@ large_stays bytes more (inr none) = inr (record {
 bad_stays : (bytes more : List ℕ) → IsBad bytes → IsBad (bytes ++ more)
 bad_stays bytes more (inl never) =
     inl (λ after. subst HasNoRequest (sym (append_assoc bytes more after)) (never (more ++ after)))
-bad_stays bytes more (inr bad) =
+bad_stays bytes more (inr poor) =
     let grows = fields_grow bytes more in
     let name = codes "content-length" in
     let values : values_in name (field_lines (bytes ++ more)) ≡ values_in name (field_lines bytes) ++ values_in name grows.more =
     ap (λ lines. values_in name lines) grows.is ∙ values_append name (field_lines bytes) grows.more in
-    inr (subst AreBad (sym values) (bad_append (values_in name (field_lines bytes)) (values_in name grows.more) bad))
+    inr (subst AreBad (sym values) (bad_append (values_in name (field_lines bytes)) (values_in name grows.more) poor))
 
 -- the Content-Length isn't bad, where the field lines are the same
 good_stays : (bytes more : List ℕ) → field_lines bytes ≡ field_lines (bytes ++ more) → ¬ (HasBadLength bytes)
     → ¬ (HasBadLength (bytes ++ more))
-good_stays bytes more same good bad =
-    good (subst (λ (lines : List (List ℕ)). AreBad (values_in (codes "content-length") lines)) (sym same) bad)
+good_stays bytes more same good poor =
+    good (subst (λ (lines : List (List ℕ)). AreBad (values_in (codes "content-length") lines)) (sym same) poor)
 
 -- a whole head within the limits stays
 head_stays : (bytes more : List ℕ) (head : RequestHead) → HasHead bytes head → HasHead (bytes ++ more) head
@@ -62,7 +63,7 @@ head_stays bytes more head has =
       within_limits =
           head_fits (bytes ++ more) head (has.rest ++ more)
           (λ many. has.within_limits (inl (omega (arith, many, ap length same)))) reads fits;
-      good = head_good (bytes ++ more) head (has.rest ++ more) reads (good_stays bytes more same (λ bad. has.good (inr bad)));
+      good = head_good (bytes ++ more) head (has.rest ++ more) reads (good_stays bytes more same (λ poor. has.good (inr poor)));
       rest = has.rest ++ more;
       reads = reads;
     }

@@ -6,11 +6,12 @@ use Rattle.std.proofs.lemmas.List.Elements.{filter-append}
 use Rattle.std.proofs.lemmas.List.Folds.{list_any-append}
 use Rattle.std.proofs.lemmas.List.Quantifiers.{Any-push}
 use Rattle.std.specs.List.{Any, filter, list_any}
+use Rattle.std.specs.Str.{str_eq_ignore_ascii_case}
 use Rattle.std.specs.Str.Parse.{digits_value}
 use Rattle.http_heads.specs.declared.fields.Fields.{Fields}
 use Rattle.http_heads.specs.declared.fields.Length.{Length}
 use Rattle.http_heads.specs.declared.fields.Length.TheVariants.{Absent, Bad, Bytes}
-use Rattle.http_heads.specs.Fields.{IsContentLength, is_close, is_named, stated_in, value_of, values_in}
+use Rattle.http_heads.specs.Fields.{IsContentLength, field_name, is_close, is_named, stated_in, value_of, values_in}
 use Rattle.http_heads.specs.Gathered.{Describes, IsLength}
 
 -- two values, or one that isn't a Content-Length's
@@ -21,20 +22,20 @@ AreBad values = (1 < length values) ⊎ Any (λ value. ¬ (IsContentLength value
 values_yes : (name : List ℕ) (lines : List (List ℕ)) (line : List ℕ) → is_named name line ≡ true
     → values_in name (lines ++ line ∷ []) ≡ values_in name lines ++ value_of line ∷ []
 unfolding values_in
-values_yes name lines line yes =
+values_yes name lines line same =
     ap (λ t. map value_of t)
     (filter-append (is_named name) lines (line ∷ [])
-    ∙ ap (λ t. filter (is_named name) lines ++ t) (cond-true (is_named name line) (line ∷ []) [] yes))
+    ∙ ap (λ t. filter (is_named name) lines ++ t) (cond-true (is_named name line) (line ∷ []) [] same))
     ∙ map-append value_of (filter (is_named name) lines) (line ∷ [])
 
 -- a line that hasn't the name changes nothing
 values_no : (name : List ℕ) (lines : List (List ℕ)) (line : List ℕ) → is_named name line ≡ false
     → values_in name (lines ++ line ∷ []) ≡ values_in name lines
 unfolding values_in
-values_no name lines line no =
+values_no name lines line differs =
     ap (λ t. map value_of t)
     (filter-append (is_named name) lines (line ∷ [])
-    ∙ ap (λ t. filter (is_named name) lines ++ t) (cond-false (is_named name line) (line ∷ []) [] no)
+    ∙ ap (λ t. filter (is_named name) lines ++ t) (cond-false (is_named name line) (line ∷ []) [] differs)
     ∙ append-nil (filter (is_named name) lines))
 
 -- values are added behind others
@@ -74,12 +75,12 @@ pub second_value : (values : List (List ℕ)) (number : ℕ) (value : List ℕ) 
 second_value values number value one = inl (omega (arith, ap length one.1, length_push values value))
 
 -- no value is a bad one
-good_none : (values : List (List ℕ)) → values ≡ [] → ¬ (AreBad values)
+pub good_none : (values : List (List ℕ)) → values ≡ [] → ¬ (AreBad values)
 good_none values none (inl many) = omega (arith, ap length none)
 good_none values none (inr any) = omega (arith, ap length none, any.2)
 
 -- one value of 1 to 10 digits isn't bad
-good_one : (values : List (List ℕ)) (number : ℕ) → IsLength values (Bytes number) → ¬ (AreBad values)
+pub good_one : (values : List (List ℕ)) (number : ℕ) → IsLength values (Bytes number) → ¬ (AreBad values)
 good_one values number one (inl many) = omega (arith, ap length one.1)
 good_one values number one (inr any) =
     let first : any.0 ≡ 0 = omega (arith, ap length one.1, any.2) in
@@ -105,8 +106,9 @@ or_false : (b : Bool) → (b || false) ≡ b
 or_false true = refl
 or_false false = refl
 
-and_false : (b : Bool) → (false && b) ≡ false
-and_false b = refl
+-- where the first test fails, the second decides
+pub or_right_of : (a b : Bool) → a ≡ false → (a || b) ≡ b
+or_right_of a b fails = ap (λ (x : Bool). x || b) fails
 
 closes_push : (lines : List (List ℕ)) (line : List ℕ) → list_any is_close (values_in (codes "connection") (lines ++ line ∷ []))
     ≡ (list_any is_close (values_in (codes "connection") lines) || (is_named (codes "connection") line && is_close (value_of line)))
@@ -114,14 +116,14 @@ closes_push lines line =
     let name = codes "connection" in
     let before = list_any is_close (values_in name lines) in
     elim (cases_Bool (is_named name line)) [
-      | inl yes ↦
-          ap (λ t. list_any is_close t) (values_yes name lines line yes)
+      | inl same ↦
+          ap (λ t. list_any is_close t) (values_yes name lines line same)
           ∙ list_any-append is_close (values_in name lines) (value_of line ∷ [])
-          ∙ ap (λ (b : Bool). before || b) (or_false (is_close (value_of line)) ∙ ap (λ (b : Bool). b && is_close (value_of line)) (sym yes))
-      | inr no ↦
-          ap (λ t. list_any is_close t) (values_no name lines line no)
+          ∙ ap (λ (b : Bool). before || b) (or_false (is_close (value_of line)) ∙ ap (λ (b : Bool). b && is_close (value_of line)) (sym same))
+      | inr differs ↦
+          ap (λ t. list_any is_close t) (values_no name lines line differs)
           ∙ sym (or_false before)
-          ∙ ap (λ (b : Bool). before || b) (ap (λ (b : Bool). b && is_close (value_of line)) (sym no))
+          ∙ ap (λ (b : Bool). before || b) (ap (λ (b : Bool). b && is_close (value_of line)) (sym differs))
     ]
 
 encoded_push : (lines : List (List ℕ)) (line : List ℕ) → list_any (is_named (codes "transfer-encoding")) (lines ++ line ∷ [])
@@ -139,10 +141,10 @@ stated_push : (lines : List (List ℕ)) (line : List ℕ) (old new : Length) →
 stated_push lines line old new is named other =
     let name = codes "content-length" in
     elim (cases_Bool (is_named name line)) [
-      | inl yes ↦ subst (λ (t : List (List ℕ)). IsLength t new) (sym (values_yes name lines line yes)) (named yes _ is)
-      | inr no ↦
-          subst (λ (t : List (List ℕ)). IsLength t new) (sym (values_no name lines line no))
-          (subst (λ (length : Length). IsLength (values_in name lines) length) (sym (other no)) is)
+      | inl same ↦ subst (λ (t : List (List ℕ)). IsLength t new) (sym (values_yes name lines line same)) (named same _ is)
+      | inr differs ↦
+          subst (λ (t : List (List ℕ)). IsLength t new) (sym (values_no name lines line differs))
+          (subst (λ (length : Length). IsLength (values_in name lines) length) (sym (other differs)) is)
     ]
 
 -- what field lines say, with one line more
@@ -163,3 +165,23 @@ described_push lines line old new is count named other encoded closes = record {
       closes ∙ ap (λ (b : Bool). b || (is_named (codes "connection") line && is_close (value_of line))) is.closes
       ∙ sym (closes_push lines line);
 }
+
+-- the same, of a line that was cut at its first colon
+pub described_line : (lines : List (List ℕ)) (line name value : List ℕ) (old new : Fields) → name ≡ field_name line
+    → value ≡ value_of line → Describes lines old → new.count ≡ old.count + 1
+    → (str_eq_ignore_ascii_case name (codes "content-length") ≡ true
+    → (values : List (List ℕ)) → IsLength values old.length → IsLength (values ++ value ∷ []) new.length)
+    → (str_eq_ignore_ascii_case name (codes "content-length") ≡ false → new.length ≡ old.length)
+    → new.is_encoded ≡ (old.is_encoded || str_eq_ignore_ascii_case name (codes "transfer-encoding"))
+    → new.closes ≡ (old.closes || (str_eq_ignore_ascii_case name (codes "connection") && is_close value))
+    → Describes (lines ++ line ∷ []) new
+described_line lines line name value old new name_is value_is is count named other encoded closes =
+    let same : (text : List ℕ) → str_eq_ignore_ascii_case name text ≡ is_named text line =
+    λ text. ap (λ t. str_eq_ignore_ascii_case t text) name_is in
+    described_push lines line old new is count
+    (λ has values length. subst (λ (t : List ℕ). IsLength (values ++ t ∷ []) new.length) value_is (named (same (codes "content-length") ∙ has) values length))
+    (λ lacks. other (same (codes "content-length") ∙ lacks))
+    (encoded ∙ ap (λ (b : Bool). old.is_encoded || b) (same (codes "transfer-encoding")))
+    (closes
+    ∙ ap (λ (b : Bool). old.closes || (b && is_close value)) (same (codes "connection"))
+    ∙ ap (λ t. old.closes || (is_named (codes "connection") line && is_close t)) value_is)
