@@ -1,16 +1,15 @@
 -- The name and the value of a field line.
-use Rattle.std.proofs.Common.{◌≡◌, ◌≢◌, ℕ, ◌+◌, ◌<◌, ◌≤◌, ◌==◌, true, false, Option, Some, None, List, [], ◌∷◌, ◌++◌, length, get_or, take, drop, map, refl, sym, ap, subst, ◌∙◌, arith, length-append, nat_lt, cond, Bool}
+use Rattle.std.proofs.Common.{◌≡◌, ℕ, ◌+◌, ◌<◌, ◌≤◌, ◌==◌, true, false, Some, None, List, [], ◌∷◌, ◌++◌, length, take, drop, map, refl, sym, ap, subst, ◌∙◌, arith, length-append, nat_lt, cond, Bool}
 use Rattle.std.proofs.lemmas.Bool.{false≢true, ltb-false, ltb-true, ne_eqb}
 use Rattle.std.proofs.lemmas.List.{drop-drop, drop_all, drop_at, get_or_append_left, get_or_at, take_all, take_at}
 use Rattle.std.proofs.lemmas.List.Elements.{All-head, All-tail, All-weaker}
 use Rattle.std.proofs.lemmas.List.Sums.{position_or_len_is}
-use Rattle.std.specs.List.{All, after_first, before_first, position, position_or_len}
-use Rattle.httparse.specs.Grammar.{Field, IsField, ReadsRequest, field_value, is_token_byte, trim_ows}
+use Rattle.std.specs.List.{All, after_first, position, position_or_len}
+use Rattle.httparse.specs.Grammar.{Field, IsField, is_token_byte, trim_ows}
 use Rattle.httparse.specs.Spans.{name_and_value}
 use Rattle.httparse.proofs.PieceLemmas.{colon_ends_token}
 use Rattle.http_heads.specs.Fields.{field_name, value_of}
 use Rattle.http_heads.specs.Laws.{LinesAreFields}
-use Rattle.http_heads.specs.Lines.{field_lines}
 use Rattle.http_heads.proofs.HeadLines.{line_of, lines_of_head}
 
 -- a byte is a colon

@@ -1,5 +1,5 @@
 -- What is gathered of the field lines, line by line.
-use Rattle.std.proofs.Common.{◌≡◌, ℕ, ◌+◌, ◌<◌, ◌≤◌, true, false, List, [], ◌∷◌, ◌++◌, length, refl, sym, ap, subst, ◌∙◌, arith, append_assoc, append-nil}
+use Rattle.std.proofs.Common.{◌≡◌, ℕ, ◌+◌, ◌<◌, ◌≤◌, true, false, List, [], ◌∷◌, ◌++◌, length, refl, sym, ap, ◌∙◌, arith, append_assoc}
 use Rattle.std.proofs.lemmas.Bool.{cond-true}
 use Rattle.std.proofs.lemmas.List.{length_push}
 use Rattle.std.proofs.lemmas.List.Sums.{take_while-cons}
@@ -45,24 +45,3 @@ gathers_more bytes old new rest line after gathers lines some shorter adds =
           ∙ sym (append_assoc gathers.seen (line ∷ []) (take_while has_byte (lines_of after)));
       room = omega (arith, gathers.room, gathers.describes.count, describes.count, length_push gathers.seen line);
     }
-
--- where no field line is left, all are gathered
-gathers_all : (bytes : List ℕ) (fields : Fields) (rest : List ℕ) → Gathers bytes fields rest
-    → take_while has_byte (lines_of rest) ≡ [] → Describes (field_lines bytes) fields
-gathers_all bytes fields rest gathers none =
-    let all : field_lines bytes ≡ gathers.seen =
-    gathers.split ∙ ap (λ t. gathers.seen ++ t) none ∙ append-nil gathers.seen in
-    subst (λ (lines : List (List ℕ)). Describes lines fields) (sym all) gathers.describes
-
--- no line is left
-pub gathers_end : (bytes : List ℕ) (fields : Fields) (rest : List ℕ) → Gathers bytes fields rest → lines_of rest ≡ []
-    → Describes (field_lines bytes) fields
-gathers_end bytes fields rest gathers none =
-    gathers_all bytes fields rest gathers (ap (λ t. take_while has_byte t) none)
-
--- an empty line comes
-pub gathers_to_empty : (bytes : List ℕ) (fields : Fields) (rest line after : List ℕ) → Gathers bytes fields rest
-    → lines_of rest ≡ line ∷ lines_of after → line ≡ [] → Describes (field_lines bytes) fields
-gathers_to_empty bytes fields rest line after gathers lines empty =
-    gathers_all bytes fields rest gathers
-    (ap (λ t. take_while has_byte t) (lines ∙ ap (λ l. l ∷ lines_of after) empty))

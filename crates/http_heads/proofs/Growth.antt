@@ -1,12 +1,12 @@
 -- The field lines of bytes to which more are added: those in hand stay, and others may follow.
-use Rattle.std.proofs.Common.{◌≡◌, ℕ, zero, suc, ◌+◌, ◌-◌, ◌<◌, ◌≤◌, true, false, List, [], ◌∷◌, ◌++◌, length, get_or, take, drop, refl, sym, ap, ◌∙◌, arith, append_assoc, append-nil, inl, inr}
+use Rattle.std.proofs.Common.{◌≡◌, ℕ, zero, suc, ◌+◌, ◌<◌, ◌≤◌, false, List, [], ◌∷◌, ◌++◌, length, get_or, refl, sym, ap, ◌∙◌, arith, append_assoc, inl, inr}
 use Rattle.std.proofs.lemmas.Bool.{cases_lt, eqb-true}
 use Rattle.std.proofs.lemmas.List.{get_or-take, length-drop, length-take}
 use Rattle.std.proofs.lemmas.List.Sums.{fails_before_first, passes_at_first, split_at_first, take_while-cons}
 use Rattle.std.specs.List.{All, after_first, before_first, position_or_len, take_while}
 use Rattle.std.specs.Str.Lines.{strip_carriage_return}
 use Rattle.http_heads.specs.Lines.{after_request_line, field_lines, has_byte, lines_of}
-use Rattle.http_heads.proofs.Cuts.{after_empty, after_line, feedless, is_feed, lines_first, lines_none}
+use Rattle.http_heads.proofs.Cuts.{after_empty, feedless, is_feed, lines_first, lines_none}
 
 -- the second list has the first at its front
 pub record Grows (front whole : List (List ℕ)) : Type 0 where

@@ -1,17 +1,16 @@
 -- The list has one answer, but for a front that ends within the target.
-use Rattle.std.proofs.Common.{◌≡◌, ◌⊎◌, ℕ, ◌+◌, ◌<◌, ◌≤◌, Bool, true, false, IsTrue, List, [], length, refl, sym, ap, subst, ◌∙◌, arith, inl, inr}
+use Rattle.std.proofs.Common.{◌≡◌, ℕ, Bool, true, false, IsTrue, List, [], length, refl, sym, ap, subst, ◌∙◌, arith, inl, inr}
 use Rattle.std.proofs.lemmas.Bool.{false≢true}
 use Rattle.std.specs.Prelude.{◌↔◌}
-use Rattle.httparse.specs.Grammar.{EndsInTarget, ReadsRequest, RequestHead, print_request}
+use Rattle.httparse.specs.Grammar.{EndsInTarget, RequestHead, print_request}
 use Rattle.httparse.proofs.GrammarLemmas.{request_unique}
 use Rattle.http_heads.specs.declared.fronts.Front.{Front}
 use Rattle.http_heads.specs.declared.fronts.Front.TheVariants.{Broken, Need, Whole}
 use Rattle.http_heads.specs.declared.fronts.RequestFront.{RequestFront}
 use Rattle.http_heads.specs.Limits.{bad_request}
-use Rattle.http_heads.specs.Fields.{content_length_of}
-use Rattle.http_heads.specs.Rows.{IsBad, IsLast, IsTooLarge, LacksLength}
-use Rattle.http_heads.specs.Fronts.{AwaitsBody, AwaitsHead, HasHead, IsBroken, IsFront, IsNeeded, IsRequest, bad, lacks_length, of_body, of_head, too_large, too_long}
-use Rattle.http_heads.specs.Laws.{AreNeedAndBad, IsOnlyFront, IsSameFront, IsSameRequest}
+use Rattle.http_heads.specs.Rows.{IsLast, LacksLength}
+use Rattle.http_heads.specs.Fronts.{AwaitsHead, HasHead, IsBroken, IsFront, IsNeeded, IsRequest, bad, lacks_length, of_body, of_head, too_large, too_long}
+use Rattle.http_heads.specs.Laws.{IsOnlyFront, IsSameRequest}
 
 -- bytes have one whole head
 same_head : (bytes : List ℕ) (one other : RequestHead) → HasHead bytes one → HasHead bytes other → one ≡ other

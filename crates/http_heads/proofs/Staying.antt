@@ -1,17 +1,17 @@
 -- An answer stays whatever follows.
-use Rattle.std.proofs.Common.{◌≡◌, ◌⊎◌, ℕ, ◌+◌, ◌<◌, ◌≤◌, Bool, IsTrue, List, [], ◌++◌, length, take, codes, refl, sym, ap, subst, ◌∙◌, arith, append_assoc, inl, inr, length-append}
+use Rattle.std.proofs.Common.{◌≡◌, ◌⊎◌, ℕ, Bool, IsTrue, List, [], ◌++◌, length, codes, sym, ap, subst, ◌∙◌, arith, append_assoc, inl, inr, length-append}
 use Rattle.std.proofs.lemmas.List.{take-append-le}
 use Rattle.std.specs.Prelude.{◌↔◌}
 use Rattle.std.specs.List.{list_any}
-use Rattle.httparse.specs.Grammar.{HasNoRequest, NeverHasRequest, ReadsRequest, RequestHead, print_request}
+use Rattle.httparse.specs.Grammar.{HasNoRequest, ReadsRequest, RequestHead}
 use Rattle.httparse.proofs.GrammarLemmas.{ReadsRequest-append}
 use Rattle.http_heads.specs.declared.fronts.Front.{Front}
 use Rattle.http_heads.specs.declared.fronts.Front.TheVariants.{Broken, Need, Whole}
 use Rattle.http_heads.specs.declared.fronts.RequestFront.{RequestFront}
-use Rattle.http_heads.specs.Limits.{bad_request, most_body_bytes, most_fields, most_head_bytes}
+use Rattle.http_heads.specs.Limits.{bad_request, most_head_bytes}
 use Rattle.http_heads.specs.Lines.{field_lines}
-use Rattle.http_heads.specs.Fields.{HasBadLength, content_length_of, content_lengths, is_close, is_named, stated_in, values_in}
-use Rattle.http_heads.specs.Rows.{HasNoWholeHead, IsBad, IsLast, IsTooLarge, IsTooLong, LacksLength}
+use Rattle.http_heads.specs.Fields.{HasBadLength, content_length_of, is_close, is_named, stated_in, values_in}
+use Rattle.http_heads.specs.Rows.{IsBad, IsLast, IsTooLarge, LacksLength}
 use Rattle.http_heads.specs.Fronts.{HasHead, HasLength, IsBroken, IsFront, IsRequest, bad, lacks_length, too_large, too_long}
 use Rattle.http_heads.specs.Laws.{StaysDecided}
 use Rattle.http_heads.proofs.Growth.{fields_grow}
