@@ -1,6 +1,7 @@
 -- The lemmas of `http_heads`, by topic.
 pub mod Cuts
 pub mod HeadLines
+pub mod RequestLine
 pub mod FieldParts
 pub mod Growth
 pub mod Values

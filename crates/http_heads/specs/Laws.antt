@@ -1,5 +1,6 @@
--- What follows from the definitions: what the field lines are, that the list has one answer, and that an answer stays.
-use Rattle.std.specs.Prelude.{◌≡◌, ◌⊎◌, List, ℕ, ◌++◌, map}
+-- What follows from the definitions: what field lines are, that the list has one answer, and that an answer stays.
+use Rattle.std.specs.Prelude.{◌≡◌, ◌≢◌, ◌⊎◌, ℕ, List, [], ◌∷◌, ◌++◌, map}
+use Rattle.std.specs.List.{All}
 use Rattle.httparse.specs.Grammar.{EndsInTarget, ReadsRequest, RequestHead}
 use Rattle.httparse.specs.Spans.{name_and_value}
 use Rattle.http_heads.specs.declared.fronts.Front.{Front}
@@ -10,6 +11,21 @@ use Rattle.http_heads.specs.Lines.{field_lines}
 use Rattle.http_heads.specs.Fields.{field_name, value_of}
 use Rattle.http_heads.specs.Rows.{IsTooLarge}
 use Rattle.http_heads.specs.Fronts.{IsFront}
+
+-- Field lines stand after the first line that isn't empty, and up to the next empty one or the end.
+pub record FollowRequestLine (lines fields : List (List ℕ)) : Type 0 where
+  pub blank : List (List ℕ)
+  pub request : List ℕ
+  pub rest : List (List ℕ)
+  pub split : lines ≡ blank ++ request ∷ fields ++ rest
+  pub empty_before : All (λ line. line ≡ []) blank
+  pub request_line : request ≢ []
+  pub none_empty : All (λ line. line ≢ []) fields
+  pub up_to : (rest ≡ []) ⊎ ((more : List (List ℕ)) × (rest ≡ [] ∷ more))
+
+-- the field lines among lines; without a request line there is none
+abbrev pub AreFieldLines : List (List ℕ) → List (List ℕ) → Type 0
+AreFieldLines lines fields = FollowRequestLine lines fields ⊎ (All (λ line. line ≡ []) lines × (fields ≡ []))
 
 -- the field lines of a whole head are its fields: name for name, and value for value without the blanks at both ends
 abbrev pub LinesAreFields : List ℕ → Type 0

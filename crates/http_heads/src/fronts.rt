@@ -2,11 +2,11 @@
 
 ghost use Rattle.std.specs.Prelude.{◌≡◌, ◌↔◌, ◌⊎◌, IsTrue, codes};
 ghost use Rattle.httparse.specs.Grammar.{RequestHead};
-ghost use Rattle.http_heads.specs.Lines.{field_lines};
+ghost use Rattle.http_heads.specs.Lines.{field_lines, lines_of};
 ghost use Rattle.http_heads.specs.Fields.{AsksToClose, content_length_of};
 ghost use Rattle.http_heads.specs.Rows.{HasNoWholeHead, IsTooLarge, LacksLength};
 ghost use Rattle.http_heads.specs.Fronts.{HasHead, IsFront};
-ghost use Rattle.http_heads.specs.Laws.{IsOnlyFront, LinesAreFields, StaysDecided};
+ghost use Rattle.http_heads.specs.Laws.{AreFieldLines, IsOnlyFront, LinesAreFields, StaysDecided};
 ghost use Rattle.http_heads.specs.Gathered.{Describes, IsHeadOf, IsParsed};
 
 use crate::fields::{Fields, Length};
@@ -59,6 +59,7 @@ pub fn front_of(bytes: &[u8]) -> Front<'_>
     ensures front { IsFront bytes.now result }
     ensures only { IsOnlyFront bytes.now result }
     ensures stays { StaysDecided bytes.now result }
+    ensures lines { AreFieldLines (lines_of bytes.now) (field_lines bytes.now) }
     ensures fields { LinesAreFields bytes.now }
 {
     first_row(bytes)
