@@ -1,7 +1,7 @@
 -- The bodies of answers in bytes are the texts of their objects.
 use Rattle.std.proofs.Common.{◌≡◌, ℤ, pos, negsuc, ℕ, Option, None, Some, refl}
 use Rattle.serde_json.proofs.OnLiterals.{serde_json_on_literals}
-use Rattle.serde_json.specs.Data.{Members, no_members, number, object}
+use Rattle.serde_json.specs.Data.{no_members, object}
 use Rattle.serde_json.specs.Find.{of_integer}
 use Rattle.serde_json.specs.Written.{compact_text, number_text}
 use Rattle.farm_fixed.specs.declared.records.Amount.{Amount}
@@ -10,7 +10,6 @@ use Rattle.farm_ticket.specs.declared.side.Moved.{Moved}
 use Rattle.farm_ticket.specs.declared.side.Side.{Side}
 use Rattle.farm_ticket.specs.declared.side.Way.{Way}
 use Rattle.farm_ticket.specs.declared.side.Way.TheVariants.{Inward, Outward}
-use Rattle.farm_ticket.specs.Tickets as tickets
 use Rattle.farm_http.specs.PageTexts.{amount_members, body_text}
 use Rattle.farm_http.specs.Bodies.{GainInBytes, PlaceInBytes, RefusalInBytes, StatusInBytes, StockInBytes, TicketInBytes, TotalInBytes, amount_text, figures_text, integer_text, moved_text, side_text, sides_text}
 use Rattle.farm_http.specs.Tickets.{figures_value, moved_value, side_value, sides_value, ticket_members}

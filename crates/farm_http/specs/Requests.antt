@@ -1,4 +1,4 @@
--- What a line of a batch asks for.
+-- What a line of a batch asks for, and what the body of a request does.
 use Rattle.std.specs.Prelude.{◌≡◌, ◌||◌, ℕ, Bool, true, false, if◌then◌else◌, List, codes, Option, Some, None, is_some, option_and_then, option_map}
 use Rattle.std.specs.Str.{bytes_eq}
 use Rattle.serde_json.specs.Data.{Data}
@@ -175,14 +175,23 @@ ask_of_value value = do
 unfoldable pub ask_of_line : List ℕ → Option Ask
 ask_of_line bytes = option_and_then ask_of_value (value_of bytes)
 
--- a value was read as what it asks for, or as bad
-abbrev pub IsValueRead : Data → LineAsked → Type 0
-IsValueRead value (lines.Ask ask) = ask_of_value value ≡ Some ask
-IsValueRead value lines.Bad = ask_of_value value ≡ None
-IsValueRead value lines.NoMemory = ⊥
+-- what a body asks for whose command is known by a word; nothing where it is no such object
+unfoldable pub ask_of_posted : List ℕ → List ℕ → Option Ask
+ask_of_posted word bytes = option_and_then (do_of word) (value_of bytes)
+
+-- what is answered to something that is asked for, and to nothing
+abbrev pub asked_of : Option Ask → LineAsked
+asked_of (Some ask) = lines.Ask ask
+asked_of None = lines.Bad
 
 -- a line was read as what it asks for, or as bad; out of memory may come at any time
 abbrev pub IsLineRead : List ℕ → LineAsked → Type 0
 IsLineRead bytes (lines.Ask ask) = ask_of_line bytes ≡ Some ask
 IsLineRead bytes lines.Bad = ask_of_line bytes ≡ None
 IsLineRead bytes lines.NoMemory = Unit {0}
+
+-- a body was read as what it asks for under a word, or as bad; out of memory may come at any time
+abbrev pub IsPostedRead : List ℕ → List ℕ → LineAsked → Type 0
+IsPostedRead word bytes (lines.Ask ask) = ask_of_posted word bytes ≡ Some ask
+IsPostedRead word bytes lines.Bad = ask_of_posted word bytes ≡ None
+IsPostedRead word bytes lines.NoMemory = Unit {0}

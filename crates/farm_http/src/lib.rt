@@ -18,4 +18,5 @@ pub use number_laws::defined_numbers;
 pub use page::{Allow, Page};
 pub use requests::{
     GREATEST_ACCOUNT, GREATEST_KEY, GREATEST_PARTY, GREATEST_PLACE, GREATEST_TANK, LineAsked, line,
+    posted,
 };

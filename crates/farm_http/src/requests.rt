@@ -1,12 +1,14 @@
-//! Lines of a batch.
+//! Lines of a batch, and bodies that are posted.
 
-ghost use Rattle.std.specs.Prelude.{◌≡◌, IfSome};
+ghost use Rattle.std.specs.Prelude.{◌≡◌, IfOk, IfSome, option_map};
 ghost use Rattle.serde_json.specs.View.{view};
 ghost use Rattle.farm_history.specs.Desk.{IsWellFormedAsk};
-ghost use Rattle.farm_http.specs.Requests.{IsLineRead, IsValueRead, ask_of_value, do_of, stock_look_of, ticket_look_of};
+ghost use Rattle.farm_http.specs.Members.{value_of};
+ghost use Rattle.farm_http.specs.Requests.{IsLineRead, IsPostedRead, ask_of_value, asked_of, do_of, stock_look_of, ticket_look_of};
 
 use crate::commands::{command_of, place_at, tank_at};
 use crate::members::{natural_at, text_at};
+use farm_base::NoMemory;
 use farm_history::{Ask, Query};
 use serde_json::Value;
 use std::alloc::Global;
@@ -22,12 +24,12 @@ pub const GREATEST_PARTY: u16 = 65_535;
 /// The greatest place of a history.
 pub const GREATEST_PLACE: u32 = 4_294_967_295;
 
-/// What a line asks for.
+/// What a line asks for, or a body that is posted.
 #[derive(Debug, Drop, PartialEq, Eq)]
 pub enum LineAsked {
     /// A request to the desk.
     Ask(Ask),
-    /// The line is no request.
+    /// It is no request.
     Bad,
     /// There was no memory to read it.
     NoMemory,
@@ -41,19 +43,45 @@ pub fn line(alloc: Global, bytes: &[u8]) -> LineAsked
     ensures read { IsLineRead bytes.now result }
     ensures well_formed { (ask : Ask) → result ≡ LineAsked.Ask ask → IsWellFormedAsk ask }
 {
-    match Value::from_slice(alloc, bytes) {
-        Ok(value) => asked(&value),
-        Err(fault) if fault.is_memory() => LineAsked::NoMemory,
-        Err(_) => LineAsked::Bad,
+    match value_of(alloc, bytes) {
+        Ok(Some(value)) => asked(ask_of_value(&value)),
+        Ok(None) => LineAsked::Bad,
+        Err(NoMemory) => LineAsked::NoMemory,
     }
 }
 
-// What a value asks for.
-fn asked(value: &Value) -> LineAsked
-    ensures value { IsValueRead (view value.now) result }
+/// What the body of a request asks for, whose command is known by a word: `gauge`, `dip`, `sample`, `open`, `close`, `cancel`,
+/// `reverse`, `settle` or `stop`.
+///
+/// `Bad` exactly where it is no JSON object with the account, the key and the members of that command: also bytes that are no
+/// UTF-8, an empty body, and any other word. Other members are passed over, `do` too. The commands that it gives are well formed.
+pub fn posted(alloc: Global, word: &str, bytes: &[u8]) -> LineAsked
+    ensures read { IsPostedRead word.now bytes.now result }
     ensures well_formed { (ask : Ask) → result ≡ LineAsked.Ask ask → IsWellFormedAsk ask }
 {
-    match ask_of_value(value) {
+    match value_of(alloc, bytes) {
+        Ok(Some(value)) => asked(do_of(word, &value)),
+        Ok(None) => LineAsked::Bad,
+        Err(NoMemory) => LineAsked::NoMemory,
+    }
+}
+
+// The value that bytes are, where they are one.
+fn value_of(alloc: Global, bytes: &[u8]) -> Result<Option<Value>, NoMemory>
+    ensures { IfOk result (λ value. option_map view value ≡ value_of bytes.now) }
+{
+    match Value::from_slice(alloc, bytes) {
+        Ok(value) => Ok(Some(value)),
+        Err(fault) if fault.is_memory() => Err(NoMemory),
+        Err(_) => Ok(None),
+    }
+}
+
+// What is asked for, or that nothing is.
+fn asked(ask: Option<Ask>) -> LineAsked
+    ensures { result ≡ asked_of ask }
+{
+    match ask {
         Some(ask) => LineAsked::Ask(ask),
         None => LineAsked::Bad,
     }
