@@ -1,0 +1,2 @@
+-- The lemmas of `book_texts`, by topic.
+pub mod SummaryLaws

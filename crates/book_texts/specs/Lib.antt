@@ -1,0 +1,2 @@
+-- The definitions of `book_texts`, by subject.
+pub mod Summaries
