@@ -1,0 +1,3 @@
+-- The definitions of `desk_access`, by subject.
+pub mod Access
+pub mod Sole
