@@ -5,17 +5,18 @@ use Rattle.std.specs.List.{Any, after_first, before_first, filter, list_any}
 use Rattle.std.specs.Str.{str_eq_ignore_ascii_case}
 use Rattle.std.specs.Str.Parse.{digits_value}
 use Rattle.farm_base.specs.Bytes.{is_all_digits}
+use Rattle.httparse.specs.Ascii.{colon}
 use Rattle.httparse.specs.Grammar.{trim_ows}
 use Rattle.http_heads.specs.Limits.{most_fields, most_length_digits}
 use Rattle.http_heads.specs.Lines.{field_lines}
 
 -- the name of a field line: what stands before its first colon
 abbrev pub field_name : List ℕ → List ℕ
-field_name line = before_first (λ byte. byte == 58) line
+field_name line = before_first (λ byte. byte == colon) line
 
 -- the value of a field line: what stands after its first colon, without the blanks at both ends
 abbrev pub value_of : List ℕ → List ℕ
-value_of line = trim_ows (after_first (λ byte. byte == 58) line)
+value_of line = trim_ows (after_first (λ byte. byte == colon) line)
 
 -- a field line has this name, in any case of letters
 abbrev pub is_named : List ℕ → List ℕ → Bool

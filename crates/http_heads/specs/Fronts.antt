@@ -8,7 +8,8 @@ use Rattle.http_heads.specs.Limits.{bad_request, content_too_large, header_field
 use Rattle.http_heads.specs.Fields.{HasBadLength, content_length_of}
 use Rattle.http_heads.specs.Rows.{IsBad, IsLast, IsTooLarge, IsTooLong, LacksBody, LacksLength}
 
--- row 3: no head is whole yet, and some bytes can complete one, or the bytes in hand end within the target
+-- Row 3, and no row before it: no head is whole yet, and some bytes can complete one. If the bytes end within the target, it isn't
+-- asked whether some can: httparse tests a target for UTF-8 once it is whole.
 pub record AwaitsHead (bytes : List ℕ) : Type 0 where
   pub within_limits : ¬ (IsTooLarge bytes)
   pub good_length : ¬ (HasBadLength bytes)
@@ -28,7 +29,7 @@ pub record HasLength (bytes : List ℕ) (head : RequestHead) : Type 0 where
   pub stated : ¬ (LacksLength head bytes)
   pub within_limit : ¬ (IsTooLong bytes)
 
--- row 6: all is well but that the body isn't whole
+-- row 6, and no row before it: the body isn't whole
 pub record AwaitsBody (bytes : List ℕ) : Type 0 where
   pub head : RequestHead
   pub has_length : HasLength bytes head
@@ -39,7 +40,7 @@ pub data IsNeeded (bytes : List ℕ) : Type 0 where
   of_head : AwaitsHead bytes → IsNeeded bytes
   of_body : AwaitsBody bytes → IsNeeded bytes
 
--- the status that says how bytes are broken: of row 1, 2, 4 or 5
+-- the status that says how bytes are broken: that of row 1, 2, 4 or 5, if no row before it holds
 pub data IsBroken (bytes : List ℕ) (status : ℕ) : Type 0 where
   too_large : status ≡ header_fields_too_large → IsTooLarge bytes → IsBroken bytes status
   bad : status ≡ bad_request → ¬ (IsTooLarge bytes) → IsBad bytes → IsBroken bytes status
@@ -49,7 +50,7 @@ pub data IsBroken (bytes : List ℕ) (status : ℕ) : Type 0 where
       status ≡ content_too_large → (head : RequestHead) → HasHead bytes head → ¬ (LacksLength head bytes) → IsTooLong bytes
       → IsBroken bytes status
 
--- row 7: a whole request, with these parts and lengths
+-- row 7, and no row before it: a whole request, with these parts and lengths
 pub record IsRequest (bytes : List ℕ) (request : RequestFront) : Type 0 where
   pub of : RequestHead
   pub has_length : HasLength bytes of

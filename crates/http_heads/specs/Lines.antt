@@ -4,6 +4,7 @@ use Rattle.std.specs.Prelude.{ℕ, ◌-◌, Bool, true, false, List, [], ◌∷�
 use Rattle.std.specs.List.{after_first, take_while}
 use Rattle.std.specs.Str.Lines.{strip_carriage_return}
 use Rattle.farm_base.specs.Bytes.{parts_at}
+use Rattle.httparse.specs.Ascii.{line_feed}
 
 -- the parts but the last one, which no line feed ends
 abbrev pub but_last : List (List ℕ) → List (List ℕ)
@@ -11,7 +12,7 @@ but_last parts = take (length parts - 1) parts
 
 -- the lines that a line feed has ended
 unfoldable pub lines_of : List ℕ → List (List ℕ)
-lines_of bytes = map strip_carriage_return (but_last (parts_at 10 bytes))
+lines_of bytes = map strip_carriage_return (but_last (parts_at line_feed bytes))
 
 -- a line that isn't empty
 abbrev pub has_byte : List ℕ → Bool

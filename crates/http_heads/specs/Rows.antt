@@ -17,7 +17,7 @@ IsTooLarge bytes = HasTooManyFields bytes ⊎ HasNoWholeHead bytes
 abbrev pub IsBad : List ℕ → Type 0
 IsBad bytes = NeverHasRequest bytes ⊎ HasBadLength bytes
 
--- row 4: the body's length isn't stated by a Content-Length
+-- row 4: no Content-Length states the body's length: there is a Transfer-Encoding, or a POST has no Content-Length
 abbrev pub LacksLength : RequestHead → List ℕ → Type 0
 LacksLength head bytes = HasTransferEncoding bytes ⊎ ((head.method ≡ codes "POST") × (content_lengths bytes ≡ []))
 
@@ -29,6 +29,6 @@ IsTooLong bytes = most_body_bytes < content_length_of bytes
 abbrev pub LacksBody : RequestHead → List ℕ → Type 0
 LacksBody head bytes = length bytes < length (print_request head) + content_length_of bytes
 
--- the connection ends with this request
+-- the connection ends with this request: it is of HTTP/1.0, asks for it, or is a HEAD
 abbrev pub IsLast : RequestHead → List ℕ → Type 0
 IsLast head bytes = (head.minor ≡ 0) ⊎ (AsksToClose bytes ⊎ (head.method ≡ codes "HEAD"))
