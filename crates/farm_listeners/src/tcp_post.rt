@@ -1,7 +1,7 @@
 //! A listener over TCP.
 
 ghost use Rattle.std.specs.Prelude.{◌≡◌, false, is_ok, IfOk, IsErr, None, Ok, OnOk};
-ghost use Rattle.farm_base.specs.Counts.{HasCause, Rose};
+ghost use Rattle.farm_base.specs.Counts.{HasCause};
 ghost use Rattle.farm_listeners.specs.Listeners.{Accepts, HandsBack, IfCame, IsFreshConnection, Listens, connection_of};
 
 use crate::{Accepted, Listener, TcpTalk};
@@ -19,10 +19,10 @@ const WAIT_MILLIS: i32 = 50;
 
 /// A listener over TCP on the loopback address 127.0.0.1. Nothing is known of its events.
 ///
-/// A listen drops the listening before. An accept waits up to 50 milliseconds; nobody, a signal and a connection that its peer gave
-/// up are `Idle`, and any other error of the system is a fault, as is an accept before a listen. It never answers `End`. A connection
-/// that is handed back is shut for sending, and what its peer still sends is dropped, up to 256 KiB and for about a second, so that
-/// the last answer arrives.
+/// A listen drops the listening before. An accept waits up to 50 milliseconds and never answers `End`. That nobody came, that a
+/// signal came and that a peer gave up its connection are `Idle`; any other error of the system is a fault, as is an accept before a
+/// listen. A connection that is handed back is shut for sending, and what its peer still sends is dropped, up to 256 KiB and for
+/// about a second, so that the last answer arrives.
 #[derive(Drop)]
 pub struct TcpPost<R> {
     rt: R,

@@ -1,7 +1,7 @@
 //! A connection over TCP.
 
-ghost use Rattle.std.specs.Prelude.{◌≡◌, ◌<◌, ◌≤◌, IfOk, IsErr, None, OnOk};
-ghost use Rattle.farm_base.specs.Counts.{HasCause, Rose};
+ghost use Rattle.std.specs.Prelude.{◌≡◌, IfOk, OnOk};
+ghost use Rattle.farm_base.specs.Counts.{HasCause};
 ghost use Rattle.farm_ports.specs.Ports.{PutGives, TakeGives};
 
 use farm_ports::{Failed, Port, Sink, Source};
@@ -16,15 +16,16 @@ const MOVE_SECONDS: u64 = 10;
 // For how many seconds after its last put, or after it came, a connection may be taken from.
 const PEER_SECONDS: u64 = 60;
 
-// For how many seconds a closing drops what the peer still sends, and how many bytes of it.
+// For how many seconds a closing drops what the peer still sends.
 const CLOSE_SECONDS: u64 = 1;
 
+// How many bytes of it a closing drops: 256 KiB.
 const MOST_DROPPED: usize = 262_144;
 
 /// A connection over TCP. Nothing is known of its bytes.
 ///
-/// It sends at once. A take or a put waits up to 10 seconds for the peer. A take more than 60 seconds after the last put, or after
-/// the connection came where nothing was put, fails, so that a peer that sends byte by byte can't hold it. The end of what the peer
+/// It sends at once. A take or a put waits up to 10 seconds for the peer. A take fails more than 60 seconds after the last put, or,
+/// where nothing was put, after the connection came, so that a peer that sends byte by byte can't hold it. The end of what the peer
 /// sends is no fault.
 #[derive(Drop)]
 pub struct TcpTalk<R> {
@@ -69,7 +70,7 @@ impl<R: Clock + Copy> TcpTalk<R> {
         self.faults
     }
 
-    // It was put to too long ago, or the clock can't be read.
+    // Its last put, or its coming, is too long ago for a take, or the clock can't be read.
     fn is_late(&self) -> bool {
         match self.since.elapsed(&self.rt) {
             Ok(elapsed) => elapsed > Duration::from_secs(PEER_SECONDS),
