@@ -12,10 +12,10 @@ use Rattle.journaled_book.specs.Histories.{certain}
 use Rattle.farm_desk.specs.States.{DeskState}
 use Rattle.farm_disk.specs.Images.{State}
 use Rattle.farm_history.specs.History.{last_place}
-use Rattle.farm_run.specs.declared.limits.TheConstants.{BOOK_LIMIT}
+use Rattle.run_reports.specs.declared.limits.TheConstants.{BOOK_LIMIT}
 use Rattle.farm_run.specs.BatchRuns.{DeskBatch, EndReported, LeavesOnDisk}
 use Rattle.farm_run.proofs.BatchRuns.{batch_done, batch_failed, batch_in_doubt, batch_long, not_begun}
-use Rattle.farm_run.proofs.Printing.{output_with}
+use Rattle.run_reports.proofs.Printing.{output_with}
 
 -- nothing was asked: the desk and the ports are as they were
 pub record IsUntouched {D : Type 0} (desk after : DeskState D) (from to : Option Stream) (source : Count) (old middle : Option (List ℕ))

@@ -10,13 +10,15 @@ use Rattle.farm_batch.specs.Outcomes.{OutcomesAreOne, Outcome, WereAnswered, out
 use Rattle.farm_desk.specs.States.{DeskState}
 use Rattle.farm_disk.specs.Images.{State}
 use Rattle.farm_history.specs.History.{History}
-use Rattle.farm_run.specs.declared.limits.TheConstants.{BOOK_LIMIT}
+use Rattle.run_reports.specs.declared.limits.TheConstants.{BOOK_LIMIT}
 use Rattle.farm_run.specs.BatchRuns.{DeskBatch, IsUnbegun, LeavesOnDisk, SaysAfter, last_text, printed}
-use Rattle.farm_run.specs.Runs.{LacksMemory, Puts, Refuses, given}
-use Rattle.farm_run.specs.Texts.{disk_fault_line, no_memory_line, port_fault_line, too_long_text}
-use Rattle.farm_run.proofs.Printing.{output_with, rose_later, says_last}
+use Rattle.run_reports.specs.Reports.{LacksMemory, Puts, Refuses}
+use Rattle.farm_run.specs.Runs.{given}
+use Rattle.run_reports.specs.Texts.{disk_fault_line, no_memory_line, port_fault_line}
+use Rattle.farm_run.specs.Texts.{too_long_text}
+use Rattle.run_reports.proofs.Printing.{output_with, rose_before, rose_later, says_last, without_text}
 use Rattle.farm_base.proofs.Known.{adds_none, takes_none}
-use Rattle.farm_run.proofs.Saying.{PutAnswers, rose_before, said_after, without_text}
+use Rattle.farm_run.proofs.Saying.{PutAnswers, said_after}
 
 -- no line was asked
 asks_none : (may_give : ℤ → Type 0) (found : History) (to : Option Stream) → Asks may_give BOOK_LIMIT found [] [] to []

@@ -12,8 +12,10 @@ use Rattle.calc_input.proofs.Answering.{front_decides}
 use Rattle.calc_input.proofs.RefusedLines.{refusal_right}
 use Rattle.farm_run.specs.OutputTexts.{calc_of, calc_text, text_of_figures}
 use Rattle.farm_run.specs.Texts.{refusal_text}
-use Rattle.farm_run.specs.Runs.{Answers, CalcRun, OneAnswerRun, Output, given}
-use Rattle.farm_run.proofs.Runs.{known_map, run_answering}
+use Rattle.run_reports.specs.Reports.{Output}
+use Rattle.farm_run.specs.Runs.{Answers, CalcRun, OneAnswerRun, given}
+use Rattle.run_reports.proofs.Known.{known_map}
+use Rattle.farm_run.proofs.Runs.{run_answering}
 
 -- a refusal of a text is one of its figures
 refused_figures : (answer : Result Quantities Refused) (why : Refused) → text_of_figures answer ≡ Err why → answer ≡ Err why

@@ -8,13 +8,13 @@ use Rattle.farm_journal.specs.Creating.{GivesNone, IsCreateRefusal}
 use Rattle.farm_journal.specs.declared.faults.CreateFault.{CreateFault}
 use Rattle.farm_journal.specs.declared.faults.CreateFault.TheVariants.{NotEmpty, DiskFault, NoMemory}
 use Rattle.farm_site.specs.Described.{Described}
-use Rattle.farm_run.specs.declared.limits.TheConstants.{BOOK_LIMIT}
+use Rattle.run_reports.specs.declared.limits.TheConstants.{BOOK_LIMIT}
 use Rattle.farm_run.specs.InitRuns.{FolderFailed, HasBytes, NotCreated, SiteInit}
-use Rattle.farm_run.specs.Runs.{LacksMemory, Output, Puts}
-use Rattle.farm_run.specs.Texts.{disk_fault_line, not_empty_line, port_fault_line}
-use Rattle.farm_run.proofs.Printing.{says_last}
-use Rattle.farm_run.proofs.Runs.{known_map}
-use Rattle.farm_run.proofs.Saying.{without_text}
+use Rattle.run_reports.specs.Reports.{LacksMemory, Output, Puts}
+use Rattle.run_reports.specs.Texts.{disk_fault_line, port_fault_line}
+use Rattle.farm_run.specs.Texts.{not_empty_line}
+use Rattle.run_reports.proofs.Printing.{says_last, without_text}
+use Rattle.run_reports.proofs.Known.{known_map}
 
 -- a list that is longer than none isn't empty
 some_bytes : (bytes : List ℕ) → 0 < length bytes → bytes ≢ []

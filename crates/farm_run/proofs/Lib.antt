@@ -1,5 +1,4 @@
 -- The lemmas of `farm_run`, by topic.
-pub mod Printing
 pub mod Runs
 pub mod CalcRuns
 pub mod Saying

@@ -1,24 +1,13 @@
 -- A run of a command, from what its parts did.
-use Rattle.std.proofs.Common.{◌≡◌, ◌≢◌, ◌⊎◌, inl, inr, ℕ, ◌<◌, List, [], Option, Some, None, Result, Ok, Err, IfOk, MatchResult, refl, sym, subst, ◌∙◌, arith}
+use Rattle.std.proofs.Common.{◌≡◌, inl, inr, ℕ, List, [], Option, Some, Result, Ok, Err, refl, sym, ◌∙◌, arith}
 use Rattle.farm_base.specs.Counts.{Count, HasRisen, IsQuiet}
 use Rattle.farm_base.specs.Known.{WhereKnown}
-use Rattle.farm_run.specs.Texts.{no_memory_line, port_fault_line}
-use Rattle.farm_run.specs.Runs.{Answers, Delivers, LacksMemory, OneAnswerRun, Output, Puts, Refuses, text_of, unused}
-use Rattle.farm_run.proofs.Printing.{puts_ends, says_ends, says_last}
-
--- what holds of any input holds of one that is known
-pub where_known : {I : Type 0} (input : Option I) (P : I → Type 0) → ((known : I) → P known) → WhereKnown input P
-where_known None P holds = tt
-where_known (Some known) P holds = holds known
-
--- what is known has what follows from it
-pub known_map : {I : Type 0} (input : Option I) (P Q : I → Type 0) → ((known : I) → P known → Q known) → WhereKnown input P → WhereKnown input Q
-known_map None P Q follows holds = tt
-known_map (Some known) P Q follows holds = follows known holds
-
--- a status of a refusal is neither 0 nor that of a fault
-abbrev pub IsRefusalStatus : ℕ → Type 0
-IsRefusalStatus refusal = (0 < refusal) × (refusal < 6)
+use Rattle.run_reports.specs.Texts.{no_memory_line, port_fault_line}
+use Rattle.run_reports.specs.Reports.{Delivers, LacksMemory, Output, Puts, Refuses}
+use Rattle.farm_run.specs.Runs.{Answers, OneAnswerRun, text_of, unused}
+use Rattle.run_reports.proofs.Known.{known_map, where_known}
+use Rattle.run_reports.proofs.Printing.{puts_ends, says_ends, says_last}
+use Rattle.run_reports.proofs.Refusals.{IsRefusalStatus}
 
 -- the count of a port that gets no call hasn't risen
 unused_quiet : HasRisen unused → ⊥
@@ -67,33 +56,6 @@ answers_refusing refusal says has output status why small reason refuses =
       }
       | inr lacks ↦ answers_lacking refusal says has output status small lacks
     ]
-
--- a refusal whose line was put
-pub refused_said : (output : Output) (refusal : ℕ) (text : List ℕ) → Puts output text → Refuses output refusal text refusal
-refused_said output refusal text puts = record { statuses = inl refl; said = λ _. says_last output _ _ text puts }
-
--- a refusal whose line was made, or for which there was no memory
-pub refused_by : {V E : Type 0} (refusal : ℕ) (said : List ℕ) (output : Output) (status : ℕ) (items : V → List ℕ) (made : Result V E) →
-    IsRefusalStatus refusal → IfOk made (λ text. items text ≡ said) →
-    MatchResult made (λ text. Refuses output refusal (items text) status) (λ _. LacksMemory output status) → Refuses output refusal said status
-refused_by refusal said output status items (Ok text) small is refuses = subst (λ (t : List ℕ). Refuses output refusal t status) is refuses
-refused_by refusal said output status items (Err e) small is lacks = record {
-  statuses = inr lacks;
-  said = λ same. elim lacks.statuses [ inl six ↦ absurd (omega (arith, small.1)) | inr seven ↦ absurd (omega (arith, small.1)) ];
-}
-
--- an answer that the output failed comes only where it did
-pub delivers_risen : (output : Output) (text : List ℕ) (status : ℕ) → Delivers output text status ⊎ LacksMemory output status →
-    status ≡ 6 → HasRisen output.count
-delivers_risen output text status (inl delivers) six = delivers.faulted six
-delivers_risen output text status (inr lacks) six = lacks.faulted six
-
--- so it is of a refusal
-pub refused_risen : {V E : Type 0} (refusal : ℕ) (output : Output) (status : ℕ) (items : V → List ℕ) (made : Result V E) → IsRefusalStatus refusal →
-    MatchResult made (λ text. Refuses output refusal (items text) status) (λ _. LacksMemory output status) → status ≡ 6 → HasRisen output.count
-refused_risen refusal output status items (Ok text) small refuses six =
-    elim refuses.statuses [ inl same ↦ absurd (omega (arith, small.1)) | inr lacks ↦ lacks.faulted six ]
-refused_risen refusal output status items (Err e) small lacks six = lacks.faulted six
 
 -- an answer
 pub answers_delivering : {Why : Type 0} (refusal : ℕ) (says : Why → List ℕ) (has : Option (Result (List ℕ) Why)) (output : Output) (status : ℕ) (text : List ℕ) →
@@ -167,14 +129,3 @@ run_lacking refusal says has input port output status small port_quiet lacks = r
   memory_ends = λ seven. says_ends output _ _ no_memory_line (lacks.memory_said seven []);
   complete = where_known input _ (λ known text is still quiet. elim lacks.statuses [ inl fault ↦ absurd (quiet (lacks.faulted fault)) | inr memory ↦ inr memory ]);
 }
-
--- where there was no memory the status isn't 0
-pub lacking_not_done : (output : Output) (status : ℕ) → LacksMemory output status → status ≢ 0
-lacking_not_done output status lacks = λ zero. elim lacks.statuses [ inl six ↦ omega arith | inr seven ↦ omega arith ]
-
--- nor is it that of a refusal
-pub refused_not_done : {V E : Type 0} (refusal : ℕ) (output : Output) (status : ℕ) (items : V → List ℕ) (made : Result V E) → IsRefusalStatus refusal →
-    MatchResult made (λ text. Refuses output refusal (items text) status) (λ _. LacksMemory output status) → status ≢ 0
-refused_not_done refusal output status items (Ok text) small refuses = λ zero.
-    elim refuses.statuses [ inl same ↦ omega (arith, small.0) | inr lacks ↦ lacking_not_done output status lacks zero ]
-refused_not_done refusal output status items (Err e) small lacks = lacking_not_done output status lacks

@@ -1,33 +1,17 @@
 -- What a batch printed: answers of lines, and then the line of its status.
-use Rattle.std.proofs.Common.{zero, suc, ◌≡◌, ◌⊎◌, inl, inr, ℕ, ◌≤◌, List, [], ◌∷◌, ◌++◌, take, Option, refl, sym, subst, arith}
-use Rattle.farm_base.specs.Counts.{Count, HasRisen, Rose}
-use Rattle.farm_base.specs.Known.{Adds, Fronts}
+use Rattle.std.proofs.Common.{◌⊎◌, inl, inr, ℕ, ◌≤◌, List, [], ◌++◌, Option, refl, subst}
+use Rattle.farm_base.specs.Counts.{Count, HasRisen}
+use Rattle.farm_base.specs.Known.{Adds}
 use Rattle.farm_base.proofs.Additions.{additions_add_up}
 use Rattle.farm_batch.specs.LineAnswers.{IsCutAtLast, Step, answers_text}
 use Rattle.farm_run.specs.BatchRuns.{SaysAfter}
-use Rattle.farm_run.specs.Runs.{Output, Says}
-use Rattle.farm_run.proofs.Printing.{output_with, rose_later}
+use Rattle.run_reports.specs.Reports.{Says}
+use Rattle.run_reports.proofs.Printing.{output_with, rose_before, rose_later}
 
 -- what a batch put: the answers, or the answers cut at the last where a put failed
 abbrev pub PutAnswers : Option (List ℕ) → Option (List ℕ) → Count → List Step → Type 0
 PutAnswers old new sink steps =
     Adds old new (answers_text steps) ⊎ (HasRisen sink × (bytes : List ℕ) × IsCutAtLast steps bytes × Adds old new bytes)
-
--- a count that rises later has risen from before
-pub rose_before : (before between now : ℕ) → before ≤ between → Rose between now → Rose before now
-rose_before before between now first rose = omega arith
-
--- nothing has no front but itself
-take_none : (n : ℕ) → take {A = ℕ} n [] ≡ []
-take_none zero = refl
-take_none (suc n) = refl
-
--- an empty text adds nothing to the fronts of others
-no_text : (texts : List (List ℕ)) (bytes : List ℕ) → Fronts ([] ∷ texts) bytes → Fronts texts bytes
-no_text texts bytes fronts =
-    let rest = fronts.2 in
-    let same = subst (λ (t : List ℕ). bytes ≡ t ++ rest) (take_none fronts.0) fronts.3 in
-    subst (λ (b : List ℕ). Fronts texts b) (sym same) fronts.4
 
 -- the answers and then a text
 pub said_after : (old middle new : Option (List ℕ)) (before between now : ℕ) (steps : List Step) (others : List (List ℕ)) (last : List ℕ) →
@@ -55,10 +39,3 @@ said_after old middle new before between now steps others last (inr cut) first l
       front = additions_add_up old middle new cut.1 front.bytes cut.3 front.added;
       whole = λ quiet. absurd (quiet (rose_later before between now cut.0 later));
     }
-
--- of an empty text nothing is said
-pub without_text : (output : Output) (others : List (List ℕ)) (last : List ℕ) → Says output ([] ∷ []) others last → Says output [] others last
-without_text output others last says = record {
-  front = record { bytes = says.front.bytes; added = says.front.added; fronts = no_text (others ++ last ∷ []) says.front.bytes says.front.fronts };
-  whole = λ quiet. let whole = says.whole quiet in record { bytes = whole.bytes; added = whole.added; fronts = no_text [] whole.bytes whole.fronts };
-}

@@ -1,25 +1,24 @@
 -- What a run of `batch` does.
-use Rattle.std.specs.Prelude.{◌≡◌, ◌≢◌, ◌⊎◌, ℕ, ◌+◌, ◌<◌, Bool, true, false, List, [], ◌∷◌, ◌++◌, length, Option, Result, Ok, Err, ℤ}
-use Rattle.farm_base.specs.Counts.{Count, HasRisen, IsQuiet, raised, count_of}
+use Rattle.std.specs.Prelude.{◌≡◌, ◌⊎◌, ℕ, ◌+◌, ◌<◌, Bool, true, false, List, [], ◌∷◌, ◌++◌, length, Option, Result, Ok, Err, ℤ}
+use Rattle.farm_base.specs.Counts.{Count, HasRisen, IsQuiet, count_of}
 use Rattle.farm_base.specs.Known.{Adds, Fronts, Stream, Takes, WhereKnown}
 use Rattle.farm_batch.specs.declared.batch.BatchEnd.{BatchEnd}
 use Rattle.farm_batch.specs.declared.batch.BatchEnd.TheVariants.{Done, Long, Failed}
 use Rattle.farm_batch.specs.LineAnswers.{AreAcknowledged, IsCutAtLast, Step, answers_text, faults_in, history_after}
 use Rattle.farm_batch.specs.Batches.{AskedAll, Asks, GoesOn, IsTooMuch, lines_of}
 use Rattle.farm_batch.specs.Outcomes.{Outcome, WereAnswered, outcome}
-use Rattle.journaled_book.specs.Histories.{Recovers, RecoversFront, RecoversNow, certain}
-use Rattle.journaled_book.specs.Moments.{EachFrom}
-use Rattle.farm_recovery.specs.Recovery.{IsDamagedAt}
+use Rattle.journaled_book.specs.Histories.{Recovers, certain}
 use Rattle.farm_disk.specs.Images.{State, present}
-use Rattle.farm_disk.specs.Runs.{EachNow, WritesNothing}
-use Rattle.farm_history.specs.History.{History, last_place}
-use Rattle.farm_journal.specs.declared.faults.RecoverFault.{RecoverFault}
-use Rattle.farm_journal.specs.declared.faults.RecoverFault.TheVariants.{NotJournal, Damaged, DiskFault, NoMemory}
-use Rattle.farm_journal.specs.Recovery.{IsNotJournal}
-use Rattle.farm_run.specs.Limits.{book_limit}
-use Rattle.farm_run.specs.Disks.{IsLater}
-use Rattle.farm_run.specs.Runs.{LacksMemory, Output, Puts, Refuses, Says, given}
-use Rattle.farm_run.specs.Texts.{disk_fault_line, journal_damaged_text, no_memory_line, not_journal_line, port_fault_line, too_long_text}
+use Rattle.farm_disk.specs.Runs.{WritesNothing}
+use Rattle.farm_history.specs.History.{History}
+use Rattle.run_reports.specs.Disks.{IsLater}
+use Rattle.run_reports.specs.DisksLeft.{LeavesHistory}
+use Rattle.run_reports.specs.Limits.{book_limit}
+use Rattle.run_reports.specs.NoDesks.{RecoversNothing}
+use Rattle.run_reports.specs.Reports.{LacksMemory, Output, Puts, Refuses}
+use Rattle.run_reports.specs.Texts.{disk_fault_line, no_memory_line, port_fault_line}
+use Rattle.farm_run.specs.Runs.{given}
+use Rattle.farm_run.specs.Texts.{too_long_text}
 
 -- The answers of lines were put, whole but for the last one where a put failed, and then a front of each of these texts; where no put
 -- failed, the answers and then the last text, both whole.
@@ -41,21 +40,12 @@ last_text Failed = port_fault_line
 abbrev pub printed : Outcome → List ℕ
 printed batch = batch.text ++ last_text batch.end
 
--- the gate of an entry that is still in doubt at the end failed to open once more
-abbrev pub faults_at_end : Bool → ℕ
-faults_at_end true = 1
-faults_at_end false = 0
-
 -- What a batch on a recovered history left on the disk, with its last entry in doubt or not.
 pub record LeavesOnDisk (found : History) (steps : List Step) (doubt : Bool) (moment : ℕ) (trace : Option (List State)) (disk : Count) : Type 0 where
-  -- each image at a moment since the recovery stands for a front of the history, with all that was recovered
-  pub since : EachFrom trace moment (RecoversFront book_limit (history_after found steps) (last_place found))
-  -- each image now stands for the history, or where its last entry is in doubt for that or for the history without it
-  pub now : EachNow trace (RecoversNow book_limit doubt (history_after found steps))
+  -- as a run on it with these answers leaves it
+  pub leaves : LeavesHistory found (history_after found steps) (faults_in steps) doubt moment trace disk
   -- no reply rests on an entry in doubt
   pub acknowledged : AreAcknowledged (certain doubt (history_after found steps)) steps
-  -- the disk counted just as many faults as lines were answered with one, and one more where an entry is in doubt
-  pub counted : disk.now ≡ raised (faults_in steps + faults_at_end doubt) disk.before
 
 -- a batch wasn't begun: nothing was taken of the input, and no line was asked
 pub record IsUnbegun (from to : Option Stream) (taken : List ℕ) (steps : List Step) : Type 0 where
@@ -104,32 +94,9 @@ EndReported (Ok Failed) true output status = (status ≡ 5) × Puts output disk_
 EndReported (Ok Failed) false output status = (status ≡ 6) × Puts output port_fault_line
 EndReported (Err e) doubt output status = LacksMemory output status
 
--- what is reported of a journal that wasn't recovered
-abbrev pub NotRecovered : RecoverFault → Output → ℕ → Type 0
-NotRecovered NotJournal output status = (status ≡ 3) × Says output [] [] not_journal_line
-NotRecovered (Damaged place) output status = Refuses output 3 (journal_damaged_text place) status
-NotRecovered DiskFault output status = (status ≡ 5) × Says output [] [] disk_fault_line
-NotRecovered NoMemory output status = LacksMemory output status
-
--- the bytes of the disk don't begin as a journal's, or the journal is damaged at a place; and the line of that was put
-abbrev pub RefusesJournal : Option (List State) → Output → RecoverFault → Type 0
-RefusesJournal trace output NotJournal = WhereKnown trace (λ states. IsNotJournal (present states).seen) × Says output [] [] not_journal_line
-RefusesJournal trace output (Damaged place) =
-    WhereKnown trace (λ states. IsDamagedAt book_limit place (present states).seen) × Says output [] [] (journal_damaged_text place)
-RefusesJournal trace output DiskFault = ⊥
-RefusesJournal trace output NoMemory = ⊥
-
 -- No desk was recovered: nothing was taken of the input, and nothing was written.
 pub record NoDesk (old new : Option (List State)) (disk : Count) (from to : Option Stream) (source : Count) (output : Output) (status : ℕ) : Type 0 where
-  pub statuses : (status ≡ 3) ⊎ (status ≡ 5) ⊎ (status ≡ 6) ⊎ (status ≡ 7)
-  pub refused : status ≡ 3 → (why : RecoverFault) × RefusesJournal new output why
-  -- bytes that stand for a history aren't refused
-  pub refused_only : (history : History) → WhereKnown new (λ states. Recovers book_limit history (present states).seen → status ≢ 3)
-  pub disk_failed : status ≡ 5 → HasRisen disk × Says output [] [] disk_fault_line
-  pub faulted : status ≡ 6 → HasRisen output.count × Says output [] (no_memory_line ∷ []) port_fault_line
-  pub memory_only : status ≡ 7 → IsQuiet output.count × Says output [] [] no_memory_line
-  pub disk_quiet : status ≢ 5 → IsQuiet disk
-  pub wrote_nothing : WritesNothing old new
+  pub nothing_recovered : RecoversNothing old new disk output status
   pub input_kept : to ≡ from
   pub quiet : IsQuiet source
 

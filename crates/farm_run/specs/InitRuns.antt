@@ -14,10 +14,12 @@ use Rattle.farm_ports.specs.Folders.{File}
 use Rattle.site_keys.specs.declared.fault.SiteFault.{SiteFault}
 use Rattle.site_keys.specs.Faults.{Refusal}
 use Rattle.farm_site.specs.Described.{Described, site_of_files}
-use Rattle.farm_run.specs.Limits.{book_limit}
+use Rattle.run_reports.specs.Limits.{book_limit}
 use Rattle.farm_run.specs.OutputTexts.{text_or_fault}
-use Rattle.farm_run.specs.Runs.{LacksMemory, OneAnswerRun, Output, Says}
-use Rattle.farm_run.specs.Texts.{disk_fault_line, no_memory_line, not_empty_line, port_fault_line, site_refused_text}
+use Rattle.run_reports.specs.Reports.{LacksMemory, Output, Says}
+use Rattle.farm_run.specs.Runs.{OneAnswerRun}
+use Rattle.run_reports.specs.Texts.{disk_fault_line, no_memory_line, port_fault_line}
+use Rattle.farm_run.specs.Texts.{not_empty_line, site_refused_text}
 
 -- what reading a site alone answers: no text, or its first fault
 abbrev pub site_answer : Result Described Refusal → Option (Result (List ℕ) SiteFault)

@@ -1,4 +1,4 @@
--- The lines that end a run with a status other than 0. Each text is a whole line.
+-- The lines that end a run with status 1, 2 or 4, and that of `init` with 3. Each text is a whole line.
 use Rattle.std.specs.Prelude.{ℕ, List, ◌++◌, codes, decimal}
 use Rattle.farm_fixed.specs.declared.records.ChainRule.TheVariants.{AboveTable, WaterAboveLevel, NoEntry, CriticalZone, Negative}
 use Rattle.calc_input.specs.declared.refusal.Cause.{Cause}
@@ -10,29 +10,9 @@ use Rattle.site_keys.specs.declared.fault.SiteFault.{SiteFault}
 abbrev pub usage_line : List ℕ
 usage_line = codes "usage: farm calc|init|table|batch|serve|report|drill\n"
 
--- 7: out of memory
-abbrev pub no_memory_line : List ℕ
-no_memory_line = codes "no memory\n"
-
--- 6: the input, the folder or the output failed
-abbrev pub port_fault_line : List ℕ
-port_fault_line = codes "port fault\n"
-
--- 5: the disk failed
-abbrev pub disk_fault_line : List ℕ
-disk_fault_line = codes "disk fault\n"
-
 -- 3: the disk has bytes where a journal is to be made
 abbrev pub not_empty_line : List ℕ
 not_empty_line = codes "journal not empty\n"
-
--- 3: the bytes of the disk don't begin as a journal's
-abbrev pub not_journal_line : List ℕ
-not_journal_line = codes "not a journal\n"
-
--- 3: a journal is damaged at a place, 0 for its site and 1 for the first entry
-unfoldable pub journal_damaged_text : ℕ → List ℕ
-journal_damaged_text place = codes "journal damaged at " ++ (decimal place ++ codes "\n")
 
 -- the word for what is wrong with an input
 unfoldable pub cause_word : Cause → List ℕ

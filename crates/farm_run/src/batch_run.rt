@@ -4,22 +4,21 @@ ghost use Rattle.std.specs.Prelude.{◌≤◌, IfSome, IsSome};
 ghost use Rattle.farm_base.specs.Counts.{count_of};
 ghost use Rattle.farm_desk.specs.States.{IsJustMade};
 ghost use Rattle.farm_history.specs.History.{last_place};
-ghost use Rattle.farm_run.specs.BatchRuns.{BatchRun, DeskBatch, EndReported, NotRecovered};
-ghost use Rattle.farm_run.specs.Disks.{IsLater};
-ghost use Rattle.farm_run.specs.Runs.{output_of};
+ghost use Rattle.farm_run.specs.BatchRuns.{BatchRun, DeskBatch, EndReported};
+ghost use Rattle.run_reports.specs.Disks.{IsLater};
+ghost use Rattle.run_reports.specs.Reports.{output_of};
 
-use crate::boxed_disk::{BoxedDisk, on_heap};
-use crate::done::Done;
-use crate::limits::BOOK_LIMIT;
-use crate::reports::{
-    DONE, JOURNAL_REFUSED, REFUSED, refuse, report_disk_fault, report_fault, report_no_memory, say,
-};
-use crate::texts::{NOT_A_JOURNAL_LINE, journal_damaged_text, too_long_text};
+use crate::statuses::REFUSED;
+use crate::texts::too_long_text;
 use farm_base::NoMemory;
 use farm_batch::{BatchEnd, answer_lines};
-use farm_desk::{Desk, RecoverFault};
+use farm_desk::Desk;
 use farm_disk::Disk;
 use farm_ports::{Clock, Sink, Source};
+use run_reports::{
+    BOOK_LIMIT, BoxedDisk, DONE, Done, on_heap, refuse, report_disk_fault, report_fault,
+    report_no_memory, report_recover,
+};
 use std::alloc::Global;
 
 /// `batch`: the journal is read whole before the first line is taken.
@@ -49,21 +48,6 @@ pub(crate) fn batch<S: Source, K: Sink, D: Disk, C: Clock>(
             status: report_recover(alloc, fault, output),
             disk: Some(disk.into_inner()),
         },
-    }
-}
-
-// Reports why a journal wasn't recovered.
-fn report_recover<K: Sink>(alloc: Global, fault: RecoverFault, output: &mut K) -> u8
-    ensures reports { NotRecovered fault (output_of K.held K.faults output.old output.new) result }
-    ensures never_falls { K.faults output.old ≤ K.faults output.new }
-{
-    match fault {
-        RecoverFault::NotJournal => say(NOT_A_JOURNAL_LINE, JOURNAL_REFUSED, output),
-        RecoverFault::Damaged(place) => {
-            refuse(journal_damaged_text(alloc, place), JOURNAL_REFUSED, output)
-        }
-        RecoverFault::DiskFault => report_disk_fault(output),
-        RecoverFault::NoMemory => report_no_memory(output),
     }
 }
 

@@ -3,23 +3,21 @@
 ghost use Rattle.std.specs.Prelude.{◌≤◌, IfSome, IsSome};
 ghost use Rattle.farm_base.specs.Counts.{count_of};
 ghost use Rattle.farm_base.specs.Known.{Stays};
-ghost use Rattle.farm_run.specs.Disks.{IsLater};
+ghost use Rattle.run_reports.specs.Disks.{IsLater};
 ghost use Rattle.farm_run.specs.InitRuns.{FolderFailed, InitRun, NotCreated, SiteInit};
-ghost use Rattle.farm_run.specs.Runs.{output_of};
+ghost use Rattle.run_reports.specs.Reports.{output_of};
 ghost use Rattle.farm_site.specs.Sites.{described};
 
-use crate::boxed_disk::{BoxedDisk, on_heap};
-use crate::done::Done;
-use crate::limits::BOOK_LIMIT;
-use crate::reports::{
-    DONE, JOURNAL_REFUSED, SITE_REFUSED, refuse, report_disk_fault, report_fault, report_no_memory,
-    say,
-};
+use crate::statuses::SITE_REFUSED;
 use crate::texts::{NOT_EMPTY_LINE, site_refused_text};
 use farm_desk::{CreateFault, Desk};
 use farm_disk::Disk;
 use farm_ports::{Failed, Folder, Sink};
 use farm_site::{Site, SiteReadFault};
+use run_reports::{
+    BOOK_LIMIT, BoxedDisk, DONE, Done, JOURNAL_REFUSED, on_heap, refuse, report_disk_fault,
+    report_fault, report_no_memory, say,
+};
 use std::alloc::Global;
 
 /// `init`: the site is read whole before the disk's first call.

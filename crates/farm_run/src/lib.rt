@@ -6,17 +6,10 @@
 #![tactic(auto)]
 
 mod batch_run;
-mod boxed_disk;
-mod done;
 mod init_run;
-mod limits;
-mod number_laws;
 mod program;
-mod reports;
+mod statuses;
 mod texts;
 
-pub use done::Done;
-pub use limits::BOOK_LIMIT;
-pub use number_laws::defined_numbers;
 pub use program::run;
-pub use reports::report_no_memory;
+pub use run_reports::{BOOK_LIMIT, Done, defined_numbers, report_no_memory};

@@ -9,17 +9,15 @@ ghost use Rattle.command_line.specs.Commands.{command_of};
 ghost use Rattle.calc_input.specs.declared.refusal.Refused.{Refused};
 ghost use Rattle.farm_run.specs.OutputTexts.{calc_of, calc_text};
 ghost use Rattle.farm_run.specs.BatchRuns.{BatchRun};
-ghost use Rattle.farm_run.specs.Disks.{IsLater};
+ghost use Rattle.run_reports.specs.Disks.{IsLater};
 ghost use Rattle.farm_run.specs.InitRuns.{InitRun};
 ghost use Rattle.farm_run.specs.Texts.{refusal_text};
-ghost use Rattle.farm_run.specs.Runs.{Answers, CalcRun, Delivers, LacksMemory, StopsAtMissing, TableRun, UsageRun, given, output_of, uses_disk, uses_folder, uses_input};
+ghost use Rattle.run_reports.specs.Reports.{Delivers, LacksMemory, output_of};
+ghost use Rattle.farm_run.specs.Runs.{Answers, CalcRun, StopsAtMissing, TableRun, UsageRun, given, uses_disk, uses_folder, uses_input};
 
 use crate::batch_run::batch;
-use crate::done::Done;
 use crate::init_run::init;
-use crate::reports::{
-    NO_COMMAND, REFUSED, SITE_REFUSED, deliver, refuse, report_fault, report_no_memory, say,
-};
+use crate::statuses::{NO_COMMAND, REFUSED, SITE_REFUSED};
 use crate::texts::{USAGE_LINE, refusal_text, site_refused_text};
 use calc_input::{MOST_INPUT_BYTES, NoFigures, figures_of_input};
 use command_line::Subcommand;
@@ -29,6 +27,7 @@ use farm_fixed::Quantities;
 use farm_ports::{Clock, Folder, PortFault, Sink, Source, read_up_to};
 use farm_report::{figures_text, issued};
 use farm_site::{Site, SiteReadFault};
+use run_reports::{Done, deliver, refuse, report_fault, report_no_memory, say};
 use std::alloc::Global;
 
 /// Runs the command of the arguments, the words after the program's name, and answers the status that the program ends with, and the disk.

@@ -1,7 +1,7 @@
-//! The lines that end a run with a status other than 0.
+//! The lines that end a run with status 1, 2 or 4, and that of `init` with 3.
 
 ghost use Rattle.std.specs.Prelude.{◌≡◌, IfOk};
-ghost use Rattle.farm_run.specs.Texts.{cause_word, journal_damaged_text, refusal_text, refused_at, site_refused_text, too_long_text};
+ghost use Rattle.farm_run.specs.Texts.{cause_word, refusal_text, refused_at, site_refused_text, too_long_text};
 
 use calc_input::{Cause, Refused};
 use farm_base::NoMemory;
@@ -12,16 +12,8 @@ use text_pieces::{Piece, append};
 
 /// The arguments are no command.
 pub const USAGE_LINE: &[u8] = b"usage: farm calc|init|table|batch|serve|report|drill\n";
-/// There was no memory.
-pub const NO_MEMORY_LINE: &[u8] = b"no memory\n";
-/// The input, the folder or the output failed.
-pub const PORT_FAULT_LINE: &[u8] = b"port fault\n";
-/// The disk failed.
-pub const DISK_FAULT_LINE: &[u8] = b"disk fault\n";
 /// The disk has bytes where a journal is to be made.
 pub const NOT_EMPTY_LINE: &[u8] = b"journal not empty\n";
-/// The bytes of the disk don't begin as a journal's.
-pub const NOT_A_JOURNAL_LINE: &[u8] = b"not a journal\n";
 
 /// The line of a site that its folder doesn't describe.
 #[tactic(auto, unfolding(crate::specs::Texts::site_refused_text))]
@@ -38,23 +30,6 @@ pub fn site_refused_text(alloc: Global, fault: SiteFault) -> Result<Vec<u8>, NoM
             Piece::Number(u64::from(fault.item)),
             Piece::Text(b" detail "),
             Piece::Number(u64::from(fault.detail)),
-            Piece::Text(b"\n"),
-        ],
-    )?;
-    Ok(text)
-}
-
-/// The line of a journal that is damaged at a place: 0 is its site, 1 the first entry.
-#[tactic(auto, unfolding(crate::specs::Texts::journal_damaged_text))]
-pub fn journal_damaged_text(alloc: Global, place: u32) -> Result<Vec<u8>, NoMemory>
-    ensures line { IfOk result (λ text. text.items ≡ journal_damaged_text place) }
-{
-    let mut text = Vec::new(alloc);
-    append(
-        &mut text,
-        &[
-            Piece::Text(b"journal damaged at "),
-            Piece::Number(u64::from(place)),
             Piece::Text(b"\n"),
         ],
     )?;

@@ -1,9 +1,10 @@
 -- Answers to the open goals of `ask_lines`.
 use Rattle.std.proofs.Common.{◌≡◌, ap, false}
 use Rattle.farm_base.specs.Counts.{count_of}
-use Rattle.farm_run.specs.Disks.{IsLater}
+use Rattle.run_reports.specs.Disks.{IsLater}
 use Rattle.farm_run.proofs.BatchEnds.{batch_ended, on_err_all}
-use Rattle.farm_run.proofs.DisksLeft.{later_more, leaves}
+use Rattle.run_reports.proofs.DisksLeft.{later_more}
+use Rattle.farm_run.proofs.DisksLeft.{leaves}
 use Rattle.farm_run.proofs.batch_run.ask_lines.Goals as goal
 
 pub returns-clause-desk_batch : goal.returns-clause-desk_batch

@@ -1,14 +1,15 @@
 -- Answers to the open goals of `batch`.
 use Rattle.std.proofs.Common.{inl}
 use Rattle.farm_base.specs.Counts.{count_of}
-use Rattle.farm_run.specs.Disks.{IsLater}
-use Rattle.farm_run.proofs.DisksLeft.{handed_back, later_more}
-use Rattle.farm_run.proofs.NoDesks.{not_asked, not_recovered}
+use Rattle.run_reports.specs.Disks.{IsLater}
+use Rattle.run_reports.proofs.DisksLeft.{handed_back, later_more}
+use Rattle.run_reports.proofs.NoDesks.{not_asked, not_recovered}
+use Rattle.farm_run.proofs.NoDesks.{no_desk}
 use Rattle.farm_run.proofs.batch_run.batch.Goals as goal
 
 pub returns-in-Err-clause-batch_run : goal.returns-in-Err-clause-batch_run
 returns-in-Err-clause-batch_run g c =
-    rw c.in-Err.ensures.given_back (inl (not_asked _ _ _ _ _ _ c.in-Err.ensures.lacks_memory))
+    rw c.in-Err.ensures.given_back (inl (no_desk _ _ _ _ _ _ _ (not_asked _ _ _ _ c.in-Err.ensures.lacks_memory)))
 
 pub returns-in-Ok-recover-clause-disk_later : goal.returns-in-Ok-recover-clause-disk_later
 returns-in-Ok-recover-clause-disk_later g c =
@@ -23,5 +24,5 @@ pub returns-in-Err-recover-clause-batch_run : goal.returns-in-Err-recover-clause
 returns-in-Err-recover-clause-batch_run g c =
     let said = c.in-Err-recover.ensures in
     rw (c.into_inner.ensures.disk, ← c.in-Ok.ensures.moved, ← c.in-Ok.ensures.output_kept)
-    (inl (not_recovered _ _ _ _ _ _ _ said.wrote_nothing c.in-Err-recover.fault c.laws.ensures.recovered_is_not_refused said.refused said.cause said.quiet
-    c.report_recover.ensures.reports))
+    (inl (no_desk _ _ _ _ _ _ _ (not_recovered _ _ _ _ _ said.wrote_nothing c.in-Err-recover.fault c.laws.ensures.recovered_is_not_refused said.refused said.cause
+    said.quiet c.report_recover.ensures.reports)))

@@ -4,7 +4,9 @@ use Rattle.std.specs.declared.alloc.Global.{Global}
 use Rattle.std.specs.Prelude.{Vec}
 use Rattle.farm_run.specs.InitRuns.{site_answer, site_answer_of}
 use Rattle.farm_run.specs.Texts.{site_refused_text}
-use Rattle.farm_run.proofs.Runs.{answers_refusing, known_map, lacking_not_done, refused_by, refused_not_done, run_answering, run_lacking}
+use Rattle.run_reports.proofs.Known.{known_map}
+use Rattle.run_reports.proofs.Refusals.{lacking_not_done, refused_by, refused_not_done}
+use Rattle.farm_run.proofs.Runs.{answers_refusing, run_answering, run_lacking}
 use Rattle.farm_run.proofs.init_run.init.Goals as goal
 
 pub returns-in-Err-Bad-clause-init_run : goal.returns-in-Err-Bad-clause-init_run

@@ -4,7 +4,8 @@ use Rattle.std.specs.declared.alloc.Global.{Global}
 use Rattle.std.specs.Prelude.{Vec}
 use Rattle.farm_run.specs.OutputTexts.{calc_of}
 use Rattle.farm_run.specs.Texts.{refusal_text}
-use Rattle.farm_run.proofs.Runs.{answers_delivering, answers_refusing, answers_lacking, refused_by}
+use Rattle.run_reports.proofs.Refusals.{refused_by}
+use Rattle.farm_run.proofs.Runs.{answers_delivering, answers_refusing, answers_lacking}
 use Rattle.farm_run.proofs.program.answer_input.Goals as goal
 
 pub returns-in-Ok-clause-answers : goal.returns-in-Ok-clause-answers

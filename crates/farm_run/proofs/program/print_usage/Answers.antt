@@ -1,6 +1,6 @@
 -- Answers to the open goals of `print_usage`.
 use Rattle.farm_run.specs.Texts.{usage_line}
-use Rattle.farm_run.proofs.Printing.{says_last}
+use Rattle.run_reports.proofs.Printing.{says_last}
 use Rattle.farm_run.proofs.program.print_usage.Goals as goal
 
 pub returns-clause-usage_run : goal.returns-clause-usage_run

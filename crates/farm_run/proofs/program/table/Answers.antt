@@ -5,7 +5,9 @@ use Rattle.std.specs.Prelude.{Vec}
 use Rattle.farm_report.specs.Issued.{issued_text}
 use Rattle.farm_run.specs.OutputTexts.{issued_of, table_of}
 use Rattle.farm_run.specs.Texts.{site_refused_text}
-use Rattle.farm_run.proofs.Runs.{answers_delivering, answers_refusing, answers_lacking, delivers_risen, known_map, refused_by, refused_risen, run_answering, run_faulted, run_lacking}
+use Rattle.run_reports.proofs.Known.{known_map}
+use Rattle.run_reports.proofs.Refusals.{delivers_risen, refused_by, refused_risen}
+use Rattle.farm_run.proofs.Runs.{answers_delivering, answers_refusing, answers_lacking, run_answering, run_faulted, run_lacking}
 use Rattle.farm_run.proofs.program.table.Goals as goal
 
 pub returns-in-Ok-clause-table_run : goal.returns-in-Ok-clause-table_run

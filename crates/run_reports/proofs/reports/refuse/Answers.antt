@@ -1,6 +1,6 @@
 -- Answers to the open goals of `refuse`.
-use Rattle.farm_run.proofs.Runs.{refused_said}
-use Rattle.farm_run.proofs.reports.refuse.Goals as goal
+use Rattle.run_reports.proofs.Refusals.{refused_said}
+use Rattle.run_reports.proofs.reports.refuse.Goals as goal
 
 pub returns-in-Ok-clause-refuses : goal.returns-in-Ok-clause-refuses
 returns-in-Ok-clause-refuses g c =

@@ -1,8 +1,8 @@
 -- Answers to the open goals of `report_no_memory`.
 use Rattle.std.proofs.Common.{inl, [], arith}
-use Rattle.farm_run.specs.Texts.{no_memory_line, port_fault_line}
-use Rattle.farm_run.proofs.Printing.{says_after_fault, after_a_text}
-use Rattle.farm_run.proofs.reports.report_no_memory.Goals as goal
+use Rattle.run_reports.specs.Texts.{no_memory_line, port_fault_line}
+use Rattle.run_reports.proofs.Printing.{says_after_fault, after_a_text}
+use Rattle.run_reports.proofs.reports.report_no_memory.Goals as goal
 
 pub returns-in-Err-clause-lacks_memory : goal.returns-in-Err-clause-lacks_memory
 returns-in-Err-clause-lacks_memory g c =

@@ -1,8 +1,8 @@
 -- Answers to the open goals of `deliver`.
 use Rattle.std.proofs.Common.{[], ◌∷◌, inr, arith}
-use Rattle.farm_run.specs.Texts.{no_memory_line, port_fault_line}
-use Rattle.farm_run.proofs.Printing.{says_after_fault}
-use Rattle.farm_run.proofs.reports.deliver.Goals as goal
+use Rattle.run_reports.specs.Texts.{no_memory_line, port_fault_line}
+use Rattle.run_reports.proofs.Printing.{says_after_fault}
+use Rattle.run_reports.proofs.reports.deliver.Goals as goal
 
 pub returns-in-Err-clause-delivers : goal.returns-in-Err-clause-delivers
 returns-in-Err-clause-delivers g c =

@@ -1,7 +1,7 @@
 //! The numbers of the code are those of the definitions.
 
 ghost use Rattle.std.specs.Prelude.{◌≡◌};
-ghost use Rattle.farm_run.specs.Limits.{book_limit};
+ghost use Rattle.run_reports.specs.Limits.{book_limit};
 
 use crate::limits::BOOK_LIMIT;
 

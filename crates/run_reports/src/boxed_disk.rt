@@ -1,7 +1,7 @@
 //! A disk on the heap.
 
 ghost use Rattle.std.specs.Prelude.{◌≡◌, ◌≤◌, IfErr, IfOk, OnOk, Some};
-ghost use Rattle.farm_run.specs.Runs.{LacksMemory, output_of};
+ghost use Rattle.run_reports.specs.Reports.{LacksMemory, output_of};
 
 use crate::done::Done;
 use crate::reports::report_no_memory;
@@ -11,13 +11,14 @@ use std::alloc::Global;
 
 /// A disk on the heap. It is as large as a pointer, whatever the disk's type, so that the size of a desk over it is known.
 #[derive(Drop)]
-pub(crate) struct BoxedDisk<D> {
-    disk: Box<D>,
+pub struct BoxedDisk<D> {
+    /// The disk.
+    pub disk: Box<D>,
 }
 
 impl<D> BoxedDisk<D> {
-    // Moves a disk to the heap; it is given back where there is no memory.
-    pub(crate) fn new(alloc: Global, disk: D) -> Result<Self, D>
+    /// Moves a disk to the heap; it is given back where there is no memory.
+    pub fn new(alloc: Global, disk: D) -> Result<Self, D>
         ensures moved { IfOk result (λ boxed. boxed.disk.value ≡ disk) }
         ensures given_back { IfErr result (λ left. left ≡ disk) }
     {
@@ -27,20 +28,16 @@ impl<D> BoxedDisk<D> {
         }
     }
 
-    // Moves the disk from the heap.
-    pub(crate) fn into_inner(self) -> D
+    /// Moves the disk from the heap.
+    pub fn into_inner(self) -> D
         ensures disk { result ≡ self.disk.value }
     {
         Box::into_inner(self.disk)
     }
 }
 
-// Moves a disk to the heap. Where there is no memory that is reported, and the disk handed back.
-pub(crate) fn on_heap<K: Sink, D>(
-    alloc: Global,
-    disk: D,
-    output: &mut K,
-) -> Result<BoxedDisk<D>, Done<D>>
+/// Moves a disk to the heap. Where there is no memory that is reported, and the disk handed back.
+pub fn on_heap<K: Sink, D>(alloc: Global, disk: D, output: &mut K) -> Result<BoxedDisk<D>, Done<D>>
     ensures moved { IfOk result (λ boxed. boxed.disk.value ≡ disk) }
     ensures output_kept { OnOk result (output.new ≡ output.old) }
     ensures given_back { IfErr result (λ done. done.disk ≡ Some disk) }

@@ -1,11 +1,11 @@
 -- What was printed, from what each put added.
-use Rattle.std.proofs.Common.{ℕ, ◌≤◌, List, [], ◌∷◌, ◌++◌, length, take, append-nil, Option, Result, Ok, Err, refl, sym, subst, arith}
+use Rattle.std.proofs.Common.{◌≡◌, ℕ, zero, suc, ◌≤◌, List, [], ◌∷◌, ◌++◌, length, take, append-nil, Option, Result, Ok, Err, refl, sym, subst, arith}
 use Rattle.std.proofs.Math.Seq.{take-length}
 use Rattle.farm_base.specs.Counts.{Rose, HasCause}
 use Rattle.farm_base.specs.Known.{Adds, AddsAll, Fronts}
 use Rattle.farm_base.proofs.Additions.{additions_add_up}
 use Rattle.farm_ports.specs.Ports.{PutsAll}
-use Rattle.farm_run.specs.Runs.{EndsWith, Output, Puts, Says}
+use Rattle.run_reports.specs.Reports.{EndsWith, Output, Puts, Says}
 
 -- a whole text is a front of itself
 whole_front : (old new : Option (List ℕ)) (text : List ℕ) → Adds old new text → (n : ℕ) × (n ≤ length text) × Adds old new (take n text)
@@ -53,6 +53,10 @@ says_last output texts middle last puts =
 pub rose_later : (before middle now : ℕ) → Rose before middle → middle ≤ now → Rose before now
 rose_later before middle now rose later = omega arith
 
+-- a count that rises later has risen from before
+pub rose_before : (before between now : ℕ) → before ≤ between → Rose between now → Rose before now
+rose_before before between now first rose = omega arith
+
 -- a front of a text was put and the output failed; then a front of the last was
 pub says_after_fault : (old middle new : Option (List ℕ)) (before between now : ℕ) (others : List (List ℕ)) (text last : List ℕ) →
     (n : ℕ) × (n ≤ length text) × Adds old middle (take n text) → Rose before between → between ≤ now →
@@ -84,3 +88,22 @@ says_ends output texts middle last says = λ quiet. let whole = says.whole quiet
 -- a text that was put is what the bytes end with
 pub puts_ends : (output : Output) (last : List ℕ) → Puts output last → EndsWith output last
 puts_ends output last puts = λ quiet. ([], puts.whole quiet)
+
+-- nothing has no front but itself
+take_none : (n : ℕ) → take {A = ℕ} n [] ≡ []
+take_none zero = refl
+take_none (suc n) = refl
+
+-- an empty text adds nothing to the fronts of others
+no_text : (texts : List (List ℕ)) (bytes : List ℕ) → Fronts ([] ∷ texts) bytes → Fronts texts bytes
+no_text texts bytes fronts =
+    let rest = fronts.2 in
+    let same = subst (λ (t : List ℕ). bytes ≡ t ++ rest) (take_none fronts.0) fronts.3 in
+    subst (λ (b : List ℕ). Fronts texts b) (sym same) fronts.4
+
+-- of an empty text nothing is said
+pub without_text : (output : Output) (others : List (List ℕ)) (last : List ℕ) → Says output ([] ∷ []) others last → Says output [] others last
+without_text output others last says = record {
+  front = record { bytes = says.front.bytes; added = says.front.added; fronts = no_text (others ++ last ∷ []) says.front.bytes says.front.fronts };
+  whole = λ quiet. let whole = says.whole quiet in record { bytes = whole.bytes; added = whole.added; fronts = no_text [] whole.bytes whole.fronts };
+}
