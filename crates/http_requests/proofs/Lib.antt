@@ -1,0 +1,1 @@
+-- The lemmas of `http_requests`, by topic.
