@@ -22,6 +22,15 @@ pub record IsGot (bytes : List ℕ) (asked : Asked) (last : Bool) (used : ℕ) :
   pub is_last : last ≡ request.last
   pub uses : used ≡ request.head + request.body
 
+-- what the code tells of a whole request at the front
+abbrev pub IsGotOf : List ℕ → RequestFront → Heard → Type 0
+IsGotOf bytes request Need = ⊥
+IsGotOf bytes request NoMemory = Unit {0}
+IsGotOf bytes request (Broken status) = ⊥
+IsGotOf bytes request (Got asked last used) =
+    (asked ≡ asked_of request.method.now request.target.now (body_of request bytes)) × (last ≡ request.last)
+    × (used ≡ request.head + request.body)
+
 -- what the bytes in hand are; out of memory may come at any time
 abbrev pub IsHeard : List ℕ → Heard → Type 0
 IsHeard bytes Need = IsFront bytes fronts.Need

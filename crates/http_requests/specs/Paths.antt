@@ -4,7 +4,6 @@ use Rattle.std.specs.List.{before_first}
 use Rattle.std.specs.Str.{is_utf8}
 use Rattle.std.specs.Str.Parse.{digits_value}
 use Rattle.farm_base.specs.Bytes.{is_all_digits}
-use Rattle.farm_history.specs.declared.query.Query.{Query}
 use Rattle.farm_history.specs.declared.query.Query.TheVariants as queries
 use Rattle.farm_http.specs.Limits.{greatest_place, greatest_tank}
 use Rattle.matchit.specs.Router.{RouteOf}
@@ -21,7 +20,7 @@ path_of target = before_first (λ byte. byte == 63) target
 
 -- a parameter is written as 1 to 10 decimal digits
 abbrev pub is_number : List ℕ → Bool
-is_number text = leb 1 (length text) && leb (length text) most_parameter_digits && is_all_digits text
+is_number text = leb 1 (length text) && (leb (length text) most_parameter_digits && is_all_digits text)
 
 -- the number that a parameter is, if it is at most this
 unfoldable pub number_within : ℕ → List ℕ → Option ℕ

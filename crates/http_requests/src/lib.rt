@@ -8,6 +8,7 @@ mod asked;
 mod heard;
 mod limits;
 mod number_laws;
+mod paths;
 mod request_laws;
 mod resource;
 mod route;
