@@ -1,0 +1,12 @@
+-- The lemmas of `desk_posts`, by subject.
+pub mod Lists
+pub mod Fronts
+pub mod Longer
+pub mod Following
+pub mod Takings
+pub mod Rooms
+pub mod Refusals
+pub mod Answering
+pub mod Acts
+pub mod Connections
+pub mod Conversing

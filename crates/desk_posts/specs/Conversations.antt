@@ -1,0 +1,57 @@
+-- The conversation of a desk post: what it did on its listener, and what each connection was answered.
+use Rattle.std.specs.Prelude.{◌≡◌, ◌⊎◌, ℕ, Bool, true, false, All, List, [], ◌∷◌, ◌++◌, drop, flat_map, Option, ℤ}
+use Rattle.farm_base.specs.Counts.{Count, HasRisen, IsQuiet}
+use Rattle.farm_history.specs.History.{History}
+use Rattle.farm_listeners.specs.Listeners.{AddsEvents, Connection, Event, Listened, Came, Left, Ended}
+use Rattle.desk_access.specs.Access.{CallerState, has_stop}
+use Rattle.desk_posts.specs.Courses.{Act, IsServed, exchanges_of}
+use Rattle.desk_posts.specs.Exchanges.{Exchange, sees_stop}
+use Rattle.desk_posts.specs.Visits.{Exchanges}
+use Rattle.desk_posts.specs.declared.posts.PostEnd.{PostEnd}
+use Rattle.desk_posts.specs.declared.posts.PostEnd.TheVariants as ends
+
+-- a connection that was served: what was known of it as it was handed back, and its course
+pub record Served : Type 0 where
+  pub conn : Connection
+  pub acts : List Act
+
+-- the exchanges of connections, in their order
+abbrev pub all_exchanges : List Served → List Exchange
+all_exchanges served = flat_map (λ visit. exchanges_of visit.acts) served
+
+-- a connection came, and was handed back before the next call
+abbrev pub events_of : List Served → List Event
+events_of served = flat_map (λ visit. Came ∷ Left visit.conn ∷ []) served
+
+-- what a listener has seen with the end of a post
+abbrev pub last_events : PostEnd → List Event
+last_events ends.Stopped = []
+last_events ends.Ended = Ended ∷ []
+last_events ends.ListenerFailed = []
+
+-- A post listened once, on its port, and then served one connection after another.
+pub data Visited (port : ℕ) (old new : Option (List Event)) (end : PostEnd) (served : List Served) : Type 0 where
+  refused : AddsEvents old new (Listened port true ∷ []) → end ≡ ends.ListenerFailed → served ≡ [] → Visited port old new end served
+  listened : AddsEvents old new (Listened port false ∷ events_of served ++ last_events end) → Visited port old new end served
+
+-- A post ended where it had seen a Stop that was entered since the desk was opened, and not earlier; or its listener answered that no more
+-- connections will come; or its listener failed.
+abbrev pub EndsAs : ℕ → History → Count → PostEnd → Type 0
+EndsAs opened seen count ends.Stopped = (has_stop (drop opened seen.entries) ≡ true) × IsQuiet count
+EndsAs opened seen count ends.Ended = (has_stop (drop opened seen.entries) ≡ false) × IsQuiet count
+EndsAs opened seen count ends.ListenerFailed = (has_stop (drop opened seen.entries) ≡ false) × HasRisen count
+
+-- no connection but the last one saw a Stop
+abbrev pub StopsAtOnce : ℕ → History → List Served → Type 0
+StopsAtOnce opened history served =
+    (before : List Served) (last : Served) → served ≡ before ++ last ∷ [] → All (λ exchange. sees_stop opened history exchange ≡ false) (all_exchanges before)
+
+-- The conversation of a post, from how its caller's access stood to how it stands.
+pub record IsConversation (may_follow : History → History → Type 0) (may_give : ℤ → Type 0) (limit port : ℕ) (events_before events_after : Option (List Event))
+    (count : Count) (old new : CallerState) (end : PostEnd) : Type 0 where
+  pub served : List Served
+  pub visited : Visited port events_before events_after end served
+  pub each : All (λ visit. IsServed may_give limit old.caller old.opened new.seen visit.conn visit.acts) served
+  pub exchanged : Exchanges may_follow old new (all_exchanges served)
+  pub stops_at_once : StopsAtOnce old.opened new.seen served
+  pub ends : EndsAs old.opened new.seen count end

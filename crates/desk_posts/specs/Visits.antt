@@ -1,0 +1,24 @@
+-- A connection that was served, by how its caller's access to the desk stood before and after.
+use Rattle.std.specs.Prelude.{◌≡◌, ℕ, List, ◌++◌, ℤ}
+use Rattle.farm_base.specs.Counts.{raised}
+use Rattle.farm_history.specs.History.{History, last_place}
+use Rattle.farm_listeners.specs.Listeners.{Connection}
+use Rattle.desk_access.specs.Access.{CallerState, Continues, StaysCaller}
+use Rattle.desk_posts.specs.Courses.{Act, IsServed, exchanges_of}
+use Rattle.desk_posts.specs.Exchanges.{AreAcknowledged, Exchange, Follow, entered_in, faults_in}
+
+-- What exchanges did to an access, from how it stood to how it stands: they follow one another on the history that its caller has seen since,
+-- what they entered is the caller's own, and each fault that they answered is counted. No reply rests on an entry that is in doubt.
+pub record Exchanges (may_follow : History → History → Type 0) (old new : CallerState) (exchanges : List Exchange) : Type 0 where
+  pub continues : Continues old.seen new.seen
+  pub follow : Follow may_follow new.seen (last_place old.seen) exchanges (last_place new.seen)
+  pub own : new.own ≡ old.own ++ entered_in new.seen exchanges
+  pub faulted : new.faulted ≡ raised (faults_in exchanges) old.faulted
+  pub acknowledged : AreAcknowledged new.certain exchanges
+  pub stays : StaysCaller old new
+
+-- A connection was served.
+pub record Serves (may_follow : History → History → Type 0) (may_give : ℤ → Type 0) (limit : ℕ) (conn : Connection) (old new : CallerState) : Type 0 where
+  pub acts : List Act
+  pub served : IsServed may_give limit old.caller old.opened new.seen conn acts
+  pub exchanged : Exchanges may_follow old new (exchanges_of acts)
