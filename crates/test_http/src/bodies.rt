@@ -15,10 +15,11 @@ fn done_of(asked: &LineAsked) -> Result<(u32, u64, &Command), &LineAsked> {
     }
 }
 
-// The words of commands, bodies, and the commands that they ask for under account 1 and key 3.
-type Bodies = &'static [(&'static str, &'static str, Command)];
+/// The words of commands, bodies, and the commands that they ask for under account 1 and key 3.
+pub type Bodies = &'static [(&'static str, &'static str, Command)];
 
-const MEASURED: Bodies = &[
+/// What is measured of a tank.
+pub const MEASURED: Bodies = &[
     (
         "gauge",
         r#"{"account":1,"key":3,"tank":101,"level":8000,"water":0,"temperature":1500,"ambient":1400}"#,
@@ -62,7 +63,8 @@ const MEASURED: Bodies = &[
     ),
 ];
 
-const MOVED: Bodies = &[
+/// A movement: its opening, its closing, and one that is given up.
+pub const MOVED: Bodies = &[
     (
         "open",
         r#"{"account":1,"key":3,"way":"delivery","tank":102,"party":8,"reading":10,"sample":6}"#,
@@ -95,7 +97,8 @@ const MOVED: Bodies = &[
     ),
 ];
 
-const ENDED: Bodies = &[
+/// A settlement, a reversal, and Stops.
+pub const ENDED: Bodies = &[
     (
         "settle",
         r#"{"account":1,"key":3,"tank":101,"reading":15,"sample":1}"#,

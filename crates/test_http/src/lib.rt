@@ -1,6 +1,6 @@
-//! Tests of what comes for the desk over HTTP: listeners, heads of requests, bodies that are posted, pages, the summary of a book, and
-//! how a post reaches a desk. They show what no clause of `farm_listeners`, `http_heads`, `farm_http`, `http_pages`, `book_texts` and
-//! `desk_access` says.
+//! Tests of what comes for the desk over HTTP: listeners, heads of requests, requests, bodies that are posted, pages, the summary of a
+//! book, and how a post reaches a desk. They show what no clause of `farm_listeners`, `http_heads`, `http_requests`, `farm_http`,
+//! `http_pages`, `book_texts` and `desk_access` says.
 #![tactic(auto)]
 
 #[cfg(test)]
@@ -17,6 +17,8 @@ mod desks;
 mod heads;
 #[cfg(test)]
 mod pages;
+#[cfg(test)]
+mod requests;
 #[cfg(test)]
 mod summaries;
 #[cfg(test)]
