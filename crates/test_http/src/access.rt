@@ -1,5 +1,6 @@
 //! How the only caller of a desk reaches it, call by call.
 
+ghost use Rattle.farm_history.specs.Commands.{IsWellFormedCommand};
 ghost use Rattle.farm_history.specs.Desk.{IsWellFormedAsk};
 
 use crate::desks::{RowDesk, empty_disk, new_desk, recovered_desk};
@@ -39,7 +40,9 @@ enum Request {
 }
 
 // A gauge's reading of tank 101.
-fn gauge(level: i64) -> Command {
+fn gauge(level: i64) -> Command
+    ensures { IsWellFormedCommand result }
+{
     Command::Gauge {
         tank: 101,
         level,
