@@ -40,7 +40,7 @@ fn tanks_of<const LIMIT: usize>(book: &Book<LIMIT>) -> &[Tank]
     book.site().tanks.get()
 }
 
-// Appends the lines of a summary, or a front of them.
+// Appends the lines of a summary, or a prefix of them.
 #[tactic(auto, unfolding(crate::specs::Summaries::summary_text))]
 fn write_lines<const LIMIT: usize>(
     book: &Book<LIMIT>,

@@ -95,7 +95,7 @@ pub record Serving (may_follow : History → History → Type 0) (may_give : ℤ
   pub exchanged : Exchanges may_follow old new (all_exchanges served)
   pub stops : StopsAtOnce old.opened new.seen served
 
--- a post goes on: it has seen no Stop, and its listener didn't fail
+-- a post continues: it has seen no Stop, and its listener didn't fail
 pub record IsRunning (may_follow : History → History → Type 0) (may_give : ℤ → Type 0) (limit port : ℕ) (events_before events_now : Option (List Event))
     (old new : CallerState) : Type 0 where
   pub served : List Served
@@ -198,7 +198,7 @@ looks_on may_follow laws may_give limit port events_before events_now events_lat
           (none_sees old.opened middle.seen new.seen (all_exchanges served) more.continues within runs.no_stop);
     }
 
--- a post goes on where no Stop was seen
+-- a post continues if no Stop was seen
 pub goes_on : (may_follow : History → History → Type 0) (may_give : ℤ → Type 0) (limit port : ℕ) (events_before events_now : Option (List Event))
     (old new : CallerState) (served : List Served) → Serving may_follow may_give limit port events_before events_now old new served →
     has_stop (drop new.opened new.seen.entries) ≡ false → IsRunning may_follow may_give limit port events_before events_now old new

@@ -6,7 +6,7 @@ use Rattle.std.proofs.lemmas.List.Edits.{take-paste}
 use Rattle.farm_base.specs.Known.{Stream}
 use Rattle.farm_ports.specs.Ports.{ReadsOn, TakesFront}
 
--- what is left after the first bytes in hand, moved to the front
+-- what is left after the first bytes in hand, moved to their place
 pub moved_to_front : (bytes : List ℕ) (count held : ℕ) → count ≤ held → held ≤ length bytes →
     take (held - count) (paste bytes 0 (drop count bytes) (held - count)) ≡ drop count (take held bytes)
 moved_to_front bytes count held fewer within =

@@ -13,7 +13,7 @@ mod posts;
 mod room;
 mod serving;
 
-pub use limits::{MOST_IN_HAND, MOST_REQUESTS};
+pub use limits::MOST_REQUESTS;
 pub use number_laws::defined_numbers;
 pub use posts::{PostEnd, run_post};
 pub use room::PostRoom;

@@ -1,12 +1,11 @@
 //! The numbers of the definitions.
 
 ghost use Rattle.std.specs.Prelude.{◌≡◌};
-ghost use Rattle.desk_posts.specs.Limits.{most_in_hand, most_requests};
+ghost use Rattle.desk_posts.specs.Limits.{most_requests};
 
-use crate::limits::{MOST_IN_HAND, MOST_REQUESTS};
+use crate::limits::MOST_REQUESTS;
 
 /// Does nothing: its contract is that each number of this crate is that of the definitions.
 pub fn defined_numbers()
     ensures most_requests { MOST_REQUESTS ≡ most_requests }
-    ensures most_in_hand { MOST_IN_HAND ≡ most_in_hand }
 {}

@@ -6,12 +6,11 @@ ghost use Rattle.farm_base.specs.Known.{Takes};
 ghost use Rattle.farm_ports.specs.Ports.{ReadsOn, TakeGives};
 ghost use Rattle.http_requests.specs.Hearing.{IsHeard};
 ghost use Rattle.desk_posts.specs.Calls.{AsksWellFormed};
-ghost use Rattle.desk_posts.specs.Limits.{most_in_hand};
+ghost use Rattle.http_requests.specs.Limits.{most_request_bytes};
 
-use crate::limits::MOST_IN_HAND;
 use farm_base::NoMemory;
 use farm_ports::{Failed, Source};
-use http_requests::{Heard, Routes};
+use http_requests::{Heard, MOST_REQUEST_BYTES, Routes};
 use std::alloc::Global;
 use std::marker::Model;
 
@@ -28,13 +27,13 @@ pub struct PostRoom {
 
 impl Model for PostRoom {
     ghost use Rattle.std.specs.Prelude.{◌≡◌, ℕ, ◌≤◌, List, length, take};
-    ghost use Rattle.desk_posts.specs.Limits.{most_in_hand};
+    ghost use Rattle.http_requests.specs.Limits.{most_request_bytes};
 
     ghost Value = { List ℕ };
 
     ghost view = { λ room. take room.held room.bytes.items };
 
-    ghost invariant = { λ room. (room.held ≤ length room.bytes.items) × (length room.bytes.items ≡ most_in_hand) };
+    ghost invariant = { λ room. (room.held ≤ length room.bytes.items) × (length room.bytes.items ≡ most_request_bytes) };
 }
 
 impl PostRoom {
@@ -43,7 +42,7 @@ impl PostRoom {
         ensures in_hand { IfOk result (λ room. room ≡ []) }
     {
         let routes = Routes::new(alloc)?;
-        let bytes = vec![in alloc; 0; MOST_IN_HAND]?;
+        let bytes = vec![in alloc; 0; MOST_REQUEST_BYTES]?;
         Ok(PostRoom {
             bytes,
             held: 0,
@@ -62,7 +61,7 @@ impl PostRoom {
     /// What the bytes in hand are.
     pub(crate) fn hear(&self, alloc: Global) -> Heard
         ensures heard { IsHeard self.now result }
-        ensures room { result ≡ Heard.Need → length self.now < most_in_hand }
+        ensures room { result ≡ Heard.Need → length self.now < most_request_bytes }
         ensures well_formed { AsksWellFormed result }
     {
         self.routes.hear(alloc, &self.bytes[..self.held])
@@ -70,8 +69,8 @@ impl PostRoom {
 
     /// Takes bytes behind those in hand, and says how many; 0 is the end.
     pub(crate) fn take_more<S: Source>(&mut self, source: &mut S) -> Result<usize, Failed>
-        requires room { length self.old < most_in_hand }
-        ensures taken { IfOk result (ReadsOn (S.stream source.old) (S.stream source.new) self.old self.new most_in_hand) }
+        requires room { length self.old < most_request_bytes }
+        ensures taken { IfOk result (ReadsOn (S.stream source.old) (S.stream source.new) self.old self.new most_request_bytes) }
         ensures failed { OnErr result (Takes (S.stream source.old) (S.stream source.new) []) }
         ensures stays { OnErr result (self.new ≡ self.old) }
         ensures held { S.held source.new ≡ S.held source.old }
@@ -83,7 +82,7 @@ impl PostRoom {
         Ok(count)
     }
 
-    /// Drops the first of the bytes in hand, this many, and moves what is left to the front.
+    /// Drops the first of the bytes in hand, this many, and moves what is left to their place.
     pub(crate) fn pass(&mut self, count: usize)
         requires within { count ≤ length self.old }
         ensures in_hand { self.new ≡ drop count self.old }

@@ -78,7 +78,7 @@ need_is_short bytes (of_body awaits) =
       | inr fits ↦ omega (arith, awaits.lacks_body, fits, head)
     ]
 
--- what is told of a whole request is heard
+-- what a whole request is found to be is heard
 pub got_heard : (bytes : List ℕ) (request : RequestFront) (answer : Heard) → IsFront bytes (fronts.Whole request)
     → IsGotOf bytes request answer → IsHeard bytes answer
 got_heard bytes request Need is wrong = absurd wrong
@@ -119,7 +119,7 @@ only_broken bytes status only (Got asked last used) is = elim (only (fronts.Whol
   | inr wrong ↦ absurd wrong.1
 ]
 
--- two requests that are the same are told the same
+-- two requests that are the same are heard as the same
 same_got : (bytes : List ℕ) (one other : RequestFront) (asked asks : Asked) (last ends : Bool) (used uses : ℕ)
     → IsSameRequest one other → IsGotOf bytes one (Got asked last used) → IsGotOf bytes other (Got asks ends uses)
     → Got asked last used ≡ Got asks ends uses

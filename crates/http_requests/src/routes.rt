@@ -74,7 +74,7 @@ impl Routes {
         }
     }
 
-    // What a whole request at the front asks.
+    // What a whole request at the beginning asks.
     fn got(&self, alloc: Global, bytes: &[u8], request: &RequestFront<'_>) -> Heard
         requires { IsFront bytes.now (fronts.Whole request.now) }
         ensures got { IsGotOf bytes.now request.now result }

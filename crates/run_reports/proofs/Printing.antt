@@ -7,7 +7,7 @@ use Rattle.farm_base.proofs.Additions.{additions_add_up}
 use Rattle.farm_ports.specs.Ports.{PutsAll}
 use Rattle.run_reports.specs.Reports.{EndsWith, Output, Puts, Says}
 
--- a whole text is a front of itself
+-- a whole text is a prefix of itself
 whole_front : (old new : Option (List ℕ)) (text : List ℕ) → Adds old new text → (n : ℕ) × (n ≤ length text) × Adds old new (take n text)
 whole_front old new text added =
     let P : List ℕ → Type 0 = λ t. Adds old new t in (length text, omega arith, subst P (sym (take-length text)) added)
@@ -22,7 +22,7 @@ pub puts_from_put : {T E : Type 0} (old new : Option (List ℕ)) (before now : �
 puts_from_put old new before now text (Ok done) bytes cause = record { front = whole_front old new text bytes; whole = λ _. bytes }
 puts_from_put old new before now text (Err e) bytes cause = record { front = bytes; whole = λ quiet. absurd (quiet cause.failed) }
 
--- nothing is a front of each text
+-- nothing is a prefix of each text
 no_fronts : (texts others : List (List ℕ)) (bytes : List ℕ) → Fronts others bytes → Fronts (texts ++ others) bytes
 no_fronts [] others bytes fronts = fronts
 no_fronts (text ∷ texts) others bytes fronts = (0, omega arith, bytes, refl, no_fronts texts others bytes fronts)
@@ -32,11 +32,11 @@ all_none : (texts : List (List ℕ)) → Fronts texts []
 all_none [] = refl
 all_none (text ∷ texts) = (0, omega arith, [], refl, all_none texts)
 
--- a front of one text
+-- a prefix of one text
 one_front : (n : ℕ) (text : List ℕ) → n ≤ length text → Fronts (text ∷ []) (take n text)
 one_front n text within = (n, within, [], sym (append-nil (take n text)), refl)
 
--- of no texts but the last, a front was put
+-- of no texts but the last, a prefix was put
 pub says_last : (output : Output) (texts middle : List (List ℕ)) (last : List ℕ) → Puts output last → Says output texts middle last
 says_last output texts middle last puts =
     let n = puts.front.0 in
@@ -57,7 +57,7 @@ rose_later before middle now rose later = omega arith
 pub rose_before : (before between now : ℕ) → before ≤ between → Rose between now → Rose before now
 rose_before before between now first rose = omega arith
 
--- a front of a text was put and the output failed; then a front of the last was
+-- a prefix of a text was put and the output failed; then a prefix of the last was
 pub says_after_fault : (old middle new : Option (List ℕ)) (before between now : ℕ) (others : List (List ℕ)) (text last : List ℕ) →
     (n : ℕ) × (n ≤ length text) × Adds old middle (take n text) → Rose before between → between ≤ now →
     Puts (output_with middle new between now) last →
@@ -89,12 +89,12 @@ says_ends output texts middle last says = λ quiet. let whole = says.whole quiet
 pub puts_ends : (output : Output) (last : List ℕ) → Puts output last → EndsWith output last
 puts_ends output last puts = λ quiet. ([], puts.whole quiet)
 
--- nothing has no front but itself
+-- nothing has no prefix but itself
 take_none : (n : ℕ) → take {A = ℕ} n [] ≡ []
 take_none zero = refl
 take_none (suc n) = refl
 
--- an empty text adds nothing to the fronts of others
+-- an empty text adds nothing to the prefixes of others
 no_text : (texts : List (List ℕ)) (bytes : List ℕ) → Fronts ([] ∷ texts) bytes → Fronts texts bytes
 no_text texts bytes fronts =
     let rest = fronts.2 in

@@ -14,12 +14,12 @@ pub record Output : Type 0 where
 abbrev pub output_of : {K : Type 0} → (K → Option (List ℕ)) → (K → ℕ) → K → K → Output
 output_of held faults old new = record { old = held old; new = held new; count = count_of faults old new }
 
--- A front of the text was put, and all of it unless the output failed.
+-- A prefix of the text was put, and all of it unless the output failed.
 pub record Puts (output : Output) (text : List ℕ) : Type 0 where
   pub front : (n : ℕ) × (n ≤ length text) × Adds output.old output.new (take n text)
   pub whole : ¬ (HasRisen output.count) → Adds output.old output.new text
 
--- A front of each text was put, of the middle texts and of the last one; without a fault no middle text, and the last one whole.
+-- A prefix of each text was put, of the middle texts and of the last one; without a fault no middle text, and the last one whole.
 pub record Says (output : Output) (texts middle : List (List ℕ)) (last : List ℕ) : Type 0 where
   pub front : AddsAll output.old output.new (texts ++ middle ++ last ∷ [])
   pub whole : ¬ (HasRisen output.count) → AddsWhole output.old output.new texts last
