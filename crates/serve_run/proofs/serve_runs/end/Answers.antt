@@ -1,0 +1,23 @@
+-- Answers to the open goals of `end`.
+use Rattle.std.proofs.Common.{subst}
+use Rattle.book_texts.specs.Summaries.{IsSummary, summary_text}
+use Rattle.farm_history.specs.History.{History}
+use Rattle.serve_run.proofs.SummariesPut.{reports_made}
+use Rattle.serve_run.proofs.serve_runs.end.Goals as goal
+
+pub returns-clause-ended : goal.returns-clause-ended
+returns-clause-ended g c =
+    let finish = c.finish-disk.ensures in
+    let history = c.book.ensures.history in
+    let made = c.summary_of-text.ensures in
+    rw c.into_inner.ensures.disk (record {
+      doubt = c.finish-disk.result.1;
+      settled = λ sure. (finish.untouched sure).1;
+      since = finish.since;
+      now = finish.now;
+      once = finish.once;
+      quiet = finish.quiet;
+      disk_later = record { extends = finish.extends; moment_on = finish.moment; never_falls = finish.never_falls };
+      summary = subst (λ (h : History). IsSummary h (summary_text h)) history made.summary;
+      reports = reports_made _ _ _ _ _ _ c.summary_of-text.result (rw (← history) made.text) c.report_summary.ensures.reports;
+    })

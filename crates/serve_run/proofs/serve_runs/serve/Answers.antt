@@ -1,0 +1,31 @@
+-- Answers to the open goals of `serve`.
+use Rattle.std.proofs.Common.{inl, refl}
+use Rattle.farm_base.specs.Counts.{count_of}
+use Rattle.run_reports.specs.Disks.{IsLater}
+use Rattle.run_reports.proofs.DisksLeft.{handed_back, later_more}
+use Rattle.run_reports.proofs.NoDesks.{not_asked, not_recovered}
+use Rattle.serve_run.proofs.serve_runs.serve.Goals as goal
+
+pub returns-in-Err-clause-serve_run : goal.returns-in-Err-clause-serve_run
+returns-in-Err-clause-serve_run g c =
+    rw c.in-Err.ensures.given_back
+    (inl (record { nothing_recovered = not_asked _ _ _ _ c.in-Err.ensures.lacks_memory; posts_kept = refl }))
+
+pub returns-in-Ok-recover-clause-disk_later : goal.returns-in-Ok-recover-clause-disk_later
+returns-in-Ok-recover-clause-disk_later g c =
+    let said = c.in-Ok-recover.ensures in
+    let start = c.in-Ok.disk.disk.value in
+    let recovered = c.in-Ok-recover.desk.disk.disk.value in
+    let first : IsLater (g.D.Disk.trace start) (g.D.Disk.trace recovered) (g.D.Disk.moment start) (g.D.Disk.moment recovered) (count_of g.D.Disk.faults start recovered) =
+    record { extends = said.extends; moment_on = said.moment; never_falls = said.never_falls } in
+    rw (← c.in-Ok.ensures.moved) (handed_back _ _ _ (λ left later. later_more _ _ _ _ _ _ _ _ _ first later) c.serve_desk.ensures.disk_later)
+
+pub returns-in-Err-recover-clause-serve_run : goal.returns-in-Err-recover-clause-serve_run
+returns-in-Err-recover-clause-serve_run g c =
+    let said = c.in-Err-recover.ensures in
+    rw (c.into_inner.ensures.disk, ← c.in-Ok.ensures.moved, ← c.in-Ok.ensures.output_kept)
+    (inl (record {
+      nothing_recovered = not_recovered _ _ _ _ _ said.wrote_nothing c.in-Err-recover.fault c.laws.ensures.recovered_is_not_refused said.refused said.cause said.quiet
+          c.report_recover.ensures.reports;
+      posts_kept = refl;
+    }))
