@@ -61,6 +61,7 @@ impl<'a> Case<'a> {
             "replace",
             "clock",
             "fails",
+            "listeners",
             "disk",
             "output",
         ];
@@ -92,6 +93,8 @@ pub struct Run<'a> {
     pub clock: i64,
     /// The calls that fail in it.
     pub fails: FailingCalls<'a>,
+    /// The listeners that it is handed, with what comes to them and what is wanted of them.
+    pub listeners: &'a [Value],
     /// The status that is wanted; 0 where it isn't given.
     pub status: u64,
     /// The output that is wanted; nothing where it isn't given.
@@ -101,7 +104,15 @@ pub struct Run<'a> {
 impl<'a> Run<'a> {
     /// What a table of `disk.before` has.
     pub fn of(alloc: Global, value: &'a Value) -> Result<Self, CaseFault> {
-        let optional = ["input", "site", "clock", "fails", "status", "output"];
+        let optional = [
+            "input",
+            "site",
+            "clock",
+            "fails",
+            "listeners",
+            "status",
+            "output",
+        ];
         Run::read(&Keys::of_value(alloc, "before", value, &["words"], &optional)?)
     }
 
@@ -113,6 +124,7 @@ impl<'a> Run<'a> {
             site: keys.text("site")?,
             clock: keys.integer("clock")?.unwrap_or(0),
             fails: FailingCalls::read(keys)?,
+            listeners: keys.list("listeners")?,
             status: keys.natural("status")?.unwrap_or(0),
             output: text_at(keys, "output")?,
         })

@@ -113,6 +113,14 @@ impl<'a> Keys<'a> {
         }
     }
 
+    /// The list at a key; `None` if it isn't given.
+    pub fn given_list(&self, key: &str) -> Result<Option<&'a [Value]>, CaseFault> {
+        match self.value(key) {
+            Some(value) => Ok(Some(list_of(self.alloc, key, value)?)),
+            None => Ok(None),
+        }
+    }
+
     // What a value was found to be, and a fault where it has another type.
     fn typed<T: Copy>(&self, key: &str, found: Option<T>) -> Result<Option<T>, CaseFault> {
         match found {

@@ -1,4 +1,4 @@
-//! The files of cases: what a case has, by its keys, and the texts, the folder and the ports that it names.
+//! The files of cases: what a case has, by its keys, and the texts, the folder, the ports and the listeners that it names.
 //!
 //! A case is a table of a TOML file: a name, the words, the input, the files of the folder, the calls that fail, and the status and
 //! the output that are wanted. The README of `farm_cases` says how to read and add one.
@@ -10,6 +10,7 @@ mod fault;
 mod folder;
 mod input;
 mod keys;
+mod listeners;
 mod ports;
 mod text;
 
@@ -19,5 +20,6 @@ pub use fault::CaseFault;
 pub use folder::folder_of;
 pub use input::source_of;
 pub use keys::{Keys, list_of, numbers_of, texts_of, wrong_type};
+pub use listeners::{Connection, RunListener, listeners_of, written_of};
 pub use ports::{Ports, ports_of};
 pub use text::{Text, given_bytes, text_at, text_bytes};

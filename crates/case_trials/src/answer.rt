@@ -1,13 +1,21 @@
 //! What a run ends with.
 
+ghost use Rattle.std.specs.Prelude.{IsSome};
+
 use crate::disk::read_disk;
 use crate::fault::TrialFault;
-use case_files::Ports;
+use crate::stage::Stage;
+use crate::visited::{Visited, all_visited};
+use case_files::{Ports, Run, texts_of};
+use command_line::asks_to_serve;
 use farm_disk::MemDisk;
-use farm_run::run;
+use farm_listeners::Visits;
+use farm_run::{Done, run, run_alone};
+use farm_serve::Post;
 use std::alloc::Global;
+use std::sync::Wait;
 
-/// What a run ends with: its status, what it printed, and the bytes of its disk where the case gives them.
+/// What a run ends with: its status, what it printed, the bytes of its disk where the case gives them, and what its listeners have.
 #[derive(Debug, Drop)]
 pub struct Answer {
     /// The status that the program ends with.
@@ -16,6 +24,8 @@ pub struct Answer {
     pub output: Vec<u8>,
     /// What reads of its disk give, where the case looks at it.
     pub disk: Vec<u8>,
+    /// What its listeners have, in their order.
+    pub listeners: Vec<Visited>,
 }
 
 /// What a run ended with, before its disk is looked at, and the disk that it left.
@@ -26,27 +36,23 @@ pub struct Ended {
 }
 
 impl Ended {
-    /// What the program answers to words over ports and a disk.
-    pub fn of(
-        alloc: Global,
-        words: &[String],
+    /// What the program answers to the words of a run over ports, posts and a disk.
+    pub fn of<R: Wait>(
+        stage: &Stage<'_, R>,
+        run: &Run<'_>,
         ports: Ports,
+        posts: Vec<Post<Visits>>,
         disk: MemDisk,
     ) -> Result<Self, TrialFault> {
         let mut ports = ports;
-        let done = run(
-            alloc,
-            words,
-            &mut ports.input,
-            &mut ports.output,
-            &mut ports.folder,
-            disk,
-            &ports.clock,
-        );
+        let mut posts = posts;
+        let words = texts_of(stage.alloc, "words", run.words)?;
+        let done = done_of(stage, &words, &mut ports, &mut posts, disk);
         let answer = Answer {
             status: u64::from(done.status),
-            output: Vec::from_slice(alloc, ports.output.bytes())?,
-            disk: Vec::new(alloc),
+            output: Vec::from_slice(stage.alloc, ports.output.bytes())?,
+            disk: Vec::new(stage.alloc),
+            listeners: all_visited(stage.alloc, &posts, run.listeners)?,
         };
         Ok(Ended {
             answer,
@@ -64,5 +70,38 @@ impl Ended {
             disk,
             ..self.answer
         })
+    }
+}
+
+// How the program ends on words: posts are handed to it only if they ask to serve.
+fn done_of<R: Wait>(
+    stage: &Stage<'_, R>,
+    words: &[String],
+    ports: &mut Ports,
+    posts: &mut [Post<Visits>],
+    disk: MemDisk,
+) -> Done<MemDisk>
+    ensures handed_back { IsSome result.disk }
+{
+    let Ports {
+        clock,
+        output,
+        input,
+        folder,
+    } = ports;
+    if asks_to_serve(words) {
+        run(
+            stage.rt,
+            stage.alloc,
+            words,
+            input,
+            output,
+            folder,
+            disk,
+            posts,
+            clock,
+        )
+    } else {
+        run_alone(stage.alloc, words, input, output, folder, disk, clock)
     }
 }

@@ -1,5 +1,6 @@
 //! Where an answer differs from the one that is wanted.
 
+use crate::visited::Visited;
 use std::fmt;
 
 /// Writes the first line in which two outputs differ, and nothing where they are the same.
@@ -11,10 +12,16 @@ pub fn write_output<W: fmt::Write>(
     if wanted == came {
         return Ok(());
     }
+    write!(f, ";")?;
+    write_line(wanted, came, f)
+}
+
+// Writes the first line in which two texts differ.
+fn write_line<W: fmt::Write>(wanted: &[u8], came: &[u8], f: &mut fmt::Formatter<W>) -> fmt::Result {
     let same = same_lines(wanted, came);
     write!(
         f,
-        "; in line {} wanted `{}`, came `{}`",
+        " in line {} wanted `{}`, came `{}`",
         same.saturating_add(1),
         line(wanted, same).escape_ascii(),
         line(came, same).escape_ascii(),
@@ -38,6 +45,72 @@ pub fn write_disk<W: fmt::Write>(
         wanted.len(),
         came.len(),
     )
+}
+
+/// Writes how listeners differ from those that are wanted, and nothing if they are the same.
+pub fn write_listeners<W: fmt::Write>(
+    wanted: &[Visited],
+    came: &[Visited],
+    f: &mut fmt::Formatter<W>,
+) -> fmt::Result {
+    let mut number: u64 = 0;
+    for (wanted, came) in wanted.iter().zip(came) {
+        number = number.saturating_add(1);
+        write_ports(number, &wanted.ports, &came.ports, f)?;
+        write_count(number, wanted.written.len(), came.written.len(), f)?;
+        write_connections(number, &wanted.written, &came.written, f)?;
+    }
+    Ok(())
+}
+
+// Writes the ports that a listener was asked to listen on, if they differ.
+fn write_ports<W: fmt::Write>(
+    listener: u64,
+    wanted: &[u64],
+    came: &[u64],
+    f: &mut fmt::Formatter<W>,
+) -> fmt::Result {
+    if wanted == came {
+        return Ok(());
+    }
+    write!(
+        f,
+        "; listener {listener} wanted the ports {wanted:?}, came {came:?}"
+    )
+}
+
+// Writes how many connections came to a listener, if as many weren't wanted.
+fn write_count<W: fmt::Write>(
+    listener: u64,
+    wanted: usize,
+    came: usize,
+    f: &mut fmt::Formatter<W>,
+) -> fmt::Result {
+    if wanted == came {
+        return Ok(());
+    }
+    write!(
+        f,
+        "; listener {listener} wanted {wanted} connections, came {came}"
+    )
+}
+
+// Writes of each connection of a listener that differs the first line that does.
+fn write_connections<W: fmt::Write>(
+    listener: u64,
+    wanted: &[Vec<u8>],
+    came: &[Vec<u8>],
+    f: &mut fmt::Formatter<W>,
+) -> fmt::Result {
+    let mut number: u64 = 0;
+    for (wanted, came) in wanted.iter().zip(came) {
+        number = number.saturating_add(1);
+        if wanted != came {
+            write!(f, "; listener {listener}, connection {number}:")?;
+            write_line(wanted, came, f)?;
+        }
+    }
+    Ok(())
 }
 
 // How many lines at the front of two texts are the same.

@@ -5,27 +5,28 @@ ghost use Rattle.farm_base.specs.Known.{WhereKnown};
 ghost use Rattle.farm_disk.specs.Images.{IsCrashImage, state_at};
 
 use crate::fault::TrialFault;
+use crate::stage::Stage;
 use crate::trial::Trial;
-use case_files::{Case, CaseDisk, CaseFault, Image, Keys, Run, Sites, given_bytes, numbers_of};
+use case_files::{Case, CaseDisk, CaseFault, Image, Keys, Run, given_bytes, numbers_of};
 use farm_disk::{Disk, Fill, MemDisk};
 use farm_ports::Folder;
 use std::alloc::Global;
+use std::sync::Wait;
 use toml::{Table, Value};
 
 // The words of the run that makes the journal of a site.
 const MAKING: &str = "words = ['init', '--site=s', '--journal=j']";
 
 /// The disk of a case, before the case runs.
-pub fn disk_of<F: Folder>(
-    alloc: Global,
+pub fn disk_of<R: Wait, F: Folder>(
+    stage: &Stage<'_, R>,
     data: &mut F,
-    sites: &Sites,
     case: &Case<'_>,
 ) -> Result<MemDisk, TrialFault> {
-    let disk = first_disk(alloc, data, sites, &case.disk)?;
-    let disk = disk_after(alloc, data, sites, case.disk.before, disk)?;
-    let bytes = front(left(alloc, disk, &case.disk.image)?, case.disk.cut)?;
-    disk_with(alloc, bytes, &case.run)
+    let disk = first_disk(stage, data, &case.disk)?;
+    let disk = disk_after(stage, data, case.disk.before, disk)?;
+    let bytes = front(left(stage.alloc, disk, &case.disk.image)?, case.disk.cut)?;
+    disk_with(stage.alloc, bytes, &case.run)
 }
 
 /// The bytes that reads of a disk give.
@@ -43,31 +44,29 @@ fn disk_with(alloc: Global, bytes: Vec<u8>, run: &Run<'_>) -> Result<MemDisk, Tr
 }
 
 // The disk before the runs: with the bytes that the case gives, or the journal of its site.
-fn first_disk<F: Folder>(
-    alloc: Global,
+fn first_disk<R: Wait, F: Folder>(
+    stage: &Stage<'_, R>,
     data: &mut F,
-    sites: &Sites,
     given: &CaseDisk<'_>,
 ) -> Result<MemDisk, TrialFault> {
-    let bytes = given_bytes(alloc, data, given.bytes)?;
-    let disk = MemDisk::new(alloc, bytes, Vec::new(alloc))?;
+    let bytes = given_bytes(stage.alloc, data, given.bytes)?;
+    let disk = MemDisk::new(stage.alloc, bytes, Vec::new(stage.alloc))?;
     match given.journal {
-        Some(site) => journal_of(alloc, data, sites, site, disk),
+        Some(site) => journal_of(stage, data, site, disk),
         None => Ok(disk),
     }
 }
 
 // A disk on which the journal of a site was made.
-fn journal_of<F: Folder>(
-    alloc: Global,
+fn journal_of<R: Wait, F: Folder>(
+    stage: &Stage<'_, R>,
     data: &mut F,
-    sites: &Sites,
     site: &str,
     disk: MemDisk,
 ) -> Result<MemDisk, TrialFault> {
-    let table = toml::table_from_str(alloc, MAKING).map_err(CaseFault::from)?;
-    let run = making_of(alloc, &table, site)?;
-    disk_after_run(alloc, data, sites, 0, &run, disk)
+    let table = toml::table_from_str(stage.alloc, MAKING).map_err(CaseFault::from)?;
+    let run = making_of(stage.alloc, &table, site)?;
+    disk_after_run(stage, data, 0, &run, disk)
 }
 
 // The run that makes the journal of a site, by the table of its words.
@@ -80,10 +79,9 @@ fn making_of<'a>(alloc: Global, table: &'a Table, site: &'a str) -> Result<Run<'
 }
 
 // The disk after runs on it, one after another.
-fn disk_after<F: Folder>(
-    alloc: Global,
+fn disk_after<R: Wait, F: Folder>(
+    stage: &Stage<'_, R>,
     data: &mut F,
-    sites: &Sites,
     runs: &[Value],
     disk: MemDisk,
 ) -> Result<MemDisk, TrialFault> {
@@ -91,22 +89,21 @@ fn disk_after<F: Folder>(
     let mut number: u64 = 0;
     for run in runs {
         number = number.saturating_add(1);
-        disk = disk_after_run(alloc, data, sites, number, &Run::of(alloc, run)?, disk)?;
+        disk = disk_after_run(stage, data, number, &Run::of(stage.alloc, run)?, disk)?;
     }
     Ok(disk)
 }
 
 // The disk after a run on it, which has to agree.
-fn disk_after_run<F: Folder>(
-    alloc: Global,
+fn disk_after_run<R: Wait, F: Folder>(
+    stage: &Stage<'_, R>,
     data: &mut F,
-    sites: &Sites,
     number: u64,
     run: &Run<'_>,
     disk: MemDisk,
 ) -> Result<MemDisk, TrialFault> {
-    let disk = disk_with(alloc, read_disk(alloc, disk)?, run)?;
-    Trial::disk_after(alloc, data, sites, number, run, disk)
+    let disk = disk_with(stage.alloc, read_disk(stage.alloc, disk)?, run)?;
+    Trial::disk_after(stage, data, number, run, disk)
 }
 
 // What is left of a disk: what a crash leaves where there is one, and else what reads give.

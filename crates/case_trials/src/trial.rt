@@ -1,16 +1,20 @@
 //! Runs, with what came of them beside what is wanted.
 
-ghost use Rattle.std.specs.Prelude.{◌≡◌, ◌↔◌, IsTrue};
+ghost use Rattle.std.specs.Prelude.{◌≡◌, ◌↔◌, IsTrue, map};
+ghost use Rattle.case_trials.specs.Visits.{seen};
 
 use crate::answer::{Answer, Ended};
-use crate::difference::{write_disk, write_output};
+use crate::difference::{write_disk, write_listeners, write_output};
 use crate::disk::disk_of;
 use crate::fault::TrialFault;
-use case_files::{Case, Changes, Run, Sites, Text, folder_of, given_bytes, ports_of, texts_of};
+use crate::stage::Stage;
+use crate::visited::{Visited, posts_of, wanted_visited};
+use case_files::{Case, Changes, Run, Text, folder_of, given_bytes, ports_of};
 use farm_disk::MemDisk;
 use farm_ports::Folder;
 use std::alloc::Global;
 use std::fmt;
+use std::sync::Wait;
 
 /// A run: the answer that is wanted and the one that came.
 #[derive(Debug, Drop)]
@@ -23,28 +27,26 @@ pub struct Trial {
 
 impl Trial {
     /// Runs a case.
-    pub fn of_case<F: Folder>(
-        alloc: Global,
+    pub fn of_case<R: Wait, F: Folder>(
+        stage: &Stage<'_, R>,
         data: &mut F,
-        sites: &Sites,
         case: &Case<'_>,
     ) -> Result<Self, TrialFault> {
-        let wanted = wanted_of(alloc, data, &case.run, case.disk.after)?;
-        let came = came_of(alloc, data, sites, case)?;
+        let wanted = wanted_of(stage.alloc, data, &case.run, case.disk.after)?;
+        let came = came_of(stage, data, case)?;
         Ok(Trial { wanted, came })
     }
 
     /// The disk that a run on a disk before a case leaves. It is refused by its number where it differs.
-    pub fn disk_after<F: Folder>(
-        alloc: Global,
+    pub fn disk_after<R: Wait, F: Folder>(
+        stage: &Stage<'_, R>,
         data: &mut F,
-        sites: &Sites,
         number: u64,
         run: &Run<'_>,
         disk: MemDisk,
     ) -> Result<MemDisk, TrialFault> {
-        let ended = ended_over(alloc, data, sites, run, &Changes::none(), None, disk)?;
-        let wanted = wanted_of(alloc, data, run, None)?;
+        let ended = ended_over(stage, data, run, &Changes::none(), None, disk)?;
+        let wanted = wanted_of(stage.alloc, data, run, None)?;
         Trial::agreed(number, wanted, ended)
     }
 
@@ -61,14 +63,16 @@ impl Trial {
         }
     }
 
-    /// Whether what came is what is wanted: the same status, the same output and the same disk.
+    /// Whether what came is what is wanted: the same status, the same output, the same disk and the same of each listener.
     pub fn agrees(&self) -> bool
         ensures agrees { IsTrue result ↔ ((self.now.came.status ≡ self.now.wanted.status) × (self.now.came.output.items ≡ self.now.wanted.output.items)
-            × (self.now.came.disk.items ≡ self.now.wanted.disk.items)) }
+            × (self.now.came.disk.items ≡ self.now.wanted.disk.items)
+            × (map seen self.now.came.listeners.items ≡ map seen self.now.wanted.listeners.items)) }
     {
         self.came.status == self.wanted.status
             && self.came.output == self.wanted.output
             && self.came.disk == self.wanted.disk
+            && same_visits(&self.came.listeners, &self.wanted.listeners)
     }
 }
 
@@ -77,8 +81,16 @@ impl fmt::Display for Trial {
         let (wanted, came) = (&self.wanted, &self.came);
         write!(f, "wanted status {}, came {}", wanted.status, came.status)?;
         write_output(&wanted.output, &came.output, f)?;
-        write_disk(&wanted.disk, &came.disk, f)
+        write_disk(&wanted.disk, &came.disk, f)?;
+        write_listeners(&wanted.listeners, &came.listeners, f)
     }
+}
+
+// Whether listeners have the same.
+fn same_visits(came: &[Visited], wanted: &[Visited]) -> bool
+    ensures same { IsTrue result ↔ (map seen came.now ≡ map seen wanted.now) }
+{
+    came == wanted
 }
 
 // What is wanted of a run, with this text on its disk.
@@ -93,36 +105,35 @@ fn wanted_of<F: Folder>(
         status: run.status,
         output,
         disk: given_bytes(alloc, data, after)?,
+        listeners: wanted_visited(alloc, data, run.listeners)?,
     })
 }
 
 // What comes of a case.
-fn came_of<F: Folder>(
-    alloc: Global,
+fn came_of<R: Wait, F: Folder>(
+    stage: &Stage<'_, R>,
     data: &mut F,
-    sites: &Sites,
     case: &Case<'_>,
 ) -> Result<Answer, TrialFault> {
-    let disk = disk_of(alloc, data, sites, case)?;
+    let disk = disk_of(stage, data, case)?;
     let (run, changes) = (&case.run, &case.changes);
-    ended_over(alloc, data, sites, run, changes, case.piece_bytes, disk)?.answer(
-        alloc,
+    ended_over(stage, data, run, changes, case.piece_bytes, disk)?.answer(
+        stage.alloc,
         case.disk.after.is_some(),
     )
 }
 
 // What a run over a disk ends with.
-fn ended_over<F: Folder>(
-    alloc: Global,
+fn ended_over<R: Wait, F: Folder>(
+    stage: &Stage<'_, R>,
     data: &mut F,
-    sites: &Sites,
     run: &Run<'_>,
     changes: &Changes<'_>,
     piece_bytes: Option<u64>,
     disk: MemDisk,
 ) -> Result<Ended, TrialFault> {
-    let folder = folder_of(alloc, data, sites, run, changes)?;
-    let ports = ports_of(alloc, data, run, piece_bytes, folder)?;
-    let words = texts_of(alloc, "words", run.words)?;
-    Ended::of(alloc, &words, ports, disk)
+    let folder = folder_of(stage.alloc, data, stage.sites, run, changes)?;
+    let ports = ports_of(stage.alloc, data, run, piece_bytes, folder)?;
+    let posts = posts_of(stage.alloc, data, run.listeners)?;
+    Ended::of(stage, run, ports, posts, disk)
 }

@@ -7,9 +7,8 @@ use Rattle.std.proofs.lemmas.List.Elements.{All-cons, All-head, All-nil, All-tai
 use Rattle.std.proofs.lemmas.List.Sorted.{All-permutation, IsPermutation-sym, sum_by-IsPermutation}
 use Rattle.std.proofs.lemmas.List.Sums.{sum_by-cons}
 use Rattle.std.proofs.lemmas.Slice.Eq.{bytes_eq-Decides}
-use Rattle.command_line.specs.Commands.{value_or_empty}
 use Rattle.command_line.specs.Forms.{AreOptions, IsValue, Written, spelling, value_among}
-use Rattle.command_line.specs.Options.{Spelled, after_name, option_in, spelled_by, spelled_here, spelled_joined, words_taken}
+use Rattle.command_line.specs.Options.{Spelled, after_name, option_in, spelled_by, spelled_here, spelled_joined, value_or_empty, words_taken}
 use Rattle.command_line.proofs.Beginnings.{Begins, IsPlain, after_itself, named_after, other_passes, value_passes}
 use Rattle.command_line.proofs.Forms.{AreNames, IsFound, names_after, names_moved, others_differ, taken_by, taken_of, words_or_none}
 

@@ -1,10 +1,13 @@
--- The form of arguments: the name of a command, and after it each of its options once, in any order.
+-- The form of arguments: the name of a command, and after it each of its options once, in any order, with its numbers.
 use Rattle.std.specs.Prelude.{◌≡◌, ◌≢◌, ℕ, Bool, if◌then◌else◌, List, [], ◌∷◌, ◌++◌, codes, map, IsPermutation}
 use Rattle.std.specs.List.{All, flat_map}
 use Rattle.std.specs.Str.{bytes_eq}
 use Rattle.command_line.specs.Commands.{option_names}
+use Rattle.command_line.specs.Limits.{greatest_port, least_port, least_workers, most_rounds, most_workers}
+use Rattle.command_line.specs.Numbers.{IsNumberBetween}
 use Rattle.command_line.specs.declared.commands.Subcommand.{Subcommand}
-use Rattle.command_line.specs.declared.commands.Subcommand.TheVariants.{Batch, Calc, Init, Table}
+use Rattle.command_line.specs.declared.commands.Subcommand.TheVariants.{Batch, Calc, Init, Serve, Table}
+use Rattle.command_line.specs.declared.serve.ServeOptions.{ServeOptions}
 
 -- an option as it is written: its name, its value, and whether both are one word
 pub record Written : Type 0 where
@@ -34,13 +37,30 @@ command_name Calc = codes "calc"
 command_name Init = codes "init"
 command_name Table = codes "table"
 command_name Batch = codes "batch"
-
--- words are the name of a command and the spellings of these options one after another, and the options are those of the command
-pub record IsForm (command : Subcommand) (options : List Written) (words : List (List ℕ)) : Type 0 where
-  pub options_of : AreOptions (option_names command) options
-  pub spelled : words ≡ command_name command ∷ flat_map spelling options
+command_name (Serve options) = codes "serve"
 
 -- the value of the option of this name, an empty text where none of the options has it
 abbrev pub value_among : List ℕ → List Written → List ℕ
 value_among name [] = []
 value_among name (option ∷ options) = if bytes_eq option.name name then option.value else value_among name options
+
+-- the numbers of `serve` are those of the options that have their names
+pub record AreServeNumbers (serve : ServeOptions) (options : List Written) : Type 0 where
+  pub port : IsNumberBetween least_port greatest_port (value_among (codes "port") options) serve.port
+  pub workers : IsNumberBetween least_workers most_workers (value_among (codes "workers") options) serve.workers
+  pub rounds : IsNumberBetween 0 most_rounds (value_among (codes "rounds") options) serve.rounds
+
+-- the numbers of a command are those of the options that have their names; only `serve` has numbers
+abbrev pub AreNumbers : Subcommand → List Written → Type 0
+AreNumbers Calc options = Unit {0}
+AreNumbers Init options = Unit {0}
+AreNumbers Table options = Unit {0}
+AreNumbers Batch options = Unit {0}
+AreNumbers (Serve serve) options = AreServeNumbers serve options
+
+-- words are the name of a command and the spellings of these options one after another; the options are those of the command,
+-- and its numbers theirs
+pub record IsForm (command : Subcommand) (options : List Written) (words : List (List ℕ)) : Type 0 where
+  pub options_of : AreOptions (option_names command) options
+  pub numbers : AreNumbers command options
+  pub spelled : words ≡ command_name command ∷ flat_map spelling options

@@ -41,6 +41,15 @@ abbrev pub option_in : List ℕ → List (List ℕ) → Option Spelled
 option_in name [] = None
 option_in name (word ∷ words) = spelled_here (after_name name word) words (option_in name words)
 
+-- the value of an option, an empty text where there is no option
+abbrev pub value_or_empty : Option Spelled → List ℕ
+value_or_empty None = []
+value_or_empty (Some option) = option.value
+
+-- the value of the option of this name among words, an empty text where there is no option
+abbrev pub value_in : List ℕ → List (List ℕ) → List ℕ
+value_in name words = value_or_empty (option_in name words)
+
 -- the number of words that options take, added to a number; none where one of them isn't there
 abbrev pub words_taken : ℕ → List (List ℕ) → List (List ℕ) → Option ℕ
 words_taken total [] words = Some total

@@ -1,15 +1,15 @@
 //! Options among the arguments of a command.
 
 ghost use Rattle.std.specs.Prelude.{◌≡◌, ◌≤◌, IfSome, length, map, option_map, string_bytes};
-ghost use Rattle.command_line.specs.Options.{after_name, are_options, option_in, spelled_by, spelled_next, text_after, words_taken};
+ghost use Rattle.command_line.specs.Options.{after_name, are_options, option_in, spelled_by, spelled_next, text_after, value_in, words_taken};
 
-/// An option that is spelled.
+// An option that is spelled.
 #[derive(Clone, Copy)]
-pub struct SpelledOption<'a> {
-    /// Its value.
-    pub value: &'a str,
-    /// The number of words that it takes, 1 or 2.
-    pub words: usize,
+struct SpelledOption<'a> {
+    // Its value.
+    value: &'a str,
+    // The number of words that it takes, 1 or 2.
+    words: usize,
 }
 
 /// Whether words are these options, each once and in any order, and nothing else.
@@ -33,8 +33,18 @@ fn words_taken(names: &[&str], words: &[String]) -> Option<usize>
     Some(taken)
 }
 
-/// The first option of this name among words.
-pub fn option_in<'a>(name: &str, words: &'a [String]) -> Option<SpelledOption<'a>>
+/// The value of the option of this name among words, an empty text where there is no option.
+pub fn value_in<'a>(name: &str, words: &'a [String]) -> &'a str
+    ensures { result.now ≡ value_in name.now (map string_bytes words.now) }
+{
+    match option_in(name, words) {
+        Some(option) => option.value,
+        None => "",
+    }
+}
+
+// The first option of this name among words.
+fn option_in<'a>(name: &str, words: &'a [String]) -> Option<SpelledOption<'a>>
     ensures option { option_map (λ option. record { value = option.value.now; words = option.words }) result ≡ option_in name.now (map string_bytes words.now) }
     ensures few { IfSome result (λ option. option.words ≤ 2) }
 {

@@ -6,14 +6,18 @@
 
 ghost use Rattle.std.specs.Prelude.{◌≡◌, ◌⊎◌, IfSome, None, Some, map, string_bytes};
 ghost use Rattle.command_line.specs.Commands.{command_of, journal_file, site_folder};
-ghost use Rattle.command_line.specs.declared.commands.Subcommand.TheVariants.{Batch, Calc, Init, Table};
+ghost use Rattle.command_line.specs.declared.commands.Subcommand.TheVariants.{Batch, Calc, Init, Serve, Table};
+ghost use Rattle.command_line.specs.declared.serve.ServeOptions.{ServeOptions};
 
 use command_line::places;
 use farm_disk::FileDisk;
+use farm_listeners::TcpPost;
 use farm_ports::{DirFolder, StdSink, StdSource, SystemClock};
 use farm_run::{report_no_memory, run};
+use farm_serve::Post;
 use std::process::ExitCode;
 use std::rt::Env;
+use std::sync::Wait;
 use std::{env, io};
 
 // The arguments: the words after the program's name.
@@ -22,14 +26,16 @@ fn arguments(rt: &(impl Env + AllocGlobal)) -> io::Result<Vec<String>> {
 }
 
 // Runs the arguments over the real ports and the real disk, and answers a status of their command. A folder or a file that they don't
-// name is opened by no command.
-fn run_arguments(rt: &HostRuntime, words: &[String]) -> u8
+// name is opened by no command, and a port by `serve` alone, which may wait.
+fn run_arguments<W: Wait>(rt: &HostRuntime, waiting: &W, words: &[String]) -> u8
     ensures calc { command_of (map string_bytes words.now) ≡ Some Calc → (result ≡ 0) ⊎ (result ≡ 4) ⊎ (result ≡ 6) ⊎ (result ≡ 7) }
     ensures table { command_of (map string_bytes words.now) ≡ Some Table → (result ≡ 0) ⊎ (result ≡ 2) ⊎ (result ≡ 6) ⊎ (result ≡ 7) }
     ensures init { command_of (map string_bytes words.now) ≡ Some Init →
         (result ≡ 0) ⊎ (result ≡ 2) ⊎ (result ≡ 3) ⊎ (result ≡ 5) ⊎ (result ≡ 6) ⊎ (result ≡ 7) }
     ensures batch { command_of (map string_bytes words.now) ≡ Some Batch →
         (result ≡ 0) ⊎ (result ≡ 3) ⊎ (result ≡ 4) ⊎ (result ≡ 5) ⊎ (result ≡ 6) ⊎ (result ≡ 7) }
+    ensures serve { (options : ServeOptions) → command_of (map string_bytes words.now) ≡ Some (Serve options) →
+        (result ≡ 0) ⊎ (result ≡ 3) ⊎ (result ≡ 5) ⊎ (result ≡ 6) ⊎ (result ≡ 7) }
     ensures usage { command_of (map string_bytes words.now) ≡ None → (result ≡ 1) ⊎ (result ≡ 6) ⊎ (result ≡ 7) }
 {
     let mut input = StdSource::new(rt.stdin());
@@ -38,13 +44,16 @@ fn run_arguments(rt: &HostRuntime, words: &[String]) -> u8
         return report_no_memory(&mut output);
     };
     let clock = SystemClock::new(rt);
+    let mut desks = [Post::new(TcpPost::new(rt))];
     run(
+        waiting,
         rt.alloc(),
         words,
         &mut input,
         &mut output,
         &mut folder,
         disk,
+        &mut desks,
         &clock,
     )
     .status
@@ -66,12 +75,12 @@ fn named_by<'a>(
 
 fn main(rt: HostRuntime) -> ExitCode {
     let status = match arguments(&rt) {
-        Ok(words) => run_arguments(&rt, &words),
+        Ok(words) => run_arguments(&rt, &rt, &words),
         Err(error) if error.kind() == io::ErrorKind::OutOfMemory => {
             report_no_memory(&mut StdSink::new(rt.stdout()))
         }
         // Arguments that aren't text are no command, as no arguments are.
-        Err(_) => run_arguments(&rt, &[]),
+        Err(_) => run_arguments(&rt, &rt, &[]),
     };
     ExitCode::from(status)
 }

@@ -1,18 +1,19 @@
-//! Runs the cases of a folder through the program's runs, over ports in memory, and prints how many each file has.
+//! Runs the cases of a folder through the program's runs, over ports and listeners in memory, and prints how many each file has.
 //!
-//! A case is a table of a TOML file: a name, the words, the input, the files of the folder, the calls that fail, and the status and
-//! the output that are wanted. A case that differs is printed with what was wanted and what came. README.md says how to read and
-//! add one.
+//! A case is a table of a TOML file: a name, the words, the input, the files of the folder, who comes to a listener, the calls that
+//! fail, and the status and the output that are wanted. A case that differs is printed with what was wanted and what came. README.md
+//! says how to read and add one.
 #![tactic(auto)]
 
 mod row;
 
 use crate::row::has_row_site;
-use case_files::{Case, CaseFault, Keys, Listing, Sites, read_table, texts_of};
-use case_trials::Trial;
+use case_files::{Case, CaseFault, Keys, Listing, read_table, texts_of};
+use case_trials::{Stage, Trial, TrialFault};
 use farm_ports::{DirFolder, Folder};
 use std::alloc::Global;
 use std::rt::Env;
+use std::sync::Wait;
 use std::{env, io};
 use toml::{Table, Value};
 
@@ -26,16 +27,37 @@ fn main(rt: HostRuntime) -> anyhow::Result<()> {
     let mut data = DirFolder::new(&rt, String::from_str(rt.alloc(), folder)?);
     let table = read_table(rt.alloc(), &mut data, LISTING)?;
     let listing = Listing::of(rt.alloc(), &table)?;
-    match words.get(1..) {
-        Some(files) if !files.is_empty() => {
-            run_files(&rt, rt.alloc(), &mut data, listing.sites, files)?;
-        }
-        _ => {
-            let files = texts_of(rt.alloc(), "files", listing.files)?;
-            run_files(&rt, rt.alloc(), &mut data, listing.sites, &files)?;
-            compare_row_site(&rt, rt.alloc(), &mut data)?;
-        }
+    let stage = Stage {
+        rt: &rt,
+        alloc: rt.alloc(),
+        sites: listing.sites,
+    };
+    run_words(&stage, &mut data, words.get(1..), listing.files)
+}
+
+// Runs the files that words name, or all that are listed if there are none.
+fn run_words<R: Wait + Print, F: Folder>(
+    stage: &Stage<'_, R>,
+    data: &mut F,
+    words: Option<&[String]>,
+    listed: &[Value],
+) -> anyhow::Result<()> {
+    match words {
+        Some(files) if !files.is_empty() => run_files(stage, data, files)?,
+        _ => run_listed(stage, data, listed)?,
     }
+    Ok(())
+}
+
+// Runs all files that are listed, and compares the site of the worked rows.
+fn run_listed<R: Wait + Print, F: Folder>(
+    stage: &Stage<'_, R>,
+    data: &mut F,
+    listed: &[Value],
+) -> anyhow::Result<()> {
+    let files = texts_of(stage.alloc, "files", listed)?;
+    run_files(stage, data, &files)?;
+    compare_row_site(stage.rt, stage.alloc, data)?;
     Ok(())
 }
 
@@ -45,45 +67,39 @@ fn arguments(rt: &(impl Env + AllocGlobal)) -> io::Result<Vec<String>> {
 }
 
 // Runs files of cases one after another.
-fn run_files<F: Folder>(
-    rt: &impl Print,
-    alloc: Global,
+fn run_files<R: Wait + Print, F: Folder>(
+    stage: &Stage<'_, R>,
     data: &mut F,
-    sites: &Sites,
     names: &[String],
 ) -> io::Result<()> {
     for name in names {
-        run_file(rt, alloc, data, sites, name)?;
+        run_file(stage, data, name)?;
     }
     Ok(())
 }
 
 // Runs the cases of a file one after another, and prints their number.
-fn run_file<F: Folder>(
-    rt: &impl Print,
-    alloc: Global,
+fn run_file<R: Wait + Print, F: Folder>(
+    stage: &Stage<'_, R>,
     data: &mut F,
-    sites: &Sites,
     name: &str,
 ) -> io::Result<()> {
-    match read_table(alloc, data, name) {
-        Ok(table) => run_table(rt, alloc, data, sites, name, &table),
-        Err(fault) => println!(rt; "{name}: {fault}"),
+    match read_table(stage.alloc, data, name) {
+        Ok(table) => run_table(stage, data, name, &table),
+        Err(fault) => println!(stage.rt; "{name}: {fault}"),
     }
 }
 
 // Runs the cases of the table that a file is.
-fn run_table<F: Folder>(
-    rt: &impl Print,
-    alloc: Global,
+fn run_table<R: Wait + Print, F: Folder>(
+    stage: &Stage<'_, R>,
     data: &mut F,
-    sites: &Sites,
     name: &str,
     table: &Table,
 ) -> io::Result<()> {
-    match cases_of(alloc, table) {
-        Ok(cases) => run_cases(rt, alloc, data, sites, name, cases),
-        Err(fault) => println!(rt; "{name}: {fault}"),
+    match cases_of(stage.alloc, table) {
+        Ok(cases) => run_cases(stage, data, name, cases),
+        Err(fault) => println!(stage.rt; "{name}: {fault}"),
     }
 }
 
@@ -93,11 +109,9 @@ fn cases_of(alloc: Global, table: &Table) -> Result<&[Value], CaseFault> {
 }
 
 // Runs the cases of a file, and prints each that differs, and then how many there are.
-fn run_cases<F: Folder>(
-    rt: &impl Print,
-    alloc: Global,
+fn run_cases<R: Wait + Print, F: Folder>(
+    stage: &Stage<'_, R>,
     data: &mut F,
-    sites: &Sites,
     name: &str,
     cases: &[Value],
 ) -> io::Result<()> {
@@ -105,48 +119,57 @@ fn run_cases<F: Folder>(
     let mut differing: u64 = 0;
     for case in cases {
         number = number.saturating_add(1);
-        if !run_case(rt, alloc, data, sites, name, number, case)? {
+        if !run_case(stage, data, name, number, case)? {
             differing = differing.saturating_add(1);
         }
     }
     if differing == 0 {
-        println!(rt; "{name}: {number} cases")
+        println!(stage.rt; "{name}: {number} cases")
     } else {
-        println!(rt; "{name}: {number} cases, {differing} differ")
+        println!(stage.rt; "{name}: {number} cases, {differing} differ")
     }
 }
 
 // Runs a case, prints it where it differs or can't be run, and says whether it agrees.
-fn run_case<F: Folder>(
-    rt: &impl Print,
-    alloc: Global,
+fn run_case<R: Wait + Print, F: Folder>(
+    stage: &Stage<'_, R>,
     data: &mut F,
-    sites: &Sites,
     file: &str,
     number: u64,
     value: &Value,
 ) -> io::Result<bool> {
-    match Case::of(alloc, value) {
-        Ok(case) => return run_trial(rt, alloc, data, sites, file, &case),
-        Err(fault) => println!(rt; "{file}: case {number}: {fault}")?,
+    match Case::of(stage.alloc, value) {
+        Ok(case) => return run_trial(stage, data, file, &case),
+        Err(fault) => println!(stage.rt; "{file}: case {number}: {fault}")?,
     }
     Ok(false)
 }
 
 // Runs a case that has its form, prints it where it differs or can't be run, and says whether it agrees.
-fn run_trial<F: Folder>(
-    rt: &impl Print,
-    alloc: Global,
+fn run_trial<R: Wait + Print, F: Folder>(
+    stage: &Stage<'_, R>,
     data: &mut F,
-    sites: &Sites,
     file: &str,
     case: &Case<'_>,
 ) -> io::Result<bool> {
-    match Trial::of_case(alloc, data, sites, case) {
-        Ok(trial) if trial.agrees() => return Ok(true),
-        Ok(trial) => println!(rt; "{file}: {}: {trial}", case.name)?,
-        Err(fault) => println!(rt; "{file}: {}: {fault}", case.name)?,
+    match Trial::of_case(stage, data, case) {
+        Ok(trial) => report_trial(stage.rt, file, case.name, &trial),
+        Err(fault) => report_fault(stage.rt, file, case.name, &fault),
     }
+}
+
+// Prints a case that differs, and says whether it agrees.
+fn report_trial(rt: &impl Print, file: &str, name: &str, trial: &Trial) -> io::Result<bool> {
+    let agrees = trial.agrees();
+    if !agrees {
+        println!(rt; "{file}: {name}: {trial}")?;
+    }
+    Ok(agrees)
+}
+
+// Prints a case that can't be run, which doesn't agree.
+fn report_fault(rt: &impl Print, file: &str, name: &str, fault: &TrialFault) -> io::Result<bool> {
+    println!(rt; "{file}: {name}: {fault}")?;
     Ok(false)
 }
 

@@ -4,7 +4,7 @@ use Rattle.farm_base.specs.Counts.{Count, HasRisen, IsQuiet}
 use Rattle.farm_base.specs.Known.{WhereKnown, Stream, Adds}
 use Rattle.farm_ports.specs.Folders.{File}
 use Rattle.command_line.specs.declared.commands.Subcommand.{Subcommand}
-use Rattle.command_line.specs.declared.commands.Subcommand.TheVariants.{Batch, Calc, Init, Table}
+use Rattle.command_line.specs.declared.commands.Subcommand.TheVariants.{Batch, Calc, Init, Serve, Table}
 use Rattle.calc_input.specs.declared.refusal.Refused.{Refused}
 use Rattle.calc_input.specs.RefusedLine.{IsRefusal}
 use Rattle.site_keys.specs.Faults.{IsMissing}
@@ -21,6 +21,7 @@ uses_input (Some Calc) = true
 uses_input (Some Init) = false
 uses_input (Some Table) = false
 uses_input (Some Batch) = true
+uses_input (Some (Serve options)) = false
 
 -- whether a command makes calls on the folder
 abbrev pub uses_folder : Option Subcommand → Bool
@@ -29,6 +30,7 @@ uses_folder (Some Calc) = false
 uses_folder (Some Init) = true
 uses_folder (Some Table) = true
 uses_folder (Some Batch) = false
+uses_folder (Some (Serve options)) = false
 
 -- whether a command makes calls on the disk
 abbrev pub uses_disk : Option Subcommand → Bool
@@ -37,6 +39,16 @@ uses_disk (Some Calc) = false
 uses_disk (Some Init) = true
 uses_disk (Some Table) = false
 uses_disk (Some Batch) = true
+uses_disk (Some (Serve options)) = true
+
+-- whether a command makes calls on a listener
+abbrev pub uses_listeners : Option Subcommand → Bool
+uses_listeners None = false
+uses_listeners (Some Calc) = false
+uses_listeners (Some Init) = false
+uses_listeners (Some Table) = false
+uses_listeners (Some Batch) = false
+uses_listeners (Some (Serve options)) = true
 
 -- what was left of an input as the run began, where it is still known at the end
 abbrev pub given : Option Stream → Option Stream → Option (List ℕ)

@@ -5,11 +5,13 @@
 //! command reads and prints, docs/operating.md has the statuses.
 #![tactic(auto)]
 
+mod alone;
 mod batch_run;
 mod init_run;
 mod program;
 mod statuses;
 mod texts;
 
+pub use alone::run_alone;
 pub use program::run;
 pub use run_reports::{BOOK_LIMIT, Done, defined_numbers, report_no_memory};

@@ -1,60 +1,47 @@
-//! What the program does: the run of each command over the ports and the disk that it is handed.
+//! What the program does.
 
-ghost use Rattle.std.specs.Prelude.{◌≡◌, ◌≤◌, ◌⊎◌, map, string_bytes, false, None, Some, Ok, Err, IfOk, IfSome, IsSome};
+ghost use Rattle.std.specs.Prelude.{◌≡◌, ◌≤◌, map, string_bytes, false, None, Some, IfSome, IsSome};
 ghost use Rattle.farm_base.specs.Counts.{count_of};
 ghost use Rattle.farm_base.specs.Known.{Stays};
-ghost use Rattle.farm_report.specs.Figures.{figures_text};
-ghost use Rattle.farm_report.specs.Issued.{issued_text};
 ghost use Rattle.command_line.specs.Commands.{command_of};
-ghost use Rattle.calc_input.specs.declared.refusal.Refused.{Refused};
-ghost use Rattle.farm_run.specs.OutputTexts.{calc_of, calc_text};
-ghost use Rattle.farm_run.specs.BatchRuns.{BatchRun};
+ghost use Rattle.command_line.specs.declared.serve.ServeOptions.{ServeOptions};
 ghost use Rattle.run_reports.specs.Disks.{IsLater};
+ghost use Rattle.run_reports.specs.Reports.{output_of};
+ghost use Rattle.serve_run.specs.ServeRuns.{ServeRun};
+ghost use Rattle.farm_run.specs.BatchRuns.{BatchRun};
 ghost use Rattle.farm_run.specs.InitRuns.{InitRun};
-ghost use Rattle.farm_run.specs.Texts.{refusal_text};
-ghost use Rattle.run_reports.specs.Reports.{Delivers, LacksMemory, output_of};
-ghost use Rattle.farm_run.specs.Runs.{Answers, CalcRun, StopsAtMissing, TableRun, UsageRun, given, uses_disk, uses_folder, uses_input};
+ghost use Rattle.farm_run.specs.Runs.{CalcRun, StopsAtMissing, TableRun, UsageRun, given, uses_disk, uses_folder, uses_input, uses_listeners};
 
-use crate::batch_run::batch;
-use crate::init_run::init;
-use crate::statuses::{NO_COMMAND, REFUSED, SITE_REFUSED};
-use crate::texts::{USAGE_LINE, refusal_text, site_refused_text};
-use calc_input::{MOST_INPUT_BYTES, NoFigures, figures_of_input};
-use command_line::Subcommand;
-use farm_base::NoMemory;
+use crate::alone::{print_usage, run_alone};
+use command_line::{Subcommand, asks_to_serve};
 use farm_disk::Disk;
-use farm_fixed::Quantities;
-use farm_ports::{Clock, Folder, PortFault, Sink, Source, read_up_to};
-use farm_report::{figures_text, issued};
-use farm_site::{Site, SiteReadFault};
-use run_reports::{Done, deliver, refuse, report_fault, report_no_memory, say};
+use farm_listeners::Listener;
+use farm_ports::{Clock, Folder, Sink, Source};
+use farm_serve::Post;
+use run_reports::Done;
 use std::alloc::Global;
+use std::sync::Wait;
 
 /// Runs the command of the arguments, the words after the program's name, and answers the status that the program ends with, and the disk.
 ///
-/// - `calc` reads observed volumes, or levels with a capacity table and factors, and prints ten lines of figures. Its statuses
-///   are 0 where they were printed whole, 4 where the input was refused, 6 where a port failed and 7 where there was no memory.
-/// - `table` reads the site of the folder and prints the capacity table of each tank. Its statuses are 0 where they were printed
-///   whole, 2 where the folder describes no site, 6 where the folder or the output failed and 7 where there was no memory.
-/// - `init` reads the site of the folder and makes its journal on an empty disk. Its statuses are 0 where it was made, 2 where the folder
-///   describes no site, 3 where the disk isn't empty, 5 where it failed, 6 where the folder or the output failed and 7 where there was no
-///   memory.
-/// - `batch` recovers the desk of the journal on the disk and asks it the lines of the input, one after another, each answered by a line
-///   of its own. Its statuses are 0 where every line was answered, or a Stop was entered, and nothing is in doubt; 3 where the disk has no
-///   whole journal; 4 at a line too many; 5 where the disk failed before the desk was recovered, or an entry is in doubt at the end; 6 where
-///   a port failed and 7 where there was no memory.
-/// - Arguments that are no command print the usage line, and end with 1.
+/// - `serve` recovers the desk of the journal on the disk, and the first of the posts serves it on the port of the options until a Stop, the
+///   listener's end or its failure. Then the summary is printed. Its statuses are 0 where a Stop or the end ended it, nothing is in doubt and
+///   the summary was printed whole; 3 where the disk has no whole journal; 5 where the disk failed before the desk was recovered, or an entry
+///   is in doubt at the end; 6 where the listener or the output failed and 7 where there was no memory. It may wait, and need not return.
+/// - Every other command, and arguments that are none, are run as by `run_alone`.
 ///
-/// The least status that holds is answered, but in one case: where there is no memory for the line of a line too many, `batch` ends with
-/// 7 (or 6) also with an entry in doubt. A command makes no call on a port or a disk that it doesn't use. A text follows what was printed
-/// before it. The disk is always handed back.
-pub fn run<S: Source, K: Sink, F: Folder, D: Disk, C: Clock>(
+/// The least status that holds is answered, but for the two cases in which there is no memory for a last text: `serve`'s summary, then 7, and
+/// `batch`'s line of a line too many, then 7 or 6. A command makes no call on a port, a listener or a disk that it doesn't use. A text follows
+/// what was printed before it. The disk is always handed back.
+pub fn run<R: Wait, S: Source, K: Sink, F: Folder, D: Disk, L: Listener, C: Clock>(
+    rt: &R,
     alloc: Global,
     words: &[String],
     input: &mut S,
     output: &mut K,
     folder: &mut F,
     disk: D,
+    desks: &mut [Post<L>],
     clock: &C,
 ) -> Done<D>
     ensures usage { command_of (map string_bytes words.now) ≡ None → UsageRun (output_of K.held K.faults output.old output.new) result.status }
@@ -69,6 +56,9 @@ pub fn run<S: Source, K: Sink, F: Folder, D: Disk, C: Clock>(
     ensures batch { command_of (map string_bytes words.now) ≡ Some Subcommand.Batch → IfSome result.disk (λ left.
         BatchRun D.trace D.moment D.faults (C.may_give clock.now) disk left (S.stream input.old) (S.stream input.new)
         (count_of S.faults input.old input.new) (output_of K.held K.faults output.old output.new) result.status) }
+    ensures serve { (options : ServeOptions) → command_of (map string_bytes words.now) ≡ Some (Subcommand.Serve options) → IfSome result.disk (λ left.
+        ServeRun D.trace D.moment D.faults L.events L.faults (C.may_give clock.now) options.port desks.old desks.new disk left
+        (output_of K.held K.faults output.old output.new) result.status) }
 
     // Over a folder that lists no failure and an output that didn't fail, `table` ends with 6 only where a file is missing.
     ensures table_missing { command_of (map string_bytes words.now) ≡ Some Subcommand.Table → F.lists_no_failure folder.old →
@@ -77,6 +67,7 @@ pub fn run<S: Source, K: Sink, F: Folder, D: Disk, C: Clock>(
     // A port that the command doesn't use gets no call, and no count ever falls.
     ensures input_kept { uses_input (command_of (map string_bytes words.now)) ≡ false → input.new ≡ input.old }
     ensures folder_kept { uses_folder (command_of (map string_bytes words.now)) ≡ false → folder.new ≡ folder.old }
+    ensures desks_kept { uses_listeners (command_of (map string_bytes words.now)) ≡ false → desks.new ≡ desks.old }
     ensures files { Stays (F.files folder.old) (F.files folder.new) }
     ensures input_never_falls { S.faults input.old ≤ S.faults input.new }
     ensures output_never_falls { K.faults output.old ≤ K.faults output.new }
@@ -87,103 +78,20 @@ pub fn run<S: Source, K: Sink, F: Folder, D: Disk, C: Clock>(
     ensures disk_kept { uses_disk (command_of (map string_bytes words.now)) ≡ false → result.disk ≡ Some disk }
     ensures disk_later { IfSome result.disk (λ left. IsLater (D.trace disk) (D.trace left) (D.moment disk) (D.moment left) (count_of D.faults disk left)) }
 {
-    let status = match Subcommand::of_words(words) {
-        Some(Subcommand::Init) => return init(alloc, output, folder, disk),
-        Some(Subcommand::Batch) => return batch(alloc, input, output, disk, clock),
-        Some(Subcommand::Calc) => calc(alloc, input, output),
-        Some(Subcommand::Table) => table(alloc, folder, output),
-        None => print_usage(output),
-    };
-    Done {
-        status,
-        disk: Some(disk),
-    }
-}
-
-// Arguments that are no command. A failing output changes nothing: they are no command all the same.
-fn print_usage<K: Sink>(output: &mut K) -> u8
-    ensures usage_run { UsageRun (output_of K.held K.faults output.old output.new) result }
-    ensures never_falls { K.faults output.old ≤ K.faults output.new }
-{
-    say(USAGE_LINE, NO_COMMAND, output)
-}
-
-// `calc`: one byte more than an input may have is asked for, so that a longer one shows.
-fn calc<S: Source, K: Sink>(alloc: Global, input: &mut S, output: &mut K) -> u8
-    ensures calc_run { CalcRun (given (S.stream input.old) (S.stream input.new)) (count_of S.faults input.old input.new)
-        (output_of K.held K.faults output.old output.new) result }
-    ensures input_never_falls { S.faults input.old ≤ S.faults input.new }
-    ensures output_never_falls { K.faults output.old ≤ K.faults output.new }
-{
-    match read_up_to(alloc, input, MOST_INPUT_BYTES + 1) {
-        Ok(bytes) => answer_input(alloc, &bytes, output),
-        Err(PortFault::Failed) => report_fault(output),
-        Err(PortFault::NoMemory) => report_no_memory(output),
-    }
-}
-
-// What `calc` does with the bytes that it read. The text is made whole before the first byte is put.
-fn answer_input<K: Sink>(alloc: Global, bytes: &[u8], output: &mut K) -> u8
-    ensures answers { Answers 4 refusal_text (calc_of bytes.now) (output_of K.held K.faults output.old output.new) result }
-    ensures never_falls { K.faults output.old ≤ K.faults output.new }
-{
-    match calc_text(alloc, bytes) {
-        Ok(text) => deliver(output, &text),
-        Err(NoFigures::Refused(why)) => refuse(refusal_text(alloc, why), REFUSED, output),
-        Err(NoFigures::NoMemory) => report_no_memory(output),
-    }
-}
-
-// The ten lines of an input, or its refusal.
-#[tactic(auto, unfolding(crate::specs::OutputTexts::calc_text))]
-fn calc_text(alloc: Global, bytes: &[u8]) -> Result<Vec<u8>, NoFigures>
-    ensures text { IfOk result (λ text. calc_text bytes.now ≡ Ok text.items) }
-    ensures refused { (why : Refused) → result ≡ Err (NoFigures.Refused why) → calc_text bytes.now ≡ Err why }
-{
-    match figures_of_input(alloc, bytes) {
-        Ok(figures) => Ok(ten_lines(alloc, &figures)?),
-        Err(NoFigures::Refused(why)) => Err(NoFigures::Refused(why)),
-        Err(NoFigures::NoMemory) => Err(NoFigures::NoMemory),
-    }
-}
-
-// The ten lines of figures.
-fn ten_lines(alloc: Global, figures: &Quantities) -> Result<Vec<u8>, NoMemory>
-    ensures lines { IfOk result (λ text. text.items ≡ figures_text figures.now) }
-{
-    let mut text = Vec::new(alloc);
-    figures_text(figures, &mut text)?;
-    Ok(text)
-}
-
-// `table`: the site is read whole before the first byte is put.
-fn table<K: Sink, F: Folder>(alloc: Global, folder: &mut F, output: &mut K) -> u8
-    ensures table_run { TableRun (F.files folder.new) (count_of F.faults folder.old folder.new) (output_of K.held K.faults output.old output.new) result }
-    ensures missing_only { F.lists_no_failure folder.old →
-        StopsAtMissing (F.files folder.new) (output_of K.held K.faults output.old output.new) result }
-    ensures files { Stays (F.files folder.old) (F.files folder.new) }
-    ensures folder_never_falls { F.faults folder.old ≤ F.faults folder.new }
-    ensures output_never_falls { K.faults output.old ≤ K.faults output.new }
-{
-    match Site::read(alloc, folder) {
-        Ok(site) => issue(alloc, &site, output),
-        Err(SiteReadFault::Bad(fault)) => {
-            refuse(site_refused_text(alloc, fault), SITE_REFUSED, output)
-        }
-        Err(SiteReadFault::Folder) => report_fault(output),
-        Err(SiteReadFault::NoMemory) => report_no_memory(output),
-    }
-}
-
-// Prints the capacity tables of a site. The text is made whole before the first byte is put.
-fn issue<K: Sink>(alloc: Global, site: &Site, output: &mut K) -> u8
-    ensures issues { Delivers (output_of K.held K.faults output.old output.new) (issued_text site.now.tanks) result
-        ⊎ LacksMemory (output_of K.held K.faults output.old output.new) result }
-    ensures never_falls { K.faults output.old ≤ K.faults output.new }
-{
-    let mut text = Vec::new(alloc);
-    match issued(site, &mut text) {
-        Ok(()) => deliver(output, &text),
-        Err(_) => report_no_memory(output),
+    match Subcommand::of_words(words) {
+        Some(Subcommand::Serve(options)) => serve_run::serve(
+            rt,
+            alloc,
+            output,
+            disk,
+            desks,
+            clock,
+            options.port,
+        ),
+        None if asks_to_serve(words) => Done {
+            status: print_usage(output),
+            disk: Some(disk),
+        },
+        _ => run_alone(alloc, words, input, output, folder, disk, clock),
     }
 }

@@ -1,9 +1,10 @@
 //! Runs over ports and a disk in memory.
 
+use command_line::asks_to_serve;
 use farm_base::NoMemory;
 use farm_disk::MemDisk;
 use farm_ports::{Files, Fixed, Gather, Script};
-use farm_run::{Done, run};
+use farm_run::{Done, run_alone};
 use std::alloc::Global;
 use std::test::Fail;
 use test_checks::Checks;
@@ -77,7 +78,7 @@ fn answer_on(
     Ok(((done.status, bytes), done.disk.ok_or("no disk")?))
 }
 
-// How the run of these words ended, and the bytes that it put.
+// How the run of these words ended, which don't ask to serve, and the bytes that it put.
 fn done_on(
     alloc: Global,
     words: &[String],
@@ -85,9 +86,12 @@ fn done_on(
     folder: &mut Files,
     disk: MemDisk,
 ) -> Result<(Done<MemDisk>, Vec<u8>), Fail> {
+    if asks_to_serve(words) {
+        return Err("words that ask to serve")?;
+    }
     let mut sink = Gather::new(alloc, Vec::new(alloc))?;
     let clock = Fixed::new(alloc, MOMENT)?;
-    let done = run(alloc, words, source, &mut sink, folder, disk, &clock);
+    let done = run_alone(alloc, words, source, &mut sink, folder, disk, &clock);
     let bytes = Vec::from_slice(alloc, sink.bytes())?;
     Ok((done, bytes))
 }

@@ -1,8 +1,11 @@
 //! Types that may go to another thread, and be looked at by two.
 
+use command_line::{ServeOptions, Subcommand};
+use desk_posts::{PostEnd, PostRoom};
 use farm_desk::{Answer, CreateFault, Desk, Opened, RecoverFault};
 use farm_disk::MemDisk;
 use farm_run::Done;
+use run_reports::BoxedDisk;
 use std::test::Fail;
 
 // Stands only for a type that is `Send` and `Sync`.
@@ -19,7 +22,14 @@ fn desks_and_what_they_answer_may_go_to_another_thread(_rt: HostRuntime) -> Resu
 }
 
 #[test]
-fn how_a_run_ended_may_go_to_another_thread(_rt: HostRuntime) -> Result<(), Fail> {
+fn commands_and_what_their_runs_work_with_may_go_to_another_thread(
+    _rt: HostRuntime,
+) -> Result<(), Fail> {
     shared::<Done<MemDisk>>();
+    shared::<BoxedDisk<MemDisk>>();
+    shared::<Subcommand>();
+    shared::<ServeOptions>();
+    shared::<PostRoom>();
+    shared::<PostEnd>();
     Ok(())
 }

@@ -6,7 +6,7 @@ use Rattle.farm_run.specs.OutputTexts.{calc_of}
 use Rattle.farm_run.specs.Texts.{refusal_text}
 use Rattle.run_reports.proofs.Refusals.{refused_by}
 use Rattle.farm_run.proofs.Runs.{answers_delivering, answers_refusing, answers_lacking}
-use Rattle.farm_run.proofs.program.answer_input.Goals as goal
+use Rattle.farm_run.proofs.alone.answer_input.Goals as goal
 
 pub returns-in-Ok-clause-answers : goal.returns-in-Ok-clause-answers
 returns-in-Ok-clause-answers g c =

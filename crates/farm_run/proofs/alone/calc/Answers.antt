@@ -4,7 +4,7 @@ use Rattle.farm_run.specs.OutputTexts.{calc_of}
 use Rattle.farm_run.specs.Texts.{refusal_text}
 use Rattle.farm_run.proofs.Runs.{run_faulted, run_lacking}
 use Rattle.farm_run.proofs.CalcRuns.{calc_answered, calc_run}
-use Rattle.farm_run.proofs.program.calc.Goals as goal
+use Rattle.farm_run.proofs.alone.calc.Goals as goal
 
 pub returns-in-Ok-clause-calc_run : goal.returns-in-Ok-clause-calc_run
 returns-in-Ok-clause-calc_run g c =

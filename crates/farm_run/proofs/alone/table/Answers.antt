@@ -8,7 +8,7 @@ use Rattle.farm_run.specs.Texts.{site_refused_text}
 use Rattle.run_reports.proofs.Known.{known_map}
 use Rattle.run_reports.proofs.Refusals.{delivers_risen, refused_by, refused_risen}
 use Rattle.farm_run.proofs.Runs.{answers_delivering, answers_refusing, answers_lacking, run_answering, run_faulted, run_lacking}
-use Rattle.farm_run.proofs.program.table.Goals as goal
+use Rattle.farm_run.proofs.alone.table.Goals as goal
 
 pub returns-in-Ok-clause-table_run : goal.returns-in-Ok-clause-table_run
 returns-in-Ok-clause-table_run g c =

@@ -2,7 +2,7 @@
 use Rattle.std.proofs.Common.{ap, map, string_bytes, ◌∙◌}
 use Rattle.command_line.specs.Commands.{file_of, folder_of}
 use Rattle.command_line.proofs.Arguments.{journal_from_form, no_command, site_from_form}
-use Rattle.command_line.proofs.commands.places.Goals as goal
+use Rattle.command_line.proofs.named.places.Goals as goal
 
 pub returns-clause-site_written : goal.returns-clause-site_written
 returns-clause-site_written c command options form =

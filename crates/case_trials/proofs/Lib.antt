@@ -1,0 +1,2 @@
+-- The lemmas of `case_trials`, by topic.
+mod Visits

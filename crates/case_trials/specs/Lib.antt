@@ -1,0 +1,2 @@
+-- The definitions of `case_trials`, by subject.
+pub mod Visits

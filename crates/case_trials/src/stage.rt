@@ -1,0 +1,15 @@
+//! What every run of a case stands on.
+
+use case_files::Sites;
+use std::alloc::Global;
+
+/// What every run of a case stands on.
+#[derive(Drop)]
+pub struct Stage<'a, R> {
+    /// The runtime, by which a run that serves waits.
+    pub rt: &'a R,
+    /// The allocator.
+    pub alloc: Global,
+    /// The sites that a run can name.
+    pub sites: &'a Sites,
+}

@@ -1,0 +1,19 @@
+//! The limits of the numbers that options have.
+
+/// The most digits of a number.
+pub const MOST_NUMBER_DIGITS: usize = 20;
+
+/// The least port.
+pub const LEAST_PORT: u64 = 1;
+
+/// The greatest port.
+pub const GREATEST_PORT: u64 = 65_535;
+
+/// The least number of workers.
+pub const LEAST_WORKERS: u64 = 1;
+
+/// The greatest number of workers.
+pub const MOST_WORKERS: u64 = 1;
+
+/// The greatest number of rounds.
+pub const MOST_ROUNDS: u64 = 0;
