@@ -33,6 +33,7 @@ module _ {V E R : Type 0} (f : Features V E R) (opening : V) where
     seen = subst (IsPrefix k.seen) (sym home.past_is) mine.seen;
     root_is = mine.root_is ∙ ap (λ r. Some r) (sym home.root_is);
     mark_seen = let m = mine.mark_seen in omega (arith, home.mark_is);
+    level_seen = let m = mine.level_seen in omega (arith, home.tally_is);
   }
 
   -- a compare and exchange of word 0 takes the turn, or finds it taken

@@ -83,6 +83,7 @@ module _ {V E R : Type 0} (f : Features V E R) (opening : V) where
         begins = subst (IsPrefix (f.past opening)) (sym home.past_is) h.begins;
         seen = All-weaker P (λ p. IsPrefix p.known.seen (f.past home.value)) (λ p o. subst (IsPrefix p.known.seen) (sym home.past_is) o.seen) passes each;
         marks = All-weaker P (λ p. p.known.mark ≤ f.mark home.value) (λ p o. subst (λ m. p.known.mark ≤ m) (sym home.mark_is) o.mark_seen) passes each;
+        levels = All-weaker P (λ p. p.known.level ≤ f.tally home.value) (λ p o. subst (λ n. p.known.level ≤ n) (sym home.tally_is) o.level_seen) passes each;
         tally = home.tally_is ∙ (h.tallies ∙ ap (λ n. f.tally opening + n) (sum_by-map (λ k. k.tally) known passes));
         numbers = λ x. sym (sum_by-map (has x) known passes) ∙ h.numbers x;
         own_entries = All-weaker P (λ p. p.known.own ≡ entries_of f.caller_of p.known.number (since (f.past opening) (f.past home.value)))

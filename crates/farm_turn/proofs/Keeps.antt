@@ -43,6 +43,7 @@ module _ {V E R : Type 0} (f : Features V E R) (opening : V) where
               seen = subst (λ l. IsPrefix l h.past) (sym home.past_is) (prefix_refl h.past);
               root_is = mine.root_is;
               mark_seen = omega (arith, home.mark_is);
+              level_seen = omega (arith, home.tally_is);
               numbered = mine.numbered;
               own_entries = mine.own_entries;
               holder = λ _. record { enrolled = numbered; seen = home.past_is; level = home.tally_is; mark_is = home.mark_is };
@@ -107,6 +108,7 @@ module _ {V E R : Type 0} (f : Features V E R) (opening : V) where
               seen = prefix_trans z.seen h.past new p.seen longer;
               root_is = p.root_is;
               mark_seen = le_trans p.mark_seen rises;
+              level_seen = let l = p.level_seen in omega arith;
               numbered = p.numbered;
               own_entries = p.own_entries ∙ sym (other_entries f.caller_of n z.number (f.past opening) h.past new h.begins grew (number_is-apart n z.number (let e = o.apart in omega arith)));
               holder = λ t. absurd (holds_false z o.idle t);
@@ -118,6 +120,7 @@ module _ {V E R : Type 0} (f : Features V E R) (opening : V) where
               seen = prefix_refl new;
               root_is = mine.root_is;
               mark_seen = omega arith;
+              level_seen = let l = mine.level_seen in omega arith;
               numbered = mine.numbered;
               own_entries = ap (λ l. l ++ since k.seen new) (mine.own_entries ∙ ap (λ o. entries_of f.caller_of o (since (f.past opening) h.past)) number)
                   ∙ (ap (λ l. entries_of f.caller_of (Some n) (since (f.past opening) h.past) ++ since l new) holder.seen
@@ -157,7 +160,7 @@ module _ {V E R : Type 0} (f : Features V E R) (opening : V) where
         one_turn = omega arith;
         begins = h.begins;
         each = All-same_others P a k k' b h.each
-            (record { seen = mine.seen; root_is = mine.root_is; mark_seen = mine.mark_seen; numbered = mine.numbered; own_entries = mine.own_entries; holder = λ t. absurd (true≢false (sym t)) });
+            (record { seen = mine.seen; root_is = mine.root_is; mark_seen = mine.mark_seen; level_seen = mine.level_seen; numbered = mine.numbered; own_entries = mine.own_entries; holder = λ t. absurd (true≢false (sym t)) });
         tallies = h.tallies ∙ ap (λ n. f.tally opening + n) (sym (same (λ x. x.tally) refl));
         numbers = λ x. same (has x) refl ∙ h.numbers x;
         count = same numbers_of refl ∙ h.count;
@@ -208,6 +211,7 @@ module _ {V E R : Type 0} (f : Features V E R) (opening : V) where
               seen = mine.seen;
               root_is = mine.root_is;
               mark_seen = mine.mark_seen;
+              level_seen = mine.level_seen;
               numbered = let n = numbers_of_enrolled k none' left in let o = mine.numbered in omega arith;
               own_entries = mine.own_entries ∙ (ap (λ o. entries_of f.caller_of o (since (f.past opening) h.past)) none'
                   ∙ sym (no_entries f.caller_of k.next (since (f.past opening) h.past) (λ i d lt same'. let p = h.callers i d lt in let q = ap (λ m. sum_by (owns m) (a ++ k ∷ b)) same' in omega arith)));
@@ -249,12 +253,13 @@ module _ {V E R : Type 0} (f : Features V E R) (opening : V) where
               seen = mine.seen;
               root_is = mine.root_is;
               mark_seen = mine.mark_seen;
+              level_seen = mine.level_seen;
               numbered = omega arith;
               own_entries = mine.own_entries;
               holder = λ t. absurd (true≢false (sym t ∙ idle));
             }))
             (All-cons P new []
-            (record { seen = mine.seen; root_is = mine.root_is; mark_seen = mine.mark_seen; numbered = omega arith; own_entries = refl; holder = λ t. absurd (true≢false (sym t)) })
+            (record { seen = mine.seen; root_is = mine.root_is; mark_seen = mine.mark_seen; level_seen = mine.level_seen; numbered = omega arith; own_entries = refl; holder = λ t. absurd (true≢false (sym t)) })
             (All-nil P));
         tallies = h.tallies ∙ ap (λ n. f.tally opening + n) (sym (sums (λ x. x.tally) (omega arith)));
         numbers = λ x. sums (has x) (has_split x k less) ∙ h.numbers x;

@@ -28,7 +28,7 @@ module _ {V E R : Type 0} (f : Features V E R) where
         words_are = words_are;
         one_turn = omega arith;
         begins = prefix_refl (f.past value);
-        each = All-cons P k [] (record { seen = prefix_refl (f.past value); root_is = refl; mark_seen = omega arith; numbered = omega arith; own_entries = refl; holder = λ t. absurd (true≢false (sym t)) }) (All-nil P);
+        each = All-cons P k [] (record { seen = prefix_refl (f.past value); root_is = refl; mark_seen = omega arith; level_seen = omega arith; numbered = omega arith; own_entries = refl; holder = λ t. absurd (true≢false (sym t)) }) (All-nil P);
         tallies = omega arith;
         numbers = first_numbers value;
         count = refl;

@@ -25,7 +25,7 @@ pub record KeepsNumbers {E R : Type 0} (old new : Known E R) : Type 0 where
 
 module _ {V E R : Type 0} (f : Features V E R) where
   -- the job ran once, on a value that has the opening root and that no pass sees but this one: its past begins with what the pass had seen.
-  -- Afterwards the pass has seen the past that the job left, and its mark; its own entries and its tally grew by what the job appended and raised
+  -- Afterwards the pass has seen the past that the job left, and the mark and the tally that it left; its own entries and its own tally grew by what the job appended and raised
   pub record Turned {J : Type 0} (does : J → ℕ → V → J → V → Type 0) (opening : V) (job job' : J) (old new : Known E R) : Type 0 where
     pub before : V
     pub after : V
@@ -39,8 +39,10 @@ module _ {V E R : Type 0} (f : Features V E R) where
     pub mark_rises : f.mark before ≤ f.mark after
     pub begins : IsPrefix old.seen (f.past before)
     pub mark_seen : old.mark ≤ f.mark before
+    pub level_seen : old.level ≤ f.tally before
     pub seen : new.seen ≡ f.past after
     pub mark_is : new.mark ≡ f.mark after
+    pub level_is : new.level ≡ f.tally after
     pub own_entries : new.own ≡ old.own ++ since (f.past before) (f.past after)
     pub tally : new.tally + f.tally before ≡ old.tally + f.tally after
 
@@ -50,6 +52,7 @@ module _ {V E R : Type 0} (f : Features V E R) where
     pub begins : IsPrefix (f.past opening) (f.past value)
     pub seen : All (λ p. IsPrefix p.known.seen (f.past value)) passes
     pub marks : All (λ p. p.known.mark ≤ f.mark value) passes
+    pub levels : All (λ p. p.known.level ≤ f.tally value) passes
     pub tally : f.tally value ≡ f.tally opening + sum_by (λ p. p.known.tally) passes
     pub numbers : (x : ℕ) → sum_by (λ p. has x p.known) passes ≡ is_number x
     pub own_entries : All (λ p. p.known.own ≡ entries_of f.caller_of p.known.number (since (f.past opening) (f.past value))) passes

@@ -12,11 +12,12 @@ module _ {V E R : Type 0} (f : Features V E R) where
   abbrev pub took : V → Known E R → Known E R
   took value k = record k { seen = f.past value; mark = f.mark value; level = f.tally value; holds = true }
 
-  -- what a pass knows is true of a value: its past begins with what was seen, its root is the one that the pass carries, its mark is at least the one seen
+  -- what a pass knows is true of a value: its past begins with what was seen, its root is the one that the pass carries, its mark and its tally are at least those seen
   pub record Precedes (value : V) (k : Known E R) : Type 0 where
     pub seen : IsPrefix k.seen (f.past value)
     pub root_is : k.root ≡ Some (f.root value)
     pub mark_seen : k.mark ≤ f.mark value
+    pub level_seen : k.level ≤ f.tally value
 
   -- where word 0 was 0, the pass took the turn and the value, which has this root; else nothing changed
   abbrev pub TakesTurn : Option R → Step (Option V) → Me (Option V) (View E R) → ℕ → Me (Option V) (View E R) → Type 0
@@ -43,7 +44,7 @@ CountsEntry past raised mark s me found me' = me' ≡ (every (counted past raise
 
 -- the pass after it gave the turn back
 abbrev pub gave : {E R : Type 0} → Known E R → Known E R
-gave k = record k { level = 0; holds = false }
+gave k = record k { holds = false }
 
 -- the value went home, and the turn was given back
 abbrev pub GivesTurnBack : {S E R : Type 0} → Step S → Me S (View E R) → ℕ → Me S (View E R) → Type 0

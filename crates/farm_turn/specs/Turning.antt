@@ -26,11 +26,12 @@ module _ {V E R : Type 0} (f : Features V E R) where
     pub level : k.level ≡ tally
     pub mark_is : k.mark ≡ mark
 
-  -- what each pass knows is true of the past, the mark and the root
+  -- what each pass knows is true of the past, the tally, the mark and the root
   pub record IsOne (opening : V) (past : List E) (tally mark : ℕ) (k : Known E R) : Type 0 where
     pub seen : IsPrefix k.seen past
     pub root_is : k.root ≡ Some (f.root opening)
     pub mark_seen : k.mark ≤ mark
+    pub level_seen : k.level ≤ tally
     pub numbered : 0 < numbers_of k
     pub own_entries : k.own ≡ entries_of f.caller_of k.number (since (f.past opening) past)
     pub holder : k.holds ≡ true → IsHolder past tally mark k

@@ -97,12 +97,12 @@ without_least k = record k { next = k.next + 1 }
 
 -- a new pass, which has seen what this one has, and has this one's least number left
 abbrev pub split_off : {E R : Type 0} → Known E R → Known E R
-split_off k = record { seen = k.seen; own = []; number = None; next = k.next; end = k.next + 1; root = k.root; tally = 0; mark = k.mark; level = 0; holds = false }
+split_off k = record { seen = k.seen; own = []; number = None; next = k.next; end = k.next + 1; root = k.root; tally = 0; mark = k.mark; level = k.level; holds = false }
 
 module _ {V E R : Type 0} (f : Features V E R) where
   -- the first pass of a turn
   abbrev pub first_known : V → Known E R
-  first_known value = record { seen = f.past value; own = []; number = None; next = 0; end = number_limit; root = Some (f.root value); tally = 0; mark = f.mark value; level = 0; holds = false }
+  first_known value = record { seen = f.past value; own = []; number = None; next = 0; end = number_limit; root = Some (f.root value); tally = 0; mark = f.mark value; level = f.tally value; holds = false }
 
 -- what a pass shows: which turn it is of, and what it knows
 pub record PassView (E R : Type 0) : Type 0 where

@@ -90,7 +90,7 @@ fn joined_seat<V: Chronicle>(shared: &SharedOf<V>, mut passes: Vec<PassOf<V>>) -
 }
 
 impl<V: Chronicle> Turn<V> {
-    /// Shares a value. The one pass has all caller numbers left, and has seen the value's past and its mark.
+    /// Shares a value. The one pass has all caller numbers left, and has seen the value's past, its tally and its mark.
     ///
     /// Out of memory is the one refusal; it hands the value back.
     pub fn new(alloc: Global, value: V) -> Result<(Turn<V>, PassOf<V>), (V, NoMemory)>

@@ -20,7 +20,7 @@ pub struct Known<E, R> {
     pub tally: u64,
     /// The greatest mark of the value that it has seen.
     pub mark: u64,
-    /// The tally of the value, while the pass has the turn.
+    /// The greatest tally of the value that it has seen.
     pub level: u64,
     /// Whether the pass has the turn.
     pub holds: bool,
