@@ -23,6 +23,7 @@ use farm_base::NoMemory;
 use farm_history::{Entry, Query, Reply, Rule, Verdict, laws};
 use farm_site::Site;
 use history_lookups::Past;
+use key_index::KeyIndex;
 use std::alloc::Global;
 use std::marker::Model;
 
@@ -33,18 +34,22 @@ use std::marker::Model;
 pub struct Book<const LIMIT: usize> {
     site: Site,
     entries: Vec<Entry>,
+    // Where the account and the key of each entry stand.
+    keys: KeyIndex,
+    // For how many entries more there is room in both.
+    room: usize,
 }
 
 impl<const LIMIT: usize> Model for Book<LIMIT> {
     ghost use Rattle.std.specs.Prelude.{◌-◌, vec_capacity, vec_len};
-    ghost use Rattle.farm_book.specs.Kept.{IsSound, Kept};
+    ghost use Rattle.farm_book.specs.Kept.{IsKept, Kept};
     ghost use Rattle.history_lookups.specs.Pasts.{history_of};
 
     ghost Value = { Kept };
 
-    ghost view = { λ book. record { history = history_of book.site book.entries.items; spare = vec_capacity book.entries - vec_len book.entries } };
+    ghost view = { λ book. record { history = history_of book.site book.entries.items; spare = book.room } };
 
-    ghost invariant = { λ book. IsSound LIMIT (history_of book.site book.entries.items) };
+    ghost invariant = { λ book. IsKept LIMIT (history_of book.site book.entries.items) book.keys book.room (vec_capacity book.entries - vec_len book.entries) };
 }
 
 impl<const LIMIT: usize> Book<LIMIT> {
@@ -58,6 +63,8 @@ impl<const LIMIT: usize> Book<LIMIT> {
         Ok(Book {
             site,
             entries: Vec::new(alloc),
+            keys: KeyIndex::new(alloc),
+            room: 0,
         })
     }
 
@@ -70,7 +77,7 @@ impl<const LIMIT: usize> Book<LIMIT> {
         ensures repeated { (place : ℕ) → result ≡ Verdict.Repeat place → (1 ≤ place) × (place ≤ last_place self.now.history) }
     {
         laws();
-        verdict_of(LIMIT, &self.past(), entry)
+        verdict_of(LIMIT, &self.past(), &self.keys, entry)
     }
 
     /// Makes room for one entry more. It fails only where there was no room and no memory for it.
@@ -82,7 +89,11 @@ impl<const LIMIT: usize> Book<LIMIT> {
         ensures limit { LIMIT ≤ GREATEST_LIMIT }
         ensures few { last_place self.new.history ≤ LIMIT + STOPS_BEYOND_LIMIT }
     {
-        self.entries.reserve(1)?;
+        if self.room == 0 {
+            self.entries.reserve(1)?;
+            self.keys.reserve()?;
+            self.room = 1;
+        }
         Ok(())
     }
 
@@ -101,8 +112,11 @@ impl<const LIMIT: usize> Book<LIMIT> {
         ensures total { Moves (postings_at self.new.history (last_place self.new.history)) (total_of self.old.history) (total_of self.new.history) }
         ensures spare { self.new.spare + 1 ≡ self.old.spare }
     {
+        let place = self.entries.len() as u32 + 1;
+        self.keys.enter(entry.account, entry.key, place);
         self.entries.push_reserved(entry);
-        self.reply_at(self.entries.len() as u32)
+        self.room -= 1;
+        self.reply_at(place)
     }
 
     /// The reply for the entry at a place.

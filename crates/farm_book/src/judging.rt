@@ -2,13 +2,13 @@
 
 ghost use Rattle.std.specs.Prelude.{◌≡◌, ◌+◌, ◌≤◌, ℕ, if◌then◌else◌, IfSome, None, Some, length};
 ghost use Rattle.std.specs.List.{list_any};
-ghost use Rattle.farm_base.specs.Steps.{or_else};
 ghost use Rattle.history_lookups.specs.Pasts.{IsReadable, history_of};
 ghost use Rattle.farm_history.specs.Commands.{IsWellFormedCommand, is_same_command, tanks_given};
 ghost use Rattle.farm_history.specs.History.{tank_after};
 ghost use Rattle.farm_history.specs.Places.{first_place};
 ghost use Rattle.farm_history.specs.Rules.{broken_by_command, is_full, is_missing, is_repeat, has_same_key, unknown_tank};
-ghost use Rattle.farm_history.specs.Verdicts.{verdict};
+ghost use Rattle.farm_history.specs.Verdicts.{IsLegal, repeated_or, verdict};
+ghost use Rattle.farm_book.specs.Kept.{AreIndexed};
 ghost use Rattle.farm_history.specs.declared.limits.TheConstants.{GREATEST_LIMIT, STOPS_BEYOND_LIMIT};
 
 use crate::field_rule::first_bad_field;
@@ -16,31 +16,21 @@ use crate::gauging_rules::refused_gauging;
 use crate::movement_rules::{broken_by_movement, unknown_party};
 use farm_history::{Command, Entry, Plan, Rule, STOPS_BEYOND_LIMIT, Verdict};
 use history_lookups::Past;
-
-// Where the account and the key of a further entry stand.
-#[derive(Drop)]
-struct Places {
-    // The first place at which they stand with the same command.
-    repeat: Option<u32>,
-    // The first place at which they stand.
-    used: Option<u32>,
-}
+use key_index::KeyIndex;
 
 /// What the rules say of a further entry, where there may be `limit` entries.
 #[tactic(auto, unfolding(farm_history::specs::Verdicts::verdict, farm_history::specs::Rules::broken_rule, farm_history::specs::Rules::key_reused, farm_history::specs::Rules::history_full))]
-pub fn verdict_of(limit: usize, past: &Past<'_>, entry: &Entry) -> Verdict
+pub fn verdict_of(limit: usize, past: &Past<'_>, keys: &KeyIndex, entry: &Entry) -> Verdict
     requires limit { limit ≤ GREATEST_LIMIT }
     requires readable { IsReadable (history_of past.now.site.now past.now.entries.now) }
+    requires legal { IsLegal limit (history_of past.now.site.now past.now.entries.now) }
+    requires indexed { AreIndexed keys.now past.now.entries.now }
     requires command { IsWellFormedCommand entry.now.cmd }
     ensures verdict { result ≡ verdict limit (history_of past.now.site.now past.now.entries.now) entry.now }
     ensures repeated { (place : ℕ) → result ≡ Verdict.Repeat place → (1 ≤ place) × (place ≤ length past.now.entries.now) }
 {
-    let places = places_of(past.entries, entry);
-    if let Some(place) = places.repeat {
-        return Verdict::Repeat(place);
-    }
-    if let Some(place) = places.used {
-        return Verdict::Refused(Rule::KeyReused(place));
+    if let Some(place) = used_place(past, keys, entry) {
+        return verdict_on_used(limit, past, place, entry);
     }
     if is_full(limit, past.entries.len(), entry.cmd.is_stop()) {
         return Verdict::Refused(Rule::HistoryFull);
@@ -51,43 +41,29 @@ pub fn verdict_of(limit: usize, past: &Past<'_>, entry: &Entry) -> Verdict
     }
 }
 
-// Where the account and the key of an entry stand, in one pass over the entries. A use is looked for only as far as a repeat.
-fn places_of(entries: &[Entry], entry: &Entry) -> Places
-    requires few { length entries.now ≤ GREATEST_LIMIT + STOPS_BEYOND_LIMIT }
-    ensures repeat { result.repeat ≡ first_place (is_repeat entry.now) entries.now }
-    ensures within { IfSome result.repeat (λ place. (1 ≤ place) × (place ≤ length entries.now)) }
-    ensures used { result.repeat ≡ None → result.used ≡ first_place (has_same_key entry.now) entries.now }
+// The place at which the account and the key of an entry stand.
+fn used_place(past: &Past<'_>, keys: &KeyIndex, entry: &Entry) -> Option<u32>
+    requires indexed { AreIndexed keys.now past.now.entries.now }
+    ensures used { result ≡ first_place (has_same_key entry.now) past.now.entries.now }
+    ensures new { result ≡ None → first_place (is_repeat entry.now) past.now.entries.now ≡ None }
+    ensures within { IfSome result (λ place. (1 ≤ place) × (place ≤ length past.now.entries.now)) }
 {
-    let mut used = None;
-    for (index, other) in entries.iter().enumerate() {
-        let place = index as u32 + 1;
-        if is_repeat(entry, other) {
-            return Places {
-                repeat: Some(place),
-                used,
-            };
-        }
-        used = first_use(used, place, has_same_key(entry, other));
-    }
-    Places { repeat: None, used }
+    keys.place_of(entry.account, entry.key)
 }
 
-// The first use of a key: the one before, or the one here.
-fn first_use(used: Option<u32>, place: u32, here: bool) -> Option<u32>
-    ensures first { result ≡ or_else used (if here then Some place else None) }
+// What is said of an entry whose account and key stand at a place: there the same command is repeated, and any other has a used key.
+fn verdict_on_used(limit: usize, past: &Past<'_>, place: u32, entry: &Entry) -> Verdict
+    requires legal { IsLegal limit (history_of past.now.site.now past.now.entries.now) }
+    requires used { first_place (has_same_key entry.now) past.now.entries.now ≡ Some place }
+    requires within { (1 ≤ place) × (place ≤ length past.now.entries.now) }
+    ensures verdict { result ≡ repeated_or (first_place (is_repeat entry.now) past.now.entries.now) (Verdict.Refused (Rule.KeyReused place)) }
+    ensures here { (repeated : ℕ) → result ≡ Verdict.Repeat repeated → repeated ≡ place }
 {
-    match used {
-        Some(before) => Some(before),
-        None if here => Some(place),
-        None => None,
+    let other = &past.entries[place as usize - 1];
+    if is_same_command(&other.cmd, &entry.cmd) {
+        return Verdict::Repeat(place);
     }
-}
-
-// Whether another entry has the account, the key and the command of an entry.
-fn is_repeat(entry: &Entry, other: &Entry) -> bool
-    ensures repeat { result ≡ is_repeat entry.now other.now }
-{
-    has_same_key(entry, other) && is_same_command(&other.cmd, &entry.cmd)
+    Verdict::Refused(Rule::KeyReused(place))
 }
 
 // Whether two commands are the same in each field.
@@ -96,13 +72,6 @@ fn is_same_command(command: &Command, other: &Command) -> bool
     ensures same { result ≡ is_same_command command.now other.now }
 {
     command == other
-}
-
-// Whether another entry has the account and the key of an entry.
-fn has_same_key(entry: &Entry, other: &Entry) -> bool
-    ensures key { result ≡ has_same_key entry.now other.now }
-{
-    other.account == entry.account && other.key == entry.key
 }
 
 // Whether a history of this many entries takes no further command.

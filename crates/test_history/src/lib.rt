@@ -1,5 +1,5 @@
-//! Tests of texts of pieces, tickets, movements, stocks, entries, the book and requests: what no clause of `text_pieces`, `farm_ticket`,
-//! `farm_movement`, `farm_stock`, `farm_history`, `farm_book` and `farm_http` says.
+//! Tests of texts of pieces, tickets, movements, keys, stocks, entries, the book and requests: what no clause of `text_pieces`, `farm_ticket`,
+//! `farm_movement`, `key_index`, `farm_stock`, `farm_history`, `farm_book` and `farm_http` says.
 #![tactic(auto)]
 
 #[cfg(test)]
@@ -12,6 +12,8 @@ mod entries;
 mod entry_bytes;
 #[cfg(test)]
 mod entry_rows;
+#[cfg(test)]
+mod keys;
 #[cfg(test)]
 mod line_rows;
 #[cfg(test)]

@@ -1,10 +1,12 @@
 -- Answers to the open goals of `commit`.
-use Rattle.std.proofs.Common.{rules, ◌≡◌, ◌∙◌, ℕ, option_map, ap, sym, subst}
+use Rattle.std.proofs.Common.{rules, ◌≡◌, ◌∙◌, ◌+◌, ℕ, [], ◌∷◌, length, Some, if◌then◌else◌, option_map, arith, ap, sym, subst, length-append}
+use Rattle.key_index.specs.Keys.{is_under, place_under}
 use Rattle.farm_stock.specs.Books.{plus}
 use Rattle.farm_stock.specs.Postings.{amount_of, at_tank}
 use Rattle.farm_history.specs.declared.reply.Reply.TheVariants.{Placed}
 use Rattle.farm_history.specs.Conservation.{Moves}
 use Rattle.farm_history.specs.History.{History, last_place, with_entry}
+use Rattle.farm_history.specs.Places.{first_place}
 use Rattle.farm_history.specs.Postings.{postings_at}
 use Rattle.farm_history.specs.Sites.{AreRising}
 use Rattle.farm_history.specs.Stocks.{book_of, total_of}
@@ -12,11 +14,12 @@ use Rattle.farm_history.specs.Verdicts.{IsNext}
 use Rattle.farm_history.proofs.Books.{books_grow}
 use Rattle.farm_history.proofs.Repeats.{new_key}
 use Rattle.farm_history.proofs.Totals.{totals_grow}
-use Rattle.farm_book.specs.Kept.{Kept}
+use Rattle.farm_book.specs.Kept.{Kept, has_key}
 use Rattle.farm_book.specs.Replies.{IsGainReply, IsTicketReply, IssuesAt, SettlesAt}
 use Rattle.history_lookups.specs.Pasts.{history_of}
 use Rattle.farm_book.proofs.Entered.{entered_issues, entered_issues_none, entered_settles, entered_settles_none, where_entered}
 use Rattle.farm_book.proofs.Entries.{sound_more}
+use Rattle.farm_book.proofs.Keys.{more_indexed}
 use Rattle.farm_book.proofs.book.Book.commit.Goals as goal
 use Rattle.farm_book.proofs.book.Book.commit.Goals.{After-reply_at}
 use Rattle.farm_book.proofs.book.Book.commit.Given.{Over}
@@ -25,13 +28,23 @@ pub invariant_of-self : goal.invariant_of-self
 invariant_of-self g c =
     let before : History = history_of c.self.inside.site c.self.inside.entries.items in
     let next = subst (λ (kept : Kept). IsNext g.row.LIMIT kept.history c.args.entry) (sym c.self.view_is) c.requires.next in
-    rw c.push_reserved.ensures.items (sound_more g.row.LIMIT before c.args.entry c.self.invariant next)
-
-pub invariant_of-self-2 : goal.invariant_of-self-2
-invariant_of-self-2 g c =
-    let before : History = history_of c.self.inside.site c.self.inside.entries.items in
-    let next = subst (λ (kept : Kept). IsNext g.row.LIMIT kept.history c.args.entry) (sym c.self.view_is) c.requires.next in
-    rw c.push_reserved.ensures.items (sound_more g.row.LIMIT before c.args.entry c.self.invariant next)
+    let fresh = new_key g.row.LIMIT before c.args.entry next.accepted in
+    let counted : c.len.result ≡ length c.self.inside.entries.items = search rules in
+    let entered : (account key : ℕ) → place_under c.enter.new.self account key ≡
+    (if is_under c.args.entry.account c.args.entry.key account key then Some (length c.self.inside.entries.items + 1)
+    else place_under c.self.inside.keys account key) =
+    λ account key. subst (λ (n : ℕ). place_under c.enter.new.self account key ≡ (if is_under c.args.entry.account c.args.entry.key account key then Some (n + 1) else place_under c.self.inside.keys account key)) counted (c.enter.ensures.entered account key) in
+    let room = c.self.invariant.room_of_entries in
+    let keys = c.self.invariant.room_of_keys in
+    record {
+      sound = rw c.push_reserved.ensures.items (sound_more g.row.LIMIT before c.args.entry c.self.invariant.sound next);
+      indexed = record {
+        places = λ account key. more_indexed c.self.inside.entries.items c.args.entry (place_under c.self.inside.keys) (place_under c.enter.new.self)
+            c.self.invariant.indexed.places entered fresh account key ∙ ap (first_place (has_key account key)) (sym c.push_reserved.ensures.items);
+      };
+      room_of_entries = let len = c.push_reserved.ensures.len in let capacity = c.push_reserved.ensures.capacity in omega (arith, room, len, capacity);
+      room_of_keys = let left = c.enter.ensures.room in omega (arith, keys, left);
+    }
 
 -- the history that the book has after it
 abbrev after : (g : Over) → After-reply_at g → History
@@ -44,14 +57,17 @@ entered g c =
     ap (λ (kept : Kept). with_entry kept.history c.args.entry) (sym c.self.view_is) ∙ more
 
 -- the entry stands at its last place
-last : (g : Over) (c : After-reply_at g) → c.len.result ≡ last_place (after g c)
-last g c = search rules
+last : (g : Over) (c : After-reply_at g) → c.len.result + 1 ≡ last_place (after g c)
+last g c =
+    let counted : c.len.result ≡ length c.self.inside.entries.items = search rules in
+    ap (λ (n : ℕ). n + 1) counted ∙ sym (length-append c.self.inside.entries.items (c.args.entry ∷ []))
+    ∙ sym (ap length c.push_reserved.ensures.items)
 
 -- what holds at the last place of the history with the entry holds at the entry's place
 there : (g : Over) (c : After-reply_at g) (P : History → ℕ → Type 0) →
     let more = with_entry c.args.self.now.history c.args.entry in
-    P more (last_place more) → P (after g c) c.len.result
-there g c P holds = where_entered P c.args.self.now.history (after g c) c.args.entry c.len.result (entered g c) (last g c) holds
+    P more (last_place more) → P (after g c) (c.len.result + 1)
+there g c P holds = where_entered P c.args.self.now.history (after g c) c.args.entry (c.len.result + 1) (entered g c) (last g c) holds
 
 pub returns-clause-ticket : goal.returns-clause-ticket
 returns-clause-ticket g c = λ issues.
@@ -83,5 +99,5 @@ pub returns-clause-total : goal.returns-clause-total
 returns-clause-total g c =
     let old : History = c.args.self.now.history in
     let Grows : History → Type 0 = λ new. Moves (postings_at new (last_place new)) (total_of old) (total_of new) in
-    let rising = subst (λ (kept : Kept). AreRising kept.history.site) c.self.view_is c.self.invariant.rising in
+    let rising = subst (λ (kept : Kept). AreRising kept.history.site) c.self.view_is c.self.invariant.sound.rising in
     subst Grows (entered g c) (totals_grow old c.args.entry rising)

@@ -17,6 +17,6 @@ returns-in-Some g c =
     let moment = last_moment_is (pos 0) entries entry last in
     let seen = subst (λ (kept : Kept). last_moment kept.history ≡ entry.at) c.self.view_is moment in
     let ends = last_ends entries entry last in
-    let is_moment = (c.self.invariant.legal ends.0 [] entry ends.1).well_formed.moment in
+    let is_moment = (c.self.invariant.sound.legal ends.0 [] entry ends.1).well_formed.moment in
     let at = to_z-of_z w64 entry.at (search rules) in
     record { moment = at ∙ sym seen; within = subst IsMoment (sym at) is_moment }

@@ -1,0 +1,2 @@
+-- The definitions of `key_index`.
+pub mod Keys
