@@ -1,0 +1,12 @@
+-- The lemmas of `line_posts`, by subject.
+pub mod Fronts
+pub mod Lists
+pub mod Longer
+pub mod Requesting
+pub mod Proceeding
+pub mod Dues
+pub mod OnePoll
+pub mod OneRound
+pub mod Remembering
+pub mod OneRun
+pub mod Continuing
