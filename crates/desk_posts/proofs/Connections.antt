@@ -40,7 +40,7 @@ pub record EndInExchange (acts : List Act) : Type 0 where
   pub exchange : Exchange
   pub are : acts ≡ before ++ Exchanged exchange ∷ []
 
--- a connection is open after so many exchanges, each answered whole
+-- a connection is open after this many exchanges, each answered whole
 pub record IsOpen (may_follow : History → History → Type 0) (may_give : ℤ → Type 0) (limit : ℕ) (conn : Connection) (in_hand : List ℕ) (old new : CallerState)
     (count : ℕ) : Type 0 where
   pub acts : List Act

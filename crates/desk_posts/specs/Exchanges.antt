@@ -131,7 +131,7 @@ IsReply None = ⊥
 abbrev pub AreAcknowledged : ℕ → List Exchange → Type 0
 AreAcknowledged most exchanges = All (λ exchange. IsReply exchange.answer → exchange.after ≤ most) exchanges
 
--- Exchanges follow one another on a history, from so many entries of it to so many: each is judged on a history that may follow the one
+-- Exchanges follow one another on a history, from one number of its entries to another: each is judged on a history that may follow the one
 -- that the exchange before left, and leaves no shorter one.
 unfoldable pub Follow : (History → History → Type 0) → History → ℕ → List Exchange → ℕ → Type 0
 Follow may_follow history from [] to = (from ≤ to) × may_follow (front_of history from) (front_of history to)

@@ -58,7 +58,7 @@ printed_last answer step later is stops =
     rw (is.stops ∙ stops)
     (ap {B = Outcome} (λ text. record { text = text; end = Done }) (ap answer_text is.page ∙ sym (append-nil (answer_text step.page))))
 
--- the batch goes on after each step and ends so after the last one, or the last one ended it
+-- the batch continues after each step and ends so after the last one, or the last one ended it
 abbrev pub EndsSo : ℕ → BatchEnd → ℕ → ℕ → List Step → List (List ℕ) → Type 0
 EndsSo limit end lines passed steps more =
     (GoesOn steps × EndsAfter limit end lines passed (lines_of steps) more) ⊎ (EndsInStop steps × (end ≡ Done))

@@ -75,7 +75,7 @@ module _ {D : Type 0} (faults : D → ℕ) (may_give : ℤ → Type 0) (limit : 
     pub ends : Adds old new (answer_text page) → stops ≡ true → Answers faults may_give limit before after line old new sink (Some Done)
     ends added is = answers page stops meets counted disk_counted acknowledged (Some Done) (is, added)
 
-    -- or the batch goes on after it
+    -- or the batch continues after it
     pub goes_on : Adds old new (answer_text page) → stops ≡ false → Answers faults may_give limit before after line old new sink None
     goes_on added is = answers page stops meets counted disk_counted acknowledged None (is, added)
 
@@ -87,7 +87,7 @@ module _ {D : Type 0} (faults : D → ℕ) (may_give : ℤ → Type 0) (limit : 
         (not_counted page before.failed after.failed other counted) (not_counted page (faults before.disk) (faults after.disk) other disk_counted)
         (λ reply. absurd reply) end puts
 
-    -- the batch goes on after out of memory was put in place of an answer
+    -- the batch continues after out of memory was put in place of an answer
     pub lacks_memory : page ≢ disk_fault → Adds old new (answer_text out_of_memory) → Answers faults may_give limit before after line old new sink None
     lacks_memory other added = lacks other None (refl, added)
 
@@ -101,7 +101,7 @@ module _ {D : Type 0} (faults : D → ℕ) (may_give : ℤ → Type 0) (limit : 
           | inr lacking ↦ lacks lacking.1 (Some Failed) (risen, count, subst Puts lacking.0 added)
         ]
 
--- a put that failed, of an answer or of out of memory in its place, has put a front of it
+-- a put that failed, of an answer or of out of memory in its place, has put a prefix of it
 pub failed_put : {E : Type 0} (page shown : Page) (old new : Option (List ℕ)) (result : Result Bool E) → IsErr result →
     MayBePut page shown → (count : ℕ) → Adds old new (take count (answer_text shown)) → PutsPage page old new result
 failed_put page shown old new (Ok whole) failed which count added = let no : false ≡ true = failed in cc

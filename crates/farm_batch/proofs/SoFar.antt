@@ -103,7 +103,7 @@ put_more old middle new front step put added =
 pub risen_since : (before middle now : ℕ) → middle ≡ before → Rose middle now → Rose before now
 risen_since before middle now quiet rose = subst (λ (count : ℕ). Rose count now) quiet rose
 
--- The batch goes on after a line.
+-- The batch continues after a line.
 pub goes_on : {D : Type 0} {faults : D → ℕ} {may_give : ℤ → Type 0} {limit : ℕ} {before middle after : DeskState D} {from between to : Option Stream}
     {source source_now : Count} {old held new : Option (List ℕ)} {sink sink_step sink_now : Count} {reading next_reading : ReaderState} {number : ℕ} →
     (so_far : SoFar faults may_give limit before middle from between source old held sink reading number) →

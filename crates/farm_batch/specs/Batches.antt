@@ -74,7 +74,7 @@ pub record Batch {D : Type 0} (faults : D → ℕ) (may_give : ℤ → Type 0) (
 abbrev pub MayBePut : Page → Page → Type 0
 MayBePut page shown = (shown ≡ page) ⊎ ((shown ≡ out_of_memory) × (page ≢ disk_fault))
 
--- An answer was put, whole or else out of memory in its place; or the put failed, and a front of one of these was added.
+-- An answer was put, whole or else out of memory in its place; or the put failed, and a prefix of one of these was added.
 abbrev pub PutsPage : {E : Type 0} → Page → Option (List ℕ) → Option (List ℕ) → Result Bool E → Type 0
 PutsPage page old new (Ok true) = Adds old new (answer_text page)
 PutsPage page old new (Ok false) = (page ≢ disk_fault) × Adds old new (answer_text out_of_memory)

@@ -167,7 +167,7 @@ answer_text page = body_text page ++ line_feed ∷ []
 abbrev pub answers_text : List Step → List ℕ
 answers_text steps = flat_map (λ step. answer_text step.page) steps
 
--- bytes are the answers before the last one, whole, and a front of the last one
+-- bytes are the answers before the last one, whole, and a prefix of the last one
 pub record IsCutAtLast (steps : List Step) (bytes : List ℕ) : Type 0 where
   pub front : List Step
   pub last : Step

@@ -68,7 +68,7 @@ module _ {D : Type 0} (trace : D → Option (List State)) (faults : D → ℕ) (
     least = omega (arith, is.least, surer);
   }
 
-  -- each image since stands for a front of its history
+  -- each image since stands for a prefix of its history
   pub asked_since : KeepsFront trace limit desk left.disk history
   asked_since =
       subst (λ (d : DeskState D). EachSince (trace d.disk) (trace left.disk) (RecoversFront limit history (certain d.doubt d.history))) same images

@@ -20,14 +20,14 @@ module _ {D : Type 0} (trace : D → Option (List State)) (limit : ℕ) (view de
       subst (λ (d : DeskState D). Extends (trace d.disk) (trace out)) same
       (subst (λ disk. Extends (trace view.disk) (trace disk)) (sym is) extends)
 
-  -- and each image since stands for a front of the history
+  -- and each image since stands for a prefix of the history
   pub finished_images : EachSince (trace view.disk) (trace settled) (RecoversFront limit view.history (certain view.doubt view.history)) →
       EachSince (trace desk.disk) (trace out) (RecoversFront limit desk.history (certain desk.doubt desk.history))
   finished_images images =
       subst (λ (d : DeskState D). EachSince (trace d.disk) (trace out) (RecoversFront limit d.history (certain d.doubt d.history))) same
       (subst (λ disk. EachSince (trace view.disk) (trace disk) (RecoversFront limit view.history (certain view.doubt view.history))) (sym is) images)
 
-  -- each image since the desk was made stands for a front of its history
+  -- each image since the desk was made stands for a prefix of its history
   pub finished_since : (faults : D → ℕ) (journal : JournalState D) → IsDesk trace faults limit view journal → Extends (trace view.disk) (trace settled) →
       EachSince (trace view.disk) (trace settled) (RecoversFront limit view.history (certain view.doubt view.history)) →
       EachFrom (trace out) desk.opened.moment (RecoversFront limit desk.history desk.opened.entries)

@@ -10,7 +10,7 @@ use Rattle.journaled_book.specs.Histories.{Recovers, RecoversAtLeast, RecoversFr
 use Rattle.journaled_book.specs.Moments.{EachFrom}
 use Rattle.farm_desk.specs.States.{DeskState}
 
--- each image that a crash may leave since a call began stands for a front of the history that it left, with at least the entries that
+-- each image that a crash may leave since a call began stands for a prefix of the history that it left, with at least the entries that
 -- weren't in doubt as it began
 abbrev pub KeepsFront : {D : Type 0} → (D → Option (List State)) → ℕ → DeskState D → D → History → Type 0
 KeepsFront trace limit old disk history =

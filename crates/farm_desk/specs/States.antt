@@ -19,7 +19,7 @@ pub record DeskState (D : Type 0) : Type 0 where
   pub failed : ℕ
   pub opened : Opened
 
--- What holds of every desk. Each image that a crash may leave at a moment since it was made stands for a front of its history, with at
+-- What holds of every desk. Each image that a crash may leave at a moment since it was made stands for a prefix of its history, with at
 -- least the entries that it was made with. Each that a crash may leave now stands for its history; or, where the last entry is in doubt,
 -- for that or for the history without it. Its answers that were faults of the disk are no more than its disk counted since.
 pub record IsDurable {D : Type 0} (trace : D → Option (List State)) (faults : D → ℕ) (limit : ℕ) (desk : DeskState D) : Type 0 where

@@ -23,7 +23,7 @@ use std::marker::Model;
 
 /// A custody desk on a disk: a book of at most `LIMIT` entries, and Stops beyond them, and the journal that keeps it.
 ///
-/// Whatever a crash leaves on the disk, a desk that is recovered from it has a front of this desk's entries, with each that was answered
+/// Whatever a crash leaves on the disk, a desk that is recovered from it has a prefix of this desk's entries, with each that was answered
 /// `Done`.
 #[derive(Drop)]
 pub struct Desk<D: Disk, const LIMIT: usize> {

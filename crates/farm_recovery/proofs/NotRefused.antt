@@ -79,7 +79,7 @@ next_among laws limit history other bytes back is other_is split =
       next = subst (λ (history : History). IsNext limit history at.entry) same (is.legal at.before at.after at.entry at.split);
     }
 
--- no list is one that goes on after it
+-- no list is one that continues after it
 never_longer : (taken back : List (List ℕ)) (bytes : List ℕ) → taken ≡ taken ++ bytes ∷ back → ⊥
 never_longer taken back bytes split = omega (arith, ap length split, length-append taken (bytes ∷ back))
 
@@ -100,7 +100,7 @@ module _ (laws : PartsAreRead) (limit : ℕ) (history : History) (bytes : List �
         },
       ))
 
-  -- whatever is due there
+  -- whatever is expected there
   not_damaged_with : (other : History) → IsDamagedAfter limit other bytes → (left : List ℕ) → drop (length (counting_of other)) bytes ≡ left →
       IsEntryDamaged limit other left → ⊥
   not_damaged_with other damaged [] there due =

@@ -22,7 +22,7 @@ pub record IsSiteDamaged (bytes : List ℕ) : Type 0 where
   pub damaged : (IsWhole (after_signature bytes) → ⊥) ⊎
       (IsWhole (after_signature bytes) × (IsSiteEncoding (counted_in (after_signature bytes)) → ⊥))
 
--- What is due after a history is damaged: there is no gate; or the gate is open, and the record is cut short or its length is over the
+-- What is expected after a history is damaged: there is no gate; or the gate is open, and the record is cut short or its length is over the
 -- limit, or its bytes are those of no entry that may come next.
 abbrev pub IsEntryDamaged : ℕ → History → List ℕ → Type 0
 IsEntryDamaged limit history [] = Unit {0}
@@ -33,7 +33,7 @@ IsEntryDamaged limit history (gate ∷ rest) =
 abbrev pub counting_of : History → List ℕ
 counting_of history = counting (site_encoding history.site) (entry_encodings history)
 
--- A journal is damaged after a history: it begins with what a journal of that history does, and what is due next is damaged.
+-- A journal is damaged after a history: it begins with what a journal of that history does, and what is expected next is damaged.
 pub record IsDamagedAfter (limit : ℕ) (history : History) (bytes : List ℕ) : Type 0 where
   pub begins : take (length (counting_of history)) bytes ≡ counting_of history
   pub short_site : IsShort (site_encoding history.site)
@@ -41,7 +41,7 @@ pub record IsDamagedAfter (limit : ℕ) (history : History) (bytes : List ℕ) :
   pub recordable : IsRecordable limit history
   pub damaged : IsEntryDamaged limit history (drop (length (counting_of history)) bytes)
 
--- a journal is damaged at the entry of a place: it begins as that of the history of the entries before it, and what is due next is damaged
+-- a journal is damaged at the entry of a place: it begins as that of the history of the entries before it, and what is expected next is damaged
 pub record IsDamagedAtEntry (limit : ℕ) (place : ℕ) (bytes : List ℕ) : Type 0 where
   pub history : History
   pub place_is : place ≡ last_place history + 1

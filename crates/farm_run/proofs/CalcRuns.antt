@@ -22,7 +22,7 @@ refused_figures : (answer : Result Quantities Refused) (why : Refused) → text_
 refused_figures (Ok figures) why is = cc
 refused_figures (Err other) why is = cc
 
--- where the text that is due is a refusal, so is the answer
+-- where the text that is expected is a refusal, so is the answer
 refused_answer : (bytes : List ℕ) (why : Refused) → calc_of bytes ≡ Some (Err why) → answer_of bytes ≡ Err why
 unfolding calc_text
 refused_answer bytes why is = let text_is : text_of_figures (answer_of bytes) ≡ Err why = cc in refused_figures (answer_of bytes) why text_is

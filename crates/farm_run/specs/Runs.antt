@@ -91,7 +91,7 @@ pub record OneAnswerRun {Input Why : Type 0} (refusal : ℕ) (says : Why → Lis
   pub complete : WhereKnown input (λ known. (text : List ℕ) → has known ≡ Some (Ok text) → ¬ (HasRisen port) → ¬ (HasRisen output.count) →
       (status ≡ 0) ⊎ (status ≡ 7))
 
--- `calc` on what was left of the input. A refusal names the line that isn't what is due there.
+-- `calc` on what was left of the input. A refusal names the line that isn't what is expected there.
 pub record CalcRun (input : Option (List ℕ)) (source : Count) (output : Output) (status : ℕ) : Type 0 where
   pub answered : OneAnswerRun 4 refusal_text calc_of input source output status
   pub refused_line : status ≡ 4 → WhereKnown input (λ bytes. (why : Refused) × Says output [] [] (refusal_text why) × IsRefusal bytes why.line why.cause)
@@ -100,7 +100,7 @@ pub record CalcRun (input : Option (List ℕ)) (source : Count) (output : Output
 abbrev pub TableRun : Option (List File) → Count → Output → ℕ → Type 0
 TableRun files folder output status = OneAnswerRun 2 site_refused_text table_of files folder output status
 
--- a status of a fault over an output that didn't fail: a file of the site that is due is missing
+-- a status of a fault over an output that didn't fail: a file of the site that is expected is missing
 abbrev pub StopsAtMissing : Option (List File) → Output → ℕ → Type 0
 StopsAtMissing files output status = status ≡ 6 → ¬ (HasRisen output.count) → WhereKnown files (λ known. IsMissing (site_of_files known))
 

@@ -26,7 +26,7 @@ is_failed ends.ListenerFailed = true
 abbrev pub EntersAtMostOne : Exchange → Type 0
 EntersAtMostOne exchange = (exchange.after ≡ exchange.before) ⊎ (exchange.after ≡ exchange.before + 1)
 
--- Exchanges follow one another at once, from so many entries to so many: each request is judged on what the exchange before left.
+-- Exchanges follow one another at once, from one number of entries to another: each request is judged on what the exchange before left.
 unfoldable pub FollowAtOnce : ℕ → List Exchange → ℕ → Type 0
 FollowAtOnce from [] to = to ≡ from
 FollowAtOnce from (exchange ∷ exchanges) to = (exchange.before ≡ from) × EntersAtMostOne exchange × FollowAtOnce exchange.after exchanges to

@@ -39,7 +39,7 @@ module _ {E : Type 0} where
   grows_prefix caller_of n old new (inl same) = subst (λ l. IsPrefix old l) (sym same) (prefix_refl old)
   grows_prefix caller_of n old new (inr (e, bears, is)) = (e ∷ [], sym is)
 
-  -- and goes on with what the job appended
+  -- and continues with what the job appended
   pub grows_is : (caller_of : E → ℕ) (n : ℕ) (old new : List E) → GrowsBy caller_of n old new → new ≡ old ++ since old new
   grows_is caller_of n old new (inl same) = same ∙ (sym (append-nil old) ∙ ap (λ l. old ++ l) (sym (ap (since old) same ∙ since_self old)))
   grows_is caller_of n old new (inr (e, bears, is)) = is ∙ ap (λ l. old ++ l) (sym (ap (since old) is ∙ since_more old (e ∷ [])))

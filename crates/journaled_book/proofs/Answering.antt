@@ -1,4 +1,4 @@
--- What is answered once nothing is in doubt is what is due on the history from before.
+-- What is answered once nothing is in doubt is what is expected on the history from before.
 use Rattle.std.proofs.Common.{◌≡◌, ◌∙◌, ℕ, ◌≤◌, Bool, false, ap, sym, subst, ℤ}
 use Rattle.farm_book.specs.Kept.{Kept}
 use Rattle.farm_history.specs.Desk.{Answered, answered_on, desk_answer, looked_up, stamped}

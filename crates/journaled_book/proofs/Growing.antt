@@ -42,7 +42,7 @@ stands_for_front limit history count least bytes recordable least_is most journa
   recovers = record { journal = journal; recordable = front_recordable limit history count recordable };
 }
 
--- what stands for a history stands for a front of it
+-- what stands for a history stands for a prefix of it
 pub whole_is_front : (limit : ℕ) (history : History) (least : ℕ) (bytes : List ℕ) → least ≤ last_place history → Recovers limit history bytes →
     RecoversFront limit history least bytes
 whole_is_front limit history least bytes least_is recovers =
@@ -80,7 +80,7 @@ either_now limit history front last bytes split recordable either =
     }))
     either
 
--- what stands for a history now stands for a front of it with the entries that aren't in doubt
+-- what stands for a history now stands for a prefix of it with the entries that aren't in doubt
 pub now_is_front : (limit : ℕ) (doubt : Bool) (history : History) (bytes : List ℕ) → RecoversNow limit doubt history bytes →
     RecoversFront limit history (certain doubt history) bytes
 now_is_front limit false history bytes recovers = whole_is_front limit history (last_place history) bytes (omega arith) recovers
@@ -95,7 +95,7 @@ now_is_front limit true history bytes recovers =
     })
     recovers
 
--- what stands for a history stands for a front of it with one entry more
+-- what stands for a history stands for a prefix of it with one entry more
 pub whole_is_front_of_more : (limit : ℕ) (history : History) (entry : Entry) (bytes : List ℕ) → Recovers limit history bytes →
     RecoversFront limit (with_entry history entry) (last_place history) bytes
 whole_is_front_of_more limit history entry bytes recovers =
@@ -107,7 +107,7 @@ whole_is_front_of_more limit history entry bytes recovers =
       recovers = subst Of (sym (take-append_seam history.entries (entry ∷ []))) recovers;
     }
 
--- what stands for a front of a history stands for one of a history that has grown
+-- what stands for a prefix of a history stands for one of a history that has grown
 pub front_of_grown : (limit : ℕ) (old new : History) (least : ℕ) (bytes : List ℕ) → HasGrown old new → RecoversFront limit old least bytes →
     RecoversFront limit new least bytes
 front_of_grown limit old new least bytes (inl same) front = subst (λ (history : History). RecoversFront limit history least bytes) (sym same) front
@@ -130,7 +130,7 @@ front_less limit history least less bytes fewer front = record {
   recovers = front.recovers;
 }
 
--- a front of a history is a history of at least as many entries
+-- a prefix of a history is a history of at least as many entries
 pub front_at_least : (limit : ℕ) (history : History) (least count : ℕ) (bytes : List ℕ) → count ≤ least → RecoversFront limit history least bytes →
     RecoversAtLeast limit count bytes
 front_at_least limit history least count bytes fewer front = record {

@@ -39,7 +39,7 @@ entered_since limit history entry old mid new extends put opened =
     each_more Such old mid new extends
     (since_weaker (Recovers limit history) Such old mid (λ image is. whole_is_front_of_more limit history entry image is) put) opened
 
--- each image of a call, and then of one that answers, stands for a front of the history that is left
+-- each image of a call, and then of one that answers, stands for a prefix of the history that is left
 pub answered_since : (limit : ℕ) (old_history new_history : History) (least : ℕ) (old mid new : Option (List State)) → HasGrown old_history new_history →
     least ≤ last_place old_history → Extends mid new → EachSince old mid (RecoversFront limit old_history least) →
     EachSince mid new (RecoversFront limit new_history (last_place old_history)) → EachSince old new (RecoversFront limit new_history least)
@@ -55,7 +55,7 @@ pub certain_within : (doubt : Bool) (history : History) → certain doubt histor
 certain_within false history = omega arith
 certain_within true history = omega arith
 
--- each image since a desk was made goes on to stand for a front of its history
+-- each image since a desk was made still stands for a prefix of its history
 pub since_made : (limit : ℕ) (old_history new_history : History) (least most from : ℕ) (old new : Option (List State)) → HasGrown old_history new_history →
     least ≤ most → Extends old new → EachFrom old from (RecoversFront limit old_history least) →
     EachSince old new (RecoversFront limit new_history most) → EachFrom new from (RecoversFront limit new_history least)
@@ -65,7 +65,7 @@ since_made limit old_history new_history least most from old new grown fewer ext
     (from_weaker (RecoversFront limit old_history least) Such old from (λ image is. front_of_grown limit old_history new_history least image grown is) each)
     (since_weaker (RecoversFront limit new_history most) Such old new (λ image is. front_less limit new_history most least image fewer is) since)
 
--- what each image stood for since a moment it goes on to stand for
+-- what each image stood for since a moment it still stands for
 pub acknowledged_since : (limit : ℕ) (history : History) (most count from : ℕ) (old new : Option (List State)) → count ≤ most → Extends old new →
     EachSince old new (RecoversFront limit history most) → EachFrom old from (RecoversAtLeast limit count) → EachFrom new from (RecoversAtLeast limit count)
 acknowledged_since limit history most count from old new fewer extends since each =

@@ -28,7 +28,7 @@ records_now trace limit true history journal kept =
     (λ image either. either_now limit history pending.front pending.last image pending.split kept.recordable either)
     (stands_on_each trace (site_encoding history.site) (map entry_encoding pending.front) (Some (entry_encoding pending.last)) journal pending.stands)
 
--- over no call each image stands for a front of the history with the entries that aren't in doubt
+-- over no call each image stands for a prefix of the history with the entries that aren't in doubt
 pub records_since : {D : Type 0} (trace : D → Option (List State)) (limit : ℕ) (doubt : Bool) (history : History) (journal : JournalState D) →
     AreRecords trace limit doubt history journal →
     EachSince (trace journal.disk) (trace journal.disk) (RecoversFront limit history (certain doubt history))

@@ -31,7 +31,7 @@ front_of history count = record { site = history.site; entries = take count hist
 abbrev pub HasGrown : History → History → Type 0
 HasGrown old new = (new ≡ old) ⊎ ((entry : Entry) × (new ≡ with_entry old entry))
 
--- bytes stand for a front of a history that has at least this many entries
+-- bytes stand for a prefix of a history that has at least this many entries
 pub record RecoversFront (limit : ℕ) (history : History) (least : ℕ) (bytes : List ℕ) : Type 0 where
   pub count : ℕ
   pub least_is : least ≤ count

@@ -35,7 +35,7 @@ counted_in_all some last before between now first second =
 module _ {D : Type 0} (trace : D → Option (List State)) (moment faults : D → ℕ) (desk after : DeskState D) (out : D) (doubt : Bool) (faulted : ℕ)
     (history : History) (new : IsJustMade moment faults desk (last_place desk.history)) (opened : after.opened ≡ desk.opened)
     (left : after.history ≡ history) where
-  -- from the desk as it was recovered, what it leaves after so many answers that were faults and the last opening of a gate
+  -- from the desk as it was recovered, what it leaves after this many answers that were faults and the last opening of a gate
   pub leaves_history : faults after.disk ≡ raised faulted (faults desk.disk) →
       EachFrom (trace out) after.opened.moment (RecoversFront BOOK_LIMIT after.history after.opened.entries) →
       EachNow (trace out) (RecoversNow BOOK_LIMIT doubt after.history) →

@@ -13,7 +13,7 @@ abbrev pub faults_at_end : Bool → ℕ
 faults_at_end true = 1
 faults_at_end false = 0
 
--- A run that found this history on the disk left this one there, with its last entry in doubt or not, where so many of its answers were
+-- A run that found this history on the disk left this one there, with its last entry in doubt or not, where this many of its answers were
 -- faults of the disk.
 pub record LeavesHistory (found history : History) (faulted : ℕ) (doubt : Bool) (moment : ℕ) (trace : Option (List State)) (disk : Count) : Type 0 where
   -- each image at a moment since the recovery stands for a prefix of the history, with all that was recovered

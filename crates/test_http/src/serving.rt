@@ -65,7 +65,7 @@ fn check_post<R: Print>(
     }
 }
 
-// A desk has so many entries, all of caller 0.
+// A desk has this many entries, all of caller 0.
 fn check_desk<R: Print>(checks: &mut Checks<'_, R>, desk: &RowDesk, entries: usize) {
     checks.same_at("entries", desk.book().entries().len(), entries);
     for entry in desk.book().entries() {

@@ -108,7 +108,7 @@ const AROUND_A_STOP: &[&[u8]] = &[b"\n", b"{\"do\":\"stop\",\"account\":1,\"key\
 
 const UP_TO_THE_STOP: &str = "{\"error\":400}\n{\"place\":1}\n";
 
-// What a batch answers to a source that goes on after a Stop, and what it leaves of it.
+// What a batch answers to a source that continues after a Stop, and what it leaves of it.
 fn check_stop<R: Print>(
     checks: &mut Checks<'_, R>,
     alloc: Global,

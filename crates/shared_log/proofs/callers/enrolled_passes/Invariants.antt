@@ -5,7 +5,7 @@ use Rattle.farm_turn.specs.Views.{left_of, numbers_of}
 use Rattle.shared_log.specs.Callers.{IsCaller}
 use Rattle.shared_log.proofs.callers.enrolled_passes.Given as goal
 
--- the pass has numbers left for those that are due; it and the passes that were cut off have the numbers that it began with
+-- the pass has numbers left for those that are expected; it and the passes that were cut off have the numbers that it began with
 abbrev pub invariant-loop : goal.invariant-loop
 invariant-loop l =
     (l.pass.turn ≡ l.turn.turn)
