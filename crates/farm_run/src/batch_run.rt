@@ -10,14 +10,15 @@ ghost use Rattle.run_reports.specs.Reports.{output_of};
 
 use crate::statuses::REFUSED;
 use crate::texts::too_long_text;
+use boxed_disk::BoxedDisk;
 use farm_base::NoMemory;
 use farm_batch::{BatchEnd, answer_lines};
 use farm_desk::Desk;
 use farm_disk::Disk;
 use farm_ports::{Clock, Sink, Source};
 use run_reports::{
-    BOOK_LIMIT, BoxedDisk, DONE, Done, on_heap, refuse, report_disk_fault, report_fault,
-    report_no_memory, report_recover,
+    BOOK_LIMIT, DONE, Done, on_heap, refuse, report_disk_fault, report_fault, report_no_memory,
+    report_recover,
 };
 use std::alloc::Global;
 

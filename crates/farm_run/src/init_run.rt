@@ -10,13 +10,14 @@ ghost use Rattle.farm_site.specs.Sites.{described};
 
 use crate::statuses::SITE_REFUSED;
 use crate::texts::{NOT_EMPTY_LINE, site_refused_text};
+use boxed_disk::BoxedDisk;
 use farm_desk::{CreateFault, Desk};
 use farm_disk::Disk;
 use farm_ports::{Failed, Folder, Sink};
 use farm_site::{Site, SiteReadFault};
 use run_reports::{
-    BOOK_LIMIT, BoxedDisk, DONE, Done, JOURNAL_REFUSED, on_heap, refuse, report_disk_fault,
-    report_fault, report_no_memory, say,
+    BOOK_LIMIT, DONE, Done, JOURNAL_REFUSED, on_heap, refuse, report_disk_fault, report_fault,
+    report_no_memory, say,
 };
 use std::alloc::Global;
 

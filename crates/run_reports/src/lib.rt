@@ -4,15 +4,15 @@
 //! hold and the counts of their faults, whatever the command is. docs/operating.md has the statuses and their lines.
 #![tactic(auto)]
 
-mod boxed_disk;
 mod done;
+mod heap;
 mod limits;
 mod number_laws;
 mod reports;
 mod texts;
 
-pub use boxed_disk::{BoxedDisk, on_heap};
 pub use done::Done;
+pub use heap::on_heap;
 pub use limits::BOOK_LIMIT;
 pub use number_laws::defined_numbers;
 pub use reports::{

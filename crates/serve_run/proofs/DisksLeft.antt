@@ -4,7 +4,7 @@ use Rattle.std.proofs.lemmas.List.Elements.{All-weaker}
 use Rattle.farm_base.specs.Counts.{Rose, raised}
 use Rattle.farm_desk.specs.States.{DeskState, IsJustMade}
 use Rattle.desk_posts.specs.Exchanges.{AreAcknowledged, Exchange, IsReply}
-use Rattle.run_reports.specs.declared.boxed_disk.BoxedDisk.{BoxedDisk}
+use Rattle.boxed_disk.specs.declared.boxed.BoxedDisk.{BoxedDisk}
 
 -- a count of at most the last u64 doesn't fall
 pub raised_not_below : (n before : ℕ) → before ≤ 2 ^ 64 - 1 → before ≤ raised n before

@@ -11,7 +11,7 @@ use Rattle.farm_listeners.specs.Listeners.{Event}
 use Rattle.farm_serve.specs.Posts.{PostState}
 use Rattle.farm_serve.specs.Serving.{ServesDesk}
 use Rattle.desk_posts.specs.Exchanges.{faults_in}
-use Rattle.run_reports.specs.declared.boxed_disk.BoxedDisk.{BoxedDisk}
+use Rattle.boxed_disk.specs.declared.boxed.BoxedDisk.{BoxedDisk}
 use Rattle.run_reports.specs.declared.limits.TheConstants.{BOOK_LIMIT}
 use Rattle.run_reports.specs.Disks.{IsLater}
 use Rattle.run_reports.specs.DisksLeft.{LeavesHistory}

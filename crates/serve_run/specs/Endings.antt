@@ -7,7 +7,7 @@ use Rattle.farm_desk.specs.States.{DeskState}
 use Rattle.farm_disk.specs.Images.{State}
 use Rattle.farm_disk.specs.Runs.{EachNow}
 use Rattle.book_texts.specs.Summaries.{IsSummary, summary_text}
-use Rattle.run_reports.specs.declared.boxed_disk.BoxedDisk.{BoxedDisk}
+use Rattle.boxed_disk.specs.declared.boxed.BoxedDisk.{BoxedDisk}
 use Rattle.run_reports.specs.Disks.{IsLater}
 use Rattle.run_reports.specs.Limits.{book_limit}
 use Rattle.run_reports.specs.Reports.{Output}

@@ -10,12 +10,13 @@ ghost use Rattle.serve_run.specs.Endings.{EndsDesk};
 ghost use Rattle.serve_run.specs.ServeRuns.{ServedOrNot, ServeRun};
 
 use crate::summaries::{report_summary, summary_of};
+use boxed_disk::BoxedDisk;
 use farm_desk::Desk;
 use farm_disk::Disk;
 use farm_listeners::Listener;
 use farm_ports::{Clock, Sink};
 use farm_serve::{Post, Served};
-use run_reports::{BOOK_LIMIT, BoxedDisk, Done, on_heap, report_no_memory, report_recover};
+use run_reports::{BOOK_LIMIT, Done, on_heap, report_no_memory, report_recover};
 use std::alloc::Global;
 use std::sync::Wait;
 

@@ -1,11 +1,11 @@
 //! Types that may go to another thread, and be looked at by two.
 
+use boxed_disk::BoxedDisk;
 use command_line::{ServeOptions, Subcommand};
 use desk_posts::{PostEnd, PostRoom};
 use farm_desk::{Answer, CreateFault, Desk, Opened, RecoverFault};
 use farm_disk::MemDisk;
 use farm_run::Done;
-use run_reports::BoxedDisk;
 use std::test::Fail;
 
 // Stands only for a type that is `Send` and `Sync`.

@@ -1,12 +1,9 @@
 //! A disk on the heap.
 
-ghost use Rattle.std.specs.Prelude.{◌≡◌, ◌≤◌, IfErr, IfOk, OnOk, Some};
-ghost use Rattle.run_reports.specs.Reports.{LacksMemory, output_of};
+ghost use Rattle.std.specs.Prelude.{◌≡◌, IfErr, IfOk};
 
-use crate::done::Done;
-use crate::reports::report_no_memory;
 use farm_disk::{Disk, Stand};
-use farm_ports::{Failed, Sink};
+use farm_ports::Failed;
 use std::alloc::Global;
 
 /// A disk on the heap. It is as large as a pointer, whatever the disk's type, so that the size of a desk over it is known.
@@ -17,7 +14,7 @@ pub struct BoxedDisk<D> {
 }
 
 impl<D> BoxedDisk<D> {
-    /// Moves a disk to the heap; it is given back where there is no memory.
+    /// Moves a disk to the heap; without memory it is given back.
     pub fn new(alloc: Global, disk: D) -> Result<Self, D>
         ensures moved { IfOk result (λ boxed. boxed.disk.value ≡ disk) }
         ensures given_back { IfErr result (λ left. left ≡ disk) }
@@ -33,23 +30,6 @@ impl<D> BoxedDisk<D> {
         ensures disk { result ≡ self.disk.value }
     {
         Box::into_inner(self.disk)
-    }
-}
-
-/// Moves a disk to the heap. Where there is no memory that is reported, and the disk handed back.
-pub fn on_heap<K: Sink, D>(alloc: Global, disk: D, output: &mut K) -> Result<BoxedDisk<D>, Done<D>>
-    ensures moved { IfOk result (λ boxed. boxed.disk.value ≡ disk) }
-    ensures output_kept { OnOk result (output.new ≡ output.old) }
-    ensures given_back { IfErr result (λ done. done.disk ≡ Some disk) }
-    ensures lacks_memory { IfErr result (λ done. LacksMemory (output_of K.held K.faults output.old output.new) done.status) }
-    ensures never_falls { K.faults output.old ≤ K.faults output.new }
-{
-    match BoxedDisk::new(alloc, disk) {
-        Ok(disk) => Ok(disk),
-        Err(disk) => Err(Done {
-            status: report_no_memory(output),
-            disk: Some(disk),
-        }),
     }
 }
 
