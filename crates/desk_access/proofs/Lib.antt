@@ -1,3 +1,5 @@
 -- The lemmas of `desk_access`, by subject.
+pub mod Fronts
+pub mod Lists
 pub mod Later
 pub mod Asking

@@ -8,7 +8,7 @@ use Rattle.farm_history.specs.History.{History, last_place}
 use Rattle.farm_history.specs.declared.ask.Ask.{Ask}
 use Rattle.farm_history.specs.declared.entry.Entry.{Entry}
 use Rattle.farm_history.specs.declared.reply.Reply.{Reply}
-use Rattle.journaled_book.specs.Histories.{front_of}
+pub use Rattle.farm_desk.specs.States.{Continues}
 use Rattle.journaled_book.specs.Replies.{IsAnswered, faults_of}
 use Rattle.journaled_book.specs.declared.answer.Answer.{Answer}
 use Rattle.journaled_book.specs.declared.answer.Answer.TheVariants.{Done}
@@ -23,10 +23,6 @@ pub record CallerState : Type 0 where
   pub own : List Entry
   pub certain : ℕ
   pub faulted : ℕ
-
--- a history continues another: it has its site, and begins with its entries
-abbrev pub Continues : History → History → Type 0
-Continues first next = front_of next (last_place first) ≡ first
 
 -- the entries of a history after those of one that it continues
 abbrev pub entered_since : History → History → List Entry

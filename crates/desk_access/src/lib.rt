@@ -9,3 +9,4 @@ mod stops;
 
 pub use access::DeskAccess;
 pub use sole::SoleAccess;
+pub use stops::has_stop_after;

@@ -29,7 +29,7 @@ use Rattle.desk_access.proofs.Asking.{grown}
 use Rattle.desk_posts.specs.Calls.{AsksWellFormed, IsMeant, IsShown, PutsPage, meant_by}
 use Rattle.desk_posts.specs.Exchanges.{Exchange, Follow, IsAskedDesk, IsExchange, IsReply, IsStatusPage, IsUnasked, ShowsAnswer, ends_after, size_of}
 use Rattle.desk_posts.specs.Visits.{Exchanges}
-use Rattle.desk_posts.proofs.Fronts.{continues_on, front_whole, no_shorter}
+use Rattle.desk_access.proofs.Fronts.{continues_on, front_whole, no_shorter}
 use Rattle.desk_posts.proofs.Refusals.{answer_503, answer_507, bad_answer, broken_answer}
 
 -- a history that has grown continues what it was

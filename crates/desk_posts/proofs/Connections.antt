@@ -22,7 +22,7 @@ use Rattle.desk_posts.specs.Limits.{most_requests}
 use Rattle.desk_posts.specs.Visits.{Exchanges, Serves}
 use Rattle.desk_posts.proofs.Acts.{bytes_of-append, bytes_of_takes, cuts_more, exchanges_of-append, exchanges_of_takes}
 use Rattle.desk_posts.proofs.Following.{AreLaws, exchanges_add_up, follow_within, no_exchange}
-use Rattle.desk_posts.proofs.Lists.{all_first}
+use Rattle.desk_access.proofs.Lists.{all_first}
 use Rattle.desk_posts.proofs.Longer.{IsWithin, exchanges_on, stays_open_on}
 
 -- what was taken from a connection, the requests that were cut from it, and what they did to an access

@@ -19,7 +19,7 @@ use Rattle.desk_posts.specs.declared.posts.PostEnd.{PostEnd}
 use Rattle.desk_posts.specs.declared.posts.PostEnd.TheVariants as how
 use Rattle.desk_posts.proofs.Acts.{exchanges_of-append}
 use Rattle.desk_posts.proofs.Following.{AreLaws, exchanges_add_up, follow_within, looked, no_exchange}
-use Rattle.desk_posts.proofs.Lists.{all_by, all_first, all_last}
+use Rattle.desk_access.proofs.Lists.{all_by, all_first, all_last}
 use Rattle.desk_posts.proofs.Longer.{IsWithin, exchanges_on, none_seen, stays_open_on, stop_on}
 
 -- a connection that stayed open did so on a history that continues this one

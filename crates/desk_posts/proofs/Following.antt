@@ -12,8 +12,8 @@ use Rattle.journaled_book.specs.Histories.{front_of}
 use Rattle.desk_access.specs.Access.{CallerState, Continues, LooksOn}
 use Rattle.desk_posts.specs.Exchanges.{Exchange, Follow, IsReply, entered_by, entered_in, faults_in, faults_on}
 use Rattle.desk_posts.specs.Visits.{Exchanges}
-use Rattle.desk_posts.proofs.Fronts.{continues_on, front_of_longer, front_whole, no_shorter}
-use Rattle.desk_posts.proofs.Lists.{all_by}
+use Rattle.desk_access.proofs.Fronts.{continues_on, front_of_longer, front_whole, no_shorter}
+use Rattle.desk_access.proofs.Lists.{all_by}
 use Rattle.desk_posts.proofs.Longer.{IsWithin, entered_on}
 
 -- what an access says of the histories that may follow one that was seen

@@ -1,6 +1,4 @@
 -- The lemmas of `desk_posts`, by subject.
-pub mod Lists
-pub mod Fronts
 pub mod Longer
 pub mod Following
 pub mod Takings

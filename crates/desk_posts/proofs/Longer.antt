@@ -17,8 +17,8 @@ use Rattle.journaled_book.specs.Replies.{IsAnswered}
 use Rattle.desk_access.specs.Access.{Continues, has_stop}
 use Rattle.desk_posts.specs.Courses.{StaysOpen}
 use Rattle.desk_posts.specs.Exchanges.{Exchange, IsAskedDesk, IsExchange, entered_by, entered_in, sees_stop}
-use Rattle.desk_posts.proofs.Fronts.{entries_of_longer, front_of_longer}
-use Rattle.desk_posts.proofs.Lists.{all_by_both}
+use Rattle.desk_access.proofs.Fronts.{entries_of_longer, front_of_longer}
+use Rattle.desk_access.proofs.Lists.{all_by_both}
 
 -- the places of an exchange are within the first ones, this many
 pub record IsWithin (most : ℕ) (exchange : Exchange) : Type 0 where

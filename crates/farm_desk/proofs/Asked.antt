@@ -1,6 +1,7 @@
 -- What a desk keeps over an answer.
-use Rattle.std.proofs.Common.{◌≡◌, ◌≢◌, ℕ, ◌+◌, ◌-◌, ◌^◌, ◌<◌, ◌≤◌, min, Bool, List, Option, Result, Ok, Err, refl, subst, arith}
-use Rattle.farm_base.specs.Counts.{Rose, RoseBy}
+use Rattle.std.proofs.Common.{◌≡◌, ◌≢◌, ◌∙◌, ap, ℕ, ◌+◌, ◌-◌, ◌^◌, ◌<◌, ◌≤◌, min, Bool, List, Option, Result, Ok, Err, refl, subst, arith}
+use Rattle.farm_base.proofs.Rises.{faults_are_added}
+use Rattle.farm_base.specs.Counts.{raised}
 use Rattle.farm_disk.specs.Images.{State}
 use Rattle.farm_disk.specs.Runs.{EachSince, Extends}
 use Rattle.farm_history.specs.History.{History}
@@ -8,7 +9,7 @@ use Rattle.farm_history.specs.declared.reply.Reply.{Reply}
 use Rattle.farm_journal.specs.Standing.{JournalState}
 use Rattle.journaled_book.specs.Replies.{answer_of, faults_of}
 use Rattle.farm_desk.specs.Asking.{KeepsAcknowledged, KeepsFront}
-use Rattle.journaled_book.specs.Histories.{HasGrown, RecoversFront, certain}
+use Rattle.journaled_book.specs.Histories.{HasGrown, RecoversFront, certain, front_of}
 use Rattle.journaled_book.specs.Records.{AreRecords}
 use Rattle.farm_desk.specs.States.{DeskState, IsDesk}
 use Rattle.journaled_book.specs.declared.answer.Answer.{Answer}
@@ -16,6 +17,8 @@ use Rattle.journaled_book.specs.declared.answer.Answer.TheVariants.{Done, DiskFa
 use Rattle.journaled_book.specs.declared.answer.NoReply.{NoReply}
 use Rattle.journaled_book.specs.declared.answer.NoReply.TheVariants as unanswered
 use Rattle.journaled_book.proofs.Keeping.{acknowledged_since, since_made}
+use Rattle.farm_desk.proofs.Continuing.{found_stays}
+use Rattle.farm_desk.proofs.Durable.{is_within}
 
 -- what follows from a fault follows where the answer is one
 pub cause_of : (replied : Result Reply NoReply) (answer : Answer) (P : Type 0) → answer ≡ answer_of replied → (replied ≡ Err unanswered.DiskFault → P) →
@@ -38,12 +41,23 @@ quiet_of (Ok reply) answer P is follows none = follows (λ fault. absurd cc)
 quiet_of (Err unanswered.DiskFault) answer P is follows none = absurd (none is)
 quiet_of (Err unanswered.NoMemory) answer P is follows none = follows (λ fault. absurd cc)
 
--- the faults that were answered are counted by the disk
-pub counted_on : (answer : Answer) (failed after before between now : ℕ) → RoseBy failed before between →
-    after ≡ min (failed + faults_of answer) (2 ^ 64 - 1) → (answer ≡ DiskFault → Rose between now) → between ≤ now → RoseBy after before now
-counted_on (Done reply) failed after before between now counted is rose later = omega (arith, counted, is, later)
-counted_on DiskFault failed after before between now counted is rose later = omega (arith, counted, is, rose refl)
-counted_on NoMemory failed after before between now counted is rose later = omega (arith, counted, is, later)
+-- a count that stands still stays raised by as many
+counted_still : (failed after before between now : ℕ) → between ≡ raised failed before → after ≡ min failed (2 ^ 64 - 1) → failed < 2 ^ 64 →
+    now ≡ between → now ≡ raised after before
+counted_still failed after before between now counted is fits still =
+    let same : failed ≡ after = omega (arith, is, fits) in
+    still ∙ counted ∙ ap (λ (n : ℕ). raised n before) same
+
+-- the disk counted just the faults that were answered
+pub counted_on : (answer : Answer) (failed after before between now : ℕ) → between ≡ raised failed before →
+    after ≡ min (failed + faults_of answer) (2 ^ 64 - 1) → failed < 2 ^ 64 → before < 2 ^ 64 → (answer ≡ DiskFault → now ≡ raised 1 between) →
+    (answer ≢ DiskFault → now ≡ between) → now ≡ raised after before
+counted_on (Done reply) failed after before between now counted is fits small once quiet =
+    counted_still failed after before between now counted (omega (arith, is)) fits (quiet (λ fault. absurd cc))
+counted_on DiskFault failed after before between now counted is fits small once quiet =
+    omega (arith, counted, is, fits, once refl, faults_are_added failed before small, faults_are_added after before small)
+counted_on NoMemory failed after before between now counted is fits small once quiet =
+    counted_still failed after before between now counted (omega (arith, is)) fits (quiet (λ fault. absurd cc))
 
 -- and where the answer isn't a fault the count stays
 pub not_counted : (answer : Answer) (failed after : ℕ) → after ≡ min (failed + faults_of answer) (2 ^ 64 - 1) → failed < 2 ^ 64 → answer ≢ DiskFault →
@@ -52,21 +66,30 @@ not_counted (Done reply) failed after is fits none = omega (arith, is, fits)
 not_counted DiskFault failed after is fits none = absurd (none refl)
 not_counted NoMemory failed after is fits none = omega (arith, is, fits)
 
-module _ {D : Type 0} (trace : D → Option (List State)) (faults : D → ℕ) (limit : ℕ) (view desk : DeskState D) (same : view ≡ desk)
-    (journal left : JournalState D) (history : History) (doubt : Bool) (is : IsDesk trace faults limit view journal)
+module _ {D : Type 0} (trace : D → Option (List State)) (moment faults : D → ℕ) (limit : ℕ) (view desk : DeskState D) (same : view ≡ desk)
+    (journal left : JournalState D) (history : History) (doubt : Bool) (is : IsDesk trace moment faults limit view journal)
     (kept : AreRecords trace limit doubt history left) (grown : HasGrown view.history history)
     (surer : certain view.doubt view.history ≤ certain doubt history) (extends : Extends (trace view.disk) (trace left.disk))
     (images : EachSince (trace view.disk) (trace left.disk) (RecoversFront limit history (certain view.doubt view.history))) where
   -- it stands on its journal as before
-  pub asked_stands : (failed : ℕ) → RoseBy failed view.opened.faults (faults left.disk) →
-      IsDesk trace faults limit (record { disk = left.disk; history = history; doubt = doubt; failed = failed; opened = view.opened }) left
-  asked_stands failed counted = record {
+  pub asked_stands : (failed : ℕ) → faults left.disk ≡ raised failed view.opened.faults → moment view.disk ≤ moment left.disk →
+      IsDesk trace moment faults limit
+      (record { disk = left.disk; history = history; doubt = doubt; failed = failed; opened = view.opened }) left
+  asked_stands failed counted later = record {
     records = kept;
     since = since_made limit view.history history view.opened.entries (certain view.doubt view.history) view.opened.moment (trace view.disk)
         (trace left.disk) grown is.least extends is.since images;
+    moment_on = omega (arith, is.moment_on, later);
     counted = counted;
     least = omega (arith, is.least, surer);
+    small = is.small;
   }
+
+  -- what it was made with stays
+  pub asked_found : front_of history desk.opened.entries ≡ front_of desk.history desk.opened.entries
+  asked_found =
+      subst (λ (d : DeskState D). front_of history d.opened.entries ≡ front_of d.history d.opened.entries) same
+      (found_stays view.history history view.opened.entries grown (is_within view.doubt view.history view.opened.entries is.least))
 
   -- each image since stands for a prefix of its history
   pub asked_since : KeepsFront trace limit desk left.disk history

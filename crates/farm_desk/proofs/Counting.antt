@@ -1,11 +1,8 @@
 -- How many answers were faults, beside what the disk counted.
-use Rattle.std.proofs.Common.{ℕ, ◌+◌, ◌≤◌, arith}
-use Rattle.farm_base.specs.Counts.{Rose, RoseBy}
+use Rattle.std.proofs.Common.{◌≡◌, ◌∙◌, ℕ, ◌+◌, sym, ap}
+use Rattle.farm_base.proofs.Rises.{faults_add_up}
+use Rattle.farm_base.specs.Counts.{raised}
 
 -- one fault more is counted
-pub counted_once_more : (failed before between now : ℕ) → RoseBy failed before between → Rose between now → RoseBy (failed + 1) before now
-counted_once_more failed before between now rose more = omega (arith, rose, more)
-
--- a count that doesn't fall stays as high
-pub counted_still : (failed before between now : ℕ) → RoseBy failed before between → between ≤ now → RoseBy failed before now
-counted_still failed before between now rose more = omega (arith, rose, more)
+pub counted_once_more : (failed before between now : ℕ) → between ≡ raised failed before → now ≡ raised 1 between → now ≡ raised (failed + 1) before
+counted_once_more failed before between now counted once = once ∙ ap (raised 1) counted ∙ sym (faults_add_up failed 1 before)

@@ -1,6 +1,6 @@
 -- What holds of the disk that a desk hands out.
 use Rattle.std.proofs.Common.{◌≡◌, ◌∙◌, ℕ, ◌+◌, Bool, true, false, List, Option, Result, Ok, Err, OnErr, OnOk, inl, is_err, refl, sym, ap, subst}
-use Rattle.farm_base.specs.Counts.{Rose, RoseBy, raised}
+use Rattle.farm_base.specs.Counts.{Rose, raised}
 use Rattle.farm_disk.specs.Images.{State}
 use Rattle.farm_disk.specs.Runs.{EachNow, EachSince, Extends}
 use Rattle.farm_history.specs.History.{History}
@@ -28,10 +28,10 @@ module _ {D : Type 0} (trace : D → Option (List State)) (limit : ℕ) (view de
       (subst (λ disk. EachSince (trace view.disk) (trace disk) (RecoversFront limit view.history (certain view.doubt view.history))) (sym is) images)
 
   -- each image since the desk was made stands for a prefix of its history
-  pub finished_since : (faults : D → ℕ) (journal : JournalState D) → IsDesk trace faults limit view journal → Extends (trace view.disk) (trace settled) →
+  pub finished_since : (moment faults : D → ℕ) (journal : JournalState D) → IsDesk trace moment faults limit view journal → Extends (trace view.disk) (trace settled) →
       EachSince (trace view.disk) (trace settled) (RecoversFront limit view.history (certain view.doubt view.history)) →
       EachFrom (trace out) desk.opened.moment (RecoversFront limit desk.history desk.opened.entries)
-  finished_since faults journal stands extends images =
+  finished_since moment faults journal stands extends images =
       subst (λ (d : DeskState D). EachFrom (trace out) d.opened.moment (RecoversFront limit d.history d.opened.entries)) same
       (subst (λ disk. EachFrom (trace disk) view.opened.moment (RecoversFront limit view.history view.opened.entries)) (sym is)
       (since_made limit view.history view.history view.opened.entries (certain view.doubt view.history) view.opened.moment (trace view.disk) (trace settled)
@@ -61,13 +61,18 @@ module _ {D : Type 0} (trace : D → Option (List State)) (limit : ℕ) (view de
   pub finished_once : (faults : D → ℕ) → faults settled ≡ raised 1 (faults view.disk) → faults out ≡ raised 1 (faults desk.disk)
   finished_once faults once = ap faults is ∙ once ∙ ap (λ (d : DeskState D). raised 1 (faults d.disk)) same
 
-  -- where it rose, the disk counted one fault more than were answered
-  pub finished_counted : (faults : D → ℕ) → RoseBy view.failed view.opened.faults (faults view.disk) → Rose (faults view.disk) (faults settled) →
-      RoseBy (desk.failed + 1) desk.opened.faults (faults out)
-  finished_counted faults counted rose =
-      subst (λ (d : DeskState D). RoseBy (d.failed + 1) d.opened.faults (faults out)) same
-      (subst (λ disk. RoseBy (view.failed + 1) view.opened.faults (faults disk)) (sym is)
-      (counted_once_more view.failed view.opened.faults (faults view.disk) (faults settled) counted rose))
+  -- where nothing was in doubt at the end, the disk counted just the faults that were answered
+  pub finished_counted : (faults : D → ℕ) → faults view.disk ≡ raised view.failed view.opened.faults → faults settled ≡ faults view.disk →
+      faults out ≡ raised desk.failed desk.opened.faults
+  finished_counted faults counted quiet =
+      ap faults is ∙ quiet ∙ counted ∙ ap (λ (d : DeskState D). raised d.failed d.opened.faults) same
+
+  -- where the last entry stayed in doubt, one more
+  pub finished_once_more : (faults : D → ℕ) → faults view.disk ≡ raised view.failed view.opened.faults → faults settled ≡ raised 1 (faults view.disk) →
+      faults out ≡ raised (desk.failed + 1) desk.opened.faults
+  finished_once_more faults counted once =
+      ap faults is ∙ counted_once_more view.failed view.opened.faults (faults view.disk) (faults settled) counted once
+      ∙ ap (λ (d : DeskState D). raised (d.failed + 1) d.opened.faults) same
 
 -- what holds at an error holds where there is one
 pub at_err : {T E : Type 0} (result : Result T E) (P : Type 0) → is_err result ≡ true → OnErr result P → P

@@ -1,4 +1,6 @@
 -- The lemmas of `farm_desk`, by topic.
+pub mod Fronts
+pub mod Continuing
 pub mod Made
 pub mod Durable
 pub mod Counting

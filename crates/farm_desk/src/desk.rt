@@ -1,7 +1,7 @@
 //! The desk.
 
 ghost use Rattle.std.specs.Prelude.{◌≡◌, ◌≢◌, ◌+◌, ◌≤◌, false, true};
-ghost use Rattle.farm_base.specs.Counts.{Rose, RoseBy, raised};
+ghost use Rattle.farm_base.specs.Counts.{Rose, raised};
 ghost use Rattle.farm_disk.specs.Runs.{EachNow, Extends};
 ghost use Rattle.farm_history.specs.Desk.{IsWellFormedAsk, desk_answer};
 ghost use Rattle.farm_history.specs.History.{last_place};
@@ -11,7 +11,7 @@ ghost use Rattle.farm_desk.specs.Asking.{KeepsAcknowledged, KeepsFront};
 ghost use Rattle.journaled_book.specs.Histories.{RecoversFront, RecoversNow, certain};
 ghost use Rattle.journaled_book.specs.Moments.{EachFrom};
 ghost use Rattle.journaled_book.specs.Records.{AreRecords};
-ghost use Rattle.farm_desk.specs.States.{IsDurable, IsJustMade};
+ghost use Rattle.farm_desk.specs.States.{IsDurable, IsJustMade, found_of};
 
 use crate::{Answer, Opened};
 use farm_book::Book;
@@ -39,7 +39,7 @@ impl<D: Disk, const LIMIT: usize> Model for Desk<D, LIMIT> {
 
     ghost view = { λ desk. record { disk = desk.records.journal.disk; history = desk.records.book.history; doubt = desk.records.doubt; failed = desk.failed; opened = desk.opened } };
 
-    ghost invariant = { λ desk. IsDesk D.trace D.faults LIMIT
+    ghost invariant = { λ desk. IsDesk D.trace D.moment D.faults LIMIT
         (record { disk = desk.records.journal.disk; history = desk.records.book.history; doubt = desk.records.doubt; failed = desk.failed; opened = desk.opened })
         desk.records.journal };
 }
@@ -52,7 +52,7 @@ impl<D: Disk, const LIMIT: usize> Desk<D, LIMIT> {
         ensures history { result.history ≡ book.entry.history }
         ensures disk { result.disk ≡ journal.disk }
         ensures new { IsJustMade D.moment D.faults result (last_place book.entry.history) }
-        ensures durable { IsDurable D.trace D.faults LIMIT result }
+        ensures durable { IsDurable D.trace D.moment D.faults LIMIT result }
     {
         let stand = journal.stand();
         let opened = Opened {
@@ -79,7 +79,7 @@ impl<D: Disk, const LIMIT: usize> Desk<D, LIMIT> {
     pub fn ask(&mut self, caller: u32, now: i64, ask: &Ask) -> Answer
         requires well_formed { IsWellFormedAsk ask.now }
         ensures answered { IsAnswered self.old.history self.new.history self.new.doubt (desk_answer LIMIT self.old.history caller now ask.now) result }
-        ensures durable { IsDurable D.trace D.faults LIMIT self.new }
+        ensures durable { IsDurable D.trace D.moment D.faults LIMIT self.new }
         ensures since_call { KeepsFront D.trace LIMIT self.old self.new.disk self.new.history }
         ensures acknowledged { KeepsAcknowledged D.trace LIMIT self.old self.new.disk }
         ensures certain { certain self.old.doubt self.old.history ≤ certain self.new.doubt self.new.history }
@@ -97,6 +97,7 @@ impl<D: Disk, const LIMIT: usize> Desk<D, LIMIT> {
         ensures failed { result ≡ Answer.DiskFault → self.new.failed ≡ raised 1 self.old.failed }
         ensures not_failed { result ≢ Answer.DiskFault → self.new.failed ≡ self.old.failed }
         ensures opened { self.new.opened ≡ self.old.opened }
+        ensures found { found_of self.new ≡ found_of self.old }
     {
         let answer = answer_of(self.records.answer(caller, now, ask));
         self.failed = self.failed.saturating_add(answer.faults());
@@ -106,7 +107,7 @@ impl<D: Disk, const LIMIT: usize> Desk<D, LIMIT> {
     /// The book: the site and the entries, the last one maybe in doubt.
     pub fn book(&self) -> &Book<LIMIT>
         ensures history { result.now.history ≡ self.now.history }
-        ensures durable { IsDurable D.trace D.faults LIMIT self.now }
+        ensures durable { IsDurable D.trace D.moment D.faults LIMIT self.now }
     {
         &self.records.book
     }
@@ -114,7 +115,7 @@ impl<D: Disk, const LIMIT: usize> Desk<D, LIMIT> {
     /// How many of its answers were `DiskFault`. The count stands still at the last `u64`.
     pub fn failed(&self) -> u64
         ensures count { result ≡ self.now.failed }
-        ensures durable { IsDurable D.trace D.faults LIMIT self.now }
+        ensures durable { IsDurable D.trace D.moment D.faults LIMIT self.now }
     {
         self.failed
     }
@@ -122,7 +123,7 @@ impl<D: Disk, const LIMIT: usize> Desk<D, LIMIT> {
     /// Whether its last entry is in doubt: a crash leaves it or not.
     pub fn doubt(&self) -> bool
         ensures doubt { result ≡ self.now.doubt }
-        ensures durable { IsDurable D.trace D.faults LIMIT self.now }
+        ensures durable { IsDurable D.trace D.moment D.faults LIMIT self.now }
     {
         self.records.doubt
     }
@@ -148,8 +149,8 @@ impl<D: Disk, const LIMIT: usize> Desk<D, LIMIT> {
         ensures cause { result.1 ≡ true → Rose (D.faults self.disk) (D.faults result.0) }
         ensures quiet { result.1 ≡ false → D.faults result.0 ≡ D.faults self.disk }
         ensures once { result.1 ≡ true → D.faults result.0 ≡ raised 1 (D.faults self.disk) }
-        ensures counted { RoseBy self.failed self.opened.faults (D.faults result.0) }
-        ensures counted_once_more { result.1 ≡ true → RoseBy (self.failed + 1) self.opened.faults (D.faults result.0) }
+        ensures counted { result.1 ≡ false → D.faults result.0 ≡ raised self.failed self.opened.faults }
+        ensures counted_once_more { result.1 ≡ true → D.faults result.0 ≡ raised (self.failed + 1) self.opened.faults }
     {
         let mut records = self.records;
         let doubt = records.settle().is_err();

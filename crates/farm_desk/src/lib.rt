@@ -4,11 +4,14 @@
 //! its answer is given. docs/architecture.md says what a crash leaves at each moment.
 #![tactic(auto)]
 
+mod chronicle;
 mod desk;
+mod found;
 mod making;
 mod opened;
 
 pub use desk::Desk;
 pub use farm_journal::{CreateFault, RecoverFault};
+pub use found::Found;
 pub use journaled_book::Answer;
 pub use opened::Opened;

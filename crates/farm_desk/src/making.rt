@@ -35,7 +35,7 @@ impl<D: Disk, const LIMIT: usize> Desk<D, LIMIT> {
         requires limit { LIMIT ≤ GREATEST_LIMIT }
         ensures made { IfOk result (λ desk. desk.history ≡ empty_history (described site)) }
         ensures new { IfOk result (λ desk. IsJustMade D.moment D.faults desk 0) }
-        ensures durable { IfOk result (λ desk. IsDurable D.trace D.faults LIMIT desk) }
+        ensures durable { IfOk result (λ desk. IsDurable D.trace D.moment D.faults LIMIT desk) }
         ensures was_empty { IfOk result (λ desk. WasEmpty (D.trace disk) (D.trace desk.disk)) }
         ensures refused { IfErr result (λ refusal. IsCreateRefusal D.trace disk refusal.0 refusal.1) }
         ensures crash_safe { IsCrashSafe LIMIT (described site) (D.trace disk) (D.trace (disk_left result)) }
@@ -64,7 +64,7 @@ impl<D: Disk, const LIMIT: usize> Desk<D, LIMIT> {
         requires limit { LIMIT ≤ GREATEST_LIMIT }
         ensures recovered { IfOk result (λ desk. WhereKnown (D.trace desk.disk) (λ states. Recovers LIMIT desk.history (present states).seen)) }
         ensures new { IfOk result (λ desk. IsJustMade D.moment D.faults desk (last_place desk.history)) }
-        ensures durable { IfOk result (λ desk. IsDurable D.trace D.faults LIMIT desk) }
+        ensures durable { IfOk result (λ desk. IsDurable D.trace D.moment D.faults LIMIT desk) }
         ensures refused { IfErr result (λ refusal. WhereKnown (D.trace refusal.0) (λ states. IsRefused LIMIT (present states).seen refusal.1)) }
         ensures wrote_nothing { WritesNothing (D.trace disk) (D.trace (disk_left result)) }
         ensures extends { Extends (D.trace disk) (D.trace (disk_left result)) }

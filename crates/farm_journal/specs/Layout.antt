@@ -28,7 +28,7 @@ open_records (body ∷ bodies) = open_record body ++ open_records bodies
 unfoldable pub counting : List ℕ → List (List ℕ) → List ℕ
 counting header bodies = opening header ++ open_records bodies
 
--- where a record is due there is a gate, and it isn't open
+-- at the expected offset there is a gate, and it isn't open
 abbrev pub IsClosed : List ℕ → Type 0
 IsClosed [] = ⊥
 IsClosed (gate ∷ rest) = gate ≢ 1

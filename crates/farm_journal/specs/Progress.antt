@@ -53,7 +53,7 @@ IsNoJournalOr known (Damaged place) = ⊥
 IsNoJournalOr known DiskFault = Unit {0}
 IsNoJournalOr known NoMemory = Unit {0}
 
--- the gate that is due is ahead and open; or it is there and isn't open
+-- the expected gate is ahead and open; or it exists and isn't open
 abbrev pub IsGate : Option (List State) → ℕ → List ℕ → Bool → Type 0
 IsGate known offset ahead true = BeginsWith (1 ∷ []) ahead
 IsGate known offset ahead false = WhereLeft known offset IsClosed

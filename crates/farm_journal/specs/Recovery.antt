@@ -57,15 +57,15 @@ pub record IsHeaderDamaged (accepts : Accepts) (bytes : List ℕ) : Type 0 where
   pub damaged : (IsWhole (after_signature bytes) → ⊥) ⊎
       (IsWhole (after_signature bytes) × IsFalse (accepts [] (counted_in (after_signature bytes))))
 
--- What is due after these is damaged: there is no gate; or the gate is open, and the record is cut short or its length is over
+-- The record expected after these is damaged: there is no gate; or the gate is open, and the record is cut short or its length is over
 -- the limit, or it is whole and the taker refuses its body.
 abbrev pub IsRecordDamaged : Accepts → List (List ℕ) → List ℕ → Type 0
 IsRecordDamaged accepts taken [] = Unit {0}
 IsRecordDamaged accepts taken (gate ∷ rest) =
     (gate ≡ 1) × ((IsWhole rest → ⊥) ⊎ (IsWhole rest × IsFalse (accepts taken (counted_in rest))))
 
--- A journal is damaged at a place from 1 on: the opening and the records before that place are whole and accepted, and what is
--- due there is damaged.
+-- A journal is damaged at a place from 1 on: the opening and the records before that place are whole and accepted, and the
+-- record expected there is damaged.
 pub record IsDamagedAfter (accepts : Accepts) (header : List ℕ) (bodies : List (List ℕ)) (bytes : List ℕ) : Type 0 where
   pub begins : take (length (counting header bodies)) bytes ≡ counting header bodies
   pub short_header : IsShort header

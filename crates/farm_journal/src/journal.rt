@@ -136,6 +136,13 @@ impl<D: Disk> Journal<D> {
         self.disk.stand()
     }
 
+    /// Its disk, to look at.
+    pub fn disk(&self) -> &D
+        ensures disk { result.now ≡ self.now.disk }
+    {
+        &self.disk
+    }
+
     /// Its disk. Takes no memory and makes no call on it.
     pub fn into_disk(self) -> D
         ensures disk { result ≡ self.disk }

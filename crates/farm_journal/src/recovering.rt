@@ -167,7 +167,7 @@ fn take_body<D: Disk, T: Taker>(
     Ok(true)
 }
 
-// Whether the gate that is due is open; where no gate is there, the journal is damaged at this place.
+// Whether the expected gate is open; if there is no gate, the journal is damaged at this place.
 fn is_open<D: Disk>(window: &mut Window<D>, place: u32) -> Result<bool, RecoverFault>
     requires shows { Shows D.trace window.old }
     requires offset { window.old.offset ≤ 2 ^ 60 }

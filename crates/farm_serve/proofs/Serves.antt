@@ -14,8 +14,8 @@ use Rattle.journaled_book.proofs.Traces.{extends_same}
 use Rattle.journaled_book.specs.Histories.{certain, front_of}
 use Rattle.desk_access.specs.Sole.{SoleState, StandsLater, sole_caller}
 use Rattle.desk_posts.proofs.Following.{follow_within}
-use Rattle.desk_posts.proofs.Fronts.{front_whole}
-use Rattle.desk_posts.proofs.Lists.{all_by, all_by_both}
+use Rattle.desk_access.proofs.Fronts.{front_whole}
+use Rattle.desk_access.proofs.Lists.{all_by, all_by_both}
 use Rattle.desk_posts.proofs.Longer.{IsWithin}
 use Rattle.desk_posts.specs.Conversations.{EndsAs, IsConversation, Served, StopsAtOnce, all_exchanges}
 use Rattle.desk_posts.specs.Courses.{IsServed, exchanges_of}

@@ -15,8 +15,8 @@ use Rattle.line_posts.specs.Rounds.{EndsAs, Round, requests_of, round_requests, 
 use Rattle.line_posts.specs.Runs.{IsLineRun}
 use Rattle.line_posts.specs.States.{LineState, Proceeds}
 use Rattle.line_posts.specs.Submissions.{ask_of}
-use Rattle.line_posts.proofs.Fronts.{continues_on, front_whole, no_shorter}
-use Rattle.line_posts.proofs.Lists.{all_first, all_last}
+use Rattle.desk_access.proofs.Fronts.{continues_on, front_whole, no_shorter}
+use Rattle.desk_access.proofs.Lists.{all_first, all_last}
 use Rattle.line_posts.proofs.Longer.{AreLaws, IsWithin, entered_on, follow_more, follow_on, follow_within, judged_on}
 use Rattle.line_posts.proofs.OneRun.{none_on, stop_on_one}
 

@@ -1,6 +1,4 @@
 -- The lemmas of `line_posts`, by subject.
-pub mod Fronts
-pub mod Lists
 pub mod Longer
 pub mod Requesting
 pub mod Proceeding

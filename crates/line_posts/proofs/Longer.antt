@@ -12,7 +12,7 @@ use Rattle.modbus_poll.specs.declared.raw.Raw.{Raw}
 use Rattle.desk_access.specs.Access.{Continues}
 use Rattle.line_posts.specs.Requests.{AreJudged, Follow, Looked, Request, Submitted, after_of, before_of, entered_in}
 use Rattle.line_posts.specs.Submissions.{IsJudged, Submission}
-use Rattle.line_posts.proofs.Fronts.{entries_of_longer, front_of_longer}
+use Rattle.desk_access.proofs.Fronts.{entries_of_longer, front_of_longer}
 
 -- what an access says of the histories that may follow one that was seen
 pub record AreLaws (may_follow : History → History → Type 0) : Type 0 where

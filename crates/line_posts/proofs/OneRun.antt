@@ -21,8 +21,8 @@ use Rattle.line_posts.specs.States.{LineState, Proceeds}
 use Rattle.line_posts.specs.Steps.{RunsRound, asks_of, counting, pauses_before}
 use Rattle.line_posts.specs.Submissions.{ask_of}
 use Rattle.line_posts.specs.declared.submitting.Submitter.{Submitter}
-use Rattle.line_posts.proofs.Fronts.{entries_of_longer}
-use Rattle.line_posts.proofs.Lists.{all_by_both, all_first, all_last}
+use Rattle.desk_access.proofs.Fronts.{entries_of_longer}
+use Rattle.desk_access.proofs.Lists.{all_by_both, all_first, all_last}
 use Rattle.line_posts.proofs.Longer.{AreLaws, IsWithin, follow_within}
 use Rattle.line_posts.proofs.OnePoll.{none_counted}
 use Rattle.line_posts.proofs.OneRound.{proceeds_from}

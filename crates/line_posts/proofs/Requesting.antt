@@ -20,8 +20,8 @@ use Rattle.desk_access.proofs.Asking.{grown}
 use Rattle.line_posts.specs.Requests.{AreJudged, Follow, IsAcknowledged, IsReply, Looked, Request, Requests, Submitted, entered_by, entered_in, faults_in, submitted_in}
 use Rattle.line_posts.specs.Steps.{AsksOnce}
 use Rattle.line_posts.specs.Submissions.{IsJudged, Submission}
-use Rattle.line_posts.proofs.Fronts.{continues_on, front_whole, no_shorter}
-use Rattle.line_posts.proofs.Lists.{all_by}
+use Rattle.desk_access.proofs.Fronts.{continues_on, front_whole, no_shorter}
+use Rattle.desk_access.proofs.Lists.{all_by}
 use Rattle.line_posts.proofs.Longer.{AreLaws, entered_on, follow_more, follow_on, follow_within}
 
 -- the faults of requests and then of others are their sum

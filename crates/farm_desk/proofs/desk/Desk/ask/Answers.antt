@@ -3,22 +3,27 @@ use Rattle.std.proofs.Common.{◌≡◌, ◌∙◌, ◌+◌, ◌-◌, ◌^◌, m
 use Rattle.std.proofs.lemmas.Int.{to_z-of_z}
 use Rattle.farm_base.specs.Counts.{Rose, raised}
 use Rattle.farm_history.specs.Desk.{desk_answer}
+use Rattle.farm_history.specs.History.{History}
+use Rattle.farm_desk.specs.declared.opened.Opened.{Opened}
+use Rattle.journaled_book.specs.Histories.{front_of}
 use Rattle.journaled_book.specs.Replies.{IsAnswered, answer_of}
 use Rattle.farm_desk.specs.States.{DeskState}
 use Rattle.journaled_book.specs.declared.answer.Answer.{Answer}
 use Rattle.journaled_book.specs.declared.answer.Answer.TheVariants.{NoMemory}
-use Rattle.farm_desk.proofs.Asked.{asked_acknowledged, asked_extends, asked_since, asked_stands, cause_of, counted_on, lacking_of, not_counted, quiet_of}
+use Rattle.farm_desk.proofs.Asked.{asked_acknowledged, asked_extends, asked_found, asked_since, asked_stands, cause_of, counted_on, lacking_of, not_counted, quiet_of}
 use Rattle.farm_desk.proofs.Durable.{durable}
 use Rattle.farm_desk.proofs.desk.Desk.ask.Goals as goal
 
 pub invariant_of-self : goal.invariant_of-self
 invariant_of-self g c =
-    asked_stands g.D.Disk.trace g.D.Disk.faults g.row.LIMIT _ c.args.self.now c.self.view_is c.self.inside.records.journal c.answer.new.self.journal
+    asked_stands g.D.Disk.trace g.D.Disk.moment g.D.Disk.faults g.row.LIMIT _ c.args.self.now c.self.view_is c.self.inside.records.journal c.answer.new.self.journal
     c.answer.new.self.book.history c.answer.new.self.doubt c.self.invariant c.answer.ensures.kept c.answer.ensures.grows c.answer.ensures.certain
     c.answer.ensures.extends c.answer.ensures.images c.saturating_add-self-inside.result
     (counted_on c.answer_of-answer.result c.self.inside.failed c.saturating_add-self-inside.result _ _ _ c.self.invariant.counted
     (c.saturating_add-self-inside.ensures ∙ ap (λ n. min (c.self.inside.failed + n) (2 ^ 64 - 1)) c.faults.ensures.faults)
-    (cause_of c.answer.result c.answer_of-answer.result _ c.answer_of-answer.ensures.answer c.answer.ensures.cause) c.answer.ensures.never_falls)
+    c.self.ranges.1.1.0.1 c.self.invariant.small
+    (cause_of c.answer.result c.answer_of-answer.result _ c.answer_of-answer.ensures.answer c.answer.ensures.once)
+    (quiet_of c.answer.result c.answer_of-answer.result _ c.answer_of-answer.ensures.answer c.answer.ensures.quiet)) c.answer.ensures.moment
 
 pub returns-clause-answered : goal.returns-clause-answered
 returns-clause-answered g c =
@@ -32,23 +37,25 @@ returns-clause-answered g c =
 
 pub returns-clause-durable : goal.returns-clause-durable
 returns-clause-durable g c =
-    durable g.D.Disk.trace g.D.Disk.faults g.row.LIMIT _ c.answer.new.self.journal refl
-    (asked_stands g.D.Disk.trace g.D.Disk.faults g.row.LIMIT _ c.args.self.now c.self.view_is c.self.inside.records.journal c.answer.new.self.journal
+    durable g.D.Disk.trace g.D.Disk.moment g.D.Disk.faults g.row.LIMIT _ c.answer.new.self.journal refl
+    (asked_stands g.D.Disk.trace g.D.Disk.moment g.D.Disk.faults g.row.LIMIT _ c.args.self.now c.self.view_is c.self.inside.records.journal c.answer.new.self.journal
     c.answer.new.self.book.history c.answer.new.self.doubt c.self.invariant c.answer.ensures.kept c.answer.ensures.grows c.answer.ensures.certain
     c.answer.ensures.extends c.answer.ensures.images c.saturating_add-self-inside.result
     (counted_on c.answer_of-answer.result c.self.inside.failed c.saturating_add-self-inside.result _ _ _ c.self.invariant.counted
     (c.saturating_add-self-inside.ensures ∙ ap (λ n. min (c.self.inside.failed + n) (2 ^ 64 - 1)) c.faults.ensures.faults)
-    (cause_of c.answer.result c.answer_of-answer.result _ c.answer_of-answer.ensures.answer c.answer.ensures.cause) c.answer.ensures.never_falls))
+    c.self.ranges.1.1.0.1 c.self.invariant.small
+    (cause_of c.answer.result c.answer_of-answer.result _ c.answer_of-answer.ensures.answer c.answer.ensures.once)
+    (quiet_of c.answer.result c.answer_of-answer.result _ c.answer_of-answer.ensures.answer c.answer.ensures.quiet)) c.answer.ensures.moment)
 
 pub returns-clause-since_call : goal.returns-clause-since_call
 returns-clause-since_call g c =
-    asked_since g.D.Disk.trace g.D.Disk.faults g.row.LIMIT _ c.args.self.now c.self.view_is c.self.inside.records.journal c.answer.new.self.journal
+    asked_since g.D.Disk.trace g.D.Disk.moment g.D.Disk.faults g.row.LIMIT _ c.args.self.now c.self.view_is c.self.inside.records.journal c.answer.new.self.journal
     c.answer.new.self.book.history c.answer.new.self.doubt c.self.invariant c.answer.ensures.kept c.answer.ensures.grows c.answer.ensures.certain
     c.answer.ensures.extends c.answer.ensures.images
 
 pub returns-clause-acknowledged : goal.returns-clause-acknowledged
 returns-clause-acknowledged g c =
-    asked_acknowledged g.D.Disk.trace g.D.Disk.faults g.row.LIMIT _ c.args.self.now c.self.view_is c.self.inside.records.journal c.answer.new.self.journal
+    asked_acknowledged g.D.Disk.trace g.D.Disk.moment g.D.Disk.faults g.row.LIMIT _ c.args.self.now c.self.view_is c.self.inside.records.journal c.answer.new.self.journal
     c.answer.new.self.book.history c.answer.new.self.doubt c.self.invariant c.answer.ensures.kept c.answer.ensures.grows c.answer.ensures.certain
     c.answer.ensures.extends c.answer.ensures.images
 
@@ -66,9 +73,19 @@ returns-clause-unwritten g c =
     subst (λ (desk : DeskState _). desk.doubt ≡ false → c.answer_of-answer.result ≡ NoMemory → c.answer.new.self.journal.disk ≡ desk.disk) c.self.view_is
     (λ sure. lacking_of c.answer.result c.answer_of-answer.result _ c.answer_of-answer.ensures.answer (c.answer.ensures.unwritten sure))
 
+pub returns-clause-found : goal.returns-clause-found
+returns-clause-found g c =
+    let history =
+    asked_found g.D.Disk.trace g.D.Disk.moment g.D.Disk.faults g.row.LIMIT _ c.args.self.now c.self.view_is c.self.inside.records.journal c.answer.new.self.journal
+    c.answer.new.self.book.history c.answer.new.self.doubt c.self.invariant c.answer.ensures.kept c.answer.ensures.grows c.answer.ensures.certain
+    c.answer.ensures.extends c.answer.ensures.images in
+    let opened : c.self.inside.opened ≡ c.args.self.now.opened = ap (λ (desk : DeskState _). desk.opened) c.self.view_is in
+    ap (λ (stand : Opened). record { history = front_of c.answer.new.self.book.history stand.entries; opened = stand }) opened
+    ∙ ap (λ (those : History). record { history = those; opened = c.args.self.now.opened }) history
+
 pub returns-clause-extends : goal.returns-clause-extends
 returns-clause-extends g c =
-    asked_extends g.D.Disk.trace g.D.Disk.faults g.row.LIMIT _ c.args.self.now c.self.view_is c.self.inside.records.journal c.answer.new.self.journal
+    asked_extends g.D.Disk.trace g.D.Disk.moment g.D.Disk.faults g.row.LIMIT _ c.args.self.now c.self.view_is c.self.inside.records.journal c.answer.new.self.journal
     c.answer.new.self.book.history c.answer.new.self.doubt c.self.invariant c.answer.ensures.kept c.answer.ensures.grows c.answer.ensures.certain
     c.answer.ensures.extends c.answer.ensures.images
 

@@ -6,5 +6,5 @@ use Rattle.farm_desk.proofs.desk.Desk.doubt.Goals as goal
 
 pub returns-clause-durable : goal.returns-clause-durable
 returns-clause-durable g c =
-    subst (λ desk. IsDurable g.D.Disk.trace g.D.Disk.faults g.row.LIMIT desk) c.self.view_is
-    (durable g.D.Disk.trace g.D.Disk.faults g.row.LIMIT _ c.self.inside.records.journal refl c.self.invariant)
+    subst (λ desk. IsDurable g.D.Disk.trace g.D.Disk.moment g.D.Disk.faults g.row.LIMIT desk) c.self.view_is
+    (durable g.D.Disk.trace g.D.Disk.moment g.D.Disk.faults g.row.LIMIT _ c.self.inside.records.journal refl c.self.invariant)

@@ -1,5 +1,5 @@
 -- Answers to the open goals of `of_records`.
-use Rattle.std.proofs.Common.{◌≡◌, length, ap, arith}
+use Rattle.std.proofs.Common.{◌≡◌, length, sym, ap, arith, rules}
 use Rattle.farm_desk.proofs.Made.{images_from, images_now}
 use Rattle.farm_desk.proofs.desk.Desk.of_records.Goals as goal
 
@@ -10,8 +10,10 @@ invariant_of-result g c =
       records = c.requires.kept;
       since = images_from g.D.Disk.trace g.row.LIMIT c.args.book.history c.args.journal c.stand-stand.result.moment (length c.entries.result.now)
           c.requires.kept c.stand-stand.ensures.states (omega arith);
-      counted = omega (arith, c.stand-stand.ensures.faults);
+      moment_on = omega (arith, c.stand-stand.ensures.moment);
+      counted = sym c.stand-stand.ensures.faults;
       least = omega arith;
+      small = search rules;
     }
 
 pub returns-clause-durable : goal.returns-clause-durable
@@ -21,5 +23,7 @@ returns-clause-durable g c =
       since = images_from g.D.Disk.trace g.row.LIMIT c.args.book.history c.args.journal c.stand-stand.result.moment (length c.entries.result.now)
           c.requires.kept c.stand-stand.ensures.states (omega arith);
       now = images_now g.D.Disk.trace g.row.LIMIT c.args.book.history c.args.journal c.requires.kept;
-      counted = omega (arith, c.stand-stand.ensures.faults);
+      begins = omega arith;
+      moment_on = omega (arith, c.stand-stand.ensures.moment);
+      counted = sym c.stand-stand.ensures.faults;
     }

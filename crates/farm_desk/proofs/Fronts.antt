@@ -4,7 +4,7 @@ use Rattle.std.proofs.lemmas.List.{take-take, take_all, length-take}
 use Rattle.farm_history.specs.History.{History, last_place}
 use Rattle.farm_history.specs.declared.entry.Entry.{Entry}
 use Rattle.journaled_book.specs.Histories.{front_of}
-use Rattle.desk_access.specs.Access.{Continues}
+use Rattle.farm_desk.specs.States.{Continues}
 
 -- a history with these entries in place of its own
 abbrev with_entries : History → List Entry → History
