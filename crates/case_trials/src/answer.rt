@@ -15,14 +15,14 @@ use farm_serve::Post;
 use std::alloc::Global;
 use std::sync::Wait;
 
-/// What a run ends with: its status, what it printed, the bytes of its disk where the case gives them, and what its listeners have.
+/// What a run ends with: its status, what it printed, the bytes of its disk if the case gives them, and what its listeners have.
 #[derive(Debug, Drop)]
 pub struct Answer {
     /// The status that the program ends with.
     pub status: u64,
     /// What it printed.
     pub output: Vec<u8>,
-    /// What reads of its disk give, where the case looks at it.
+    /// What reads of its disk give, if the case looks at it.
     pub disk: Vec<u8>,
     /// What its listeners have, in their order.
     pub listeners: Vec<Visited>,
@@ -60,7 +60,7 @@ impl Ended {
         })
     }
 
-    /// The answer, with the bytes that reads of the disk give where they are looked at.
+    /// The answer, with the bytes that reads of the disk give, if they are looked at.
     pub fn answer(self, alloc: Global, is_disk_looked_at: bool) -> Result<Answer, TrialFault> {
         if !is_disk_looked_at {
             return Ok(self.answer);

@@ -3,7 +3,7 @@
 use crate::visited::Visited;
 use std::fmt;
 
-/// Writes the first line in which two outputs differ, and nothing where they are the same.
+/// Writes the first line in which two outputs differ, and nothing if they are the same.
 pub fn write_output<W: fmt::Write>(
     wanted: &[u8],
     came: &[u8],
@@ -28,7 +28,7 @@ fn write_line<W: fmt::Write>(wanted: &[u8], came: &[u8], f: &mut fmt::Formatter<
     )
 }
 
-/// Writes how many bytes two disks have, and the first offset at which they differ; nothing where they are the same.
+/// Writes how many bytes two disks have, and the first offset at which they differ; nothing if they are the same.
 pub fn write_disk<W: fmt::Write>(
     wanted: &[u8],
     came: &[u8],
@@ -113,7 +113,7 @@ fn write_connections<W: fmt::Write>(
     Ok(())
 }
 
-// How many lines at the front of two texts are the same.
+// How many lines two texts have in common, from the first on.
 fn same_lines(one: &[u8], other: &[u8]) -> usize {
     let lines = one.split_inclusive(|byte| *byte == b'\n');
     let others = other.split_inclusive(|byte| *byte == b'\n');
@@ -123,7 +123,7 @@ fn same_lines(one: &[u8], other: &[u8]) -> usize {
         .count()
 }
 
-// The line of a text with a number of lines before it, with its end; nothing where it has no such line.
+// The line of a text with a number of lines before it, with its end; nothing if it has no such line.
 fn line(text: &[u8], before: usize) -> &[u8] {
     text.split_inclusive(|byte| *byte == b'\n')
         .nth(before)

@@ -106,7 +106,7 @@ fn disk_after_run<R: Wait, F: Folder>(
     Trial::disk_after(stage, data, number, run, disk)
 }
 
-// What is left of a disk: what a crash leaves where there is one, and else what reads give.
+// What is left of a disk: what a crash leaves if there was one, and else what reads give.
 fn left(alloc: Global, disk: MemDisk, image: &Option<Image<'_>>) -> Result<Vec<u8>, TrialFault> {
     match image {
         Some(image) => crash_image(alloc, &disk, image),
@@ -136,7 +136,7 @@ fn fill_of(alloc: Global, word: &str) -> Result<Fill, TrialFault> {
     }
 }
 
-// The front of bytes of this length, or all of them.
+// The first bytes, this many, or all of them.
 fn front(bytes: Vec<u8>, cut: Option<u64>) -> Result<Vec<u8>, TrialFault>
     ensures front { IfOk result (λ kept. (size : ℕ) → cut ≡ Some size → kept.items ≡ take size bytes.items) }
 {

@@ -37,7 +37,7 @@ impl Trial {
         Ok(Trial { wanted, came })
     }
 
-    /// The disk that a run on a disk before a case leaves. It is refused by its number where it differs.
+    /// The disk that a run on a disk before a case leaves. It is refused by its number if it differs.
     pub fn disk_after<R: Wait, F: Folder>(
         stage: &Stage<'_, R>,
         data: &mut F,

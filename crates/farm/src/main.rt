@@ -59,7 +59,7 @@ fn run_arguments<W: Wait>(rt: &HostRuntime, waiting: &W, words: &[String]) -> u8
     .status
 }
 
-// The folder and the disk that the arguments name, each of an empty path where they name none. `None` is out of memory alone.
+// The folder and the disk that the arguments name, each of an empty path if they name none. `None` is out of memory alone.
 fn named_by<'a>(
     rt: &'a HostRuntime,
     words: &[String],

@@ -24,7 +24,7 @@ pub(crate) struct Meant {
     pub stops: bool,
 }
 
-/// The answer to a line at a number of the clock; the line is `None` where it is too long.
+/// The answer to a line at a number of the clock; the line is `None` if it is too long.
 pub(crate) fn answer<D: Disk, const LIMIT: usize>(
     alloc: Global,
     desk: &mut Desk<D, LIMIT>,
@@ -64,7 +64,7 @@ fn status(status: u16) -> Meant
     }
 }
 
-// The answer to a request. It ends the batch where it is a Stop that was entered.
+// The answer to a request. It ends the batch if it is a Stop that was entered.
 fn answer_ask<D: Disk, const LIMIT: usize>(desk: &mut Desk<D, LIMIT>, now: i64, ask: &Ask) -> Meant
     requires well_formed { IsWellFormedAsk ask.now }
     ensures meant { (line : List ℕ) → ¬ (AsksNothing line) →
@@ -81,7 +81,7 @@ fn answer_ask<D: Disk, const LIMIT: usize>(desk: &mut Desk<D, LIMIT>, now: i64, 
     meant_by(answer, stops)
 }
 
-// The answer to a line where the desk answered so; a reply ends the batch or not.
+// The answer to a line that the desk answered so; a reply ends the batch or not.
 fn meant_by(answer: Answer, stops: bool) -> Meant
     ensures page { result.page ≡ page_of answer }
     ensures stops { result.stops ≡ ends_with answer stops }

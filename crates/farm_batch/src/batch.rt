@@ -37,8 +37,8 @@ pub enum BatchEnd {
 /// Asks a desk the lines of a source, as caller 0, and puts the answer of each, a JSON object and a line feed, before it reads on.
 ///
 /// A line of more than 65,536 bytes is answered by 413 and one that is no request by 400, neither of them asked; 503 stands for an
-/// answer that a fault of the disk prevented, and 507 for one for which there was no memory. The batch ends where the source does, after
-/// a Stop that was entered and answered, at line 1,000,001 or the line of byte 1,073,741,825, and where a port fails; a fault of the disk
+/// answer that a fault of the disk prevented, and 507 for one that memory ran out for. The batch ends with the source, after
+/// a Stop that was entered and answered, at line 1,000,001 or the line of byte 1,073,741,825, and if a port fails; a fault of the disk
 /// doesn't end it. `NoMemory` comes before the first byte is taken.
 pub fn answer_lines<D: Disk, const LIMIT: usize, S: Source, K: Sink, C: Clock>(
     alloc: Global,
@@ -80,7 +80,7 @@ pub fn answer_lines<D: Disk, const LIMIT: usize, S: Source, K: Sink, C: Clock>(
     })
 }
 
-// Answers one line, `None` where it is too long, and says how the batch ends with it, or `None` where it goes on.
+// Answers one line, `None` if it is too long, and says how the batch ends with it, or `None` if it continues.
 fn answer_line<D: Disk, const LIMIT: usize, K: Sink, C: Clock>(
     alloc: Global,
     desk: &mut Desk<D, LIMIT>,
@@ -104,7 +104,7 @@ fn answer_line<D: Disk, const LIMIT: usize, K: Sink, C: Clock>(
     }
 }
 
-// Puts an answer and a line feed, made in `text`, and says whether it is that answer: where there is no memory for it, out of memory
+// Puts an answer and a line feed, made in `text`, and says whether it is that answer: without memory for it, out of memory
 // is put in its place. A fault of the disk takes no memory, so that out of memory never hides one.
 fn put_page<K: Sink>(
     alloc: Global,

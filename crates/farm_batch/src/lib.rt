@@ -1,7 +1,7 @@
 //! Batches: lines of requests, each answered before the next one is read.
 //!
 //! A batch asks the lines of a source one after another, as caller 0, and puts each answer whole before it reads on. It ends at the
-//! end of the source, after a Stop that was accepted and answered, at a line too many, or where a port fails.
+//! end of the source, after a Stop that was accepted and answered, at a line too many, or if a port fails.
 #![tactic(auto)]
 
 mod answers;

@@ -130,7 +130,7 @@ fn run_cases<R: Wait + Print, F: Folder>(
     }
 }
 
-// Runs a case, prints it where it differs or can't be run, and says whether it agrees.
+// Runs a case, prints it if it differs or can't be run, and says whether it agrees.
 fn run_case<R: Wait + Print, F: Folder>(
     stage: &Stage<'_, R>,
     data: &mut F,
@@ -145,7 +145,7 @@ fn run_case<R: Wait + Print, F: Folder>(
     Ok(false)
 }
 
-// Runs a case that has its form, prints it where it differs or can't be run, and says whether it agrees.
+// Runs a case that has its form, prints it if it differs or can't be run, and says whether it agrees.
 fn run_trial<R: Wait + Print, F: Folder>(
     stage: &Stage<'_, R>,
     data: &mut F,

@@ -20,7 +20,7 @@ use Rattle.run_reports.specs.Texts.{disk_fault_line, no_memory_line, port_fault_
 use Rattle.farm_run.specs.Runs.{given}
 use Rattle.farm_run.specs.Texts.{too_long_text}
 
--- The answers of lines were put, whole but for the last one where a put failed, and then a prefix of each of these texts; where no put
+-- The answers of lines were put, whole but for the last one if a put failed, and then a prefix of each of these texts; if no put
 -- failed, the answers and then the last text, both whole.
 pub record SaysAfter (output : Output) (steps : List Step) (middle : List (List ℕ)) (last : List ℕ) : Type 0 where
   pub answers : List ℕ
@@ -69,7 +69,7 @@ pub record DeskBatch (may_give : ℤ → Type 0) (found : History) (moment : ℕ
   pub done : status ≡ 0 → AskedAll in_hand to steps × Adds output.old output.new (answers_text steps) × (doubt ≡ false)
   -- the next line is one too many, or holds a byte too many
   pub refused : status ≡ 4 → GoesOn steps × IsTooMuch (lines_of steps) in_hand × SaysAfter output steps [] (too_long_text (length steps + 1))
-  -- an entry is in doubt; where no port failed, every line was asked all the same
+  -- an entry is in doubt; if no port failed, every line was asked all the same
   pub disk_failed : status ≡ 5 → (doubt ≡ true) × SaysAfter output steps [] disk_fault_line
   pub asked_all : status ≡ 5 → ¬ (HasRisen source) → ¬ (HasRisen output.count) → AskedAll in_hand to steps
   pub faulted : status ≡ 6 → HasRisen source ⊎ HasRisen output.count
@@ -79,9 +79,9 @@ pub record DeskBatch (may_give : ℤ → Type 0) (found : History) (moment : ℕ
   pub memory_said : status ≡ 7 → SaysAfter output steps [] no_memory_line
   -- there was no memory before the first line, or for the line of a line too many
   pub memory_lacked : status ≡ 7 → IsUnbegun from to taken steps ⊎ (GoesOn steps × IsTooMuch (lines_of steps) in_hand)
-  -- a greater status comes with an entry in doubt only where there was no memory for the line of a line too many
+  -- a greater status comes with an entry in doubt only without memory for the line of a line too many
   pub least : 5 < status → (doubt ≡ false) ⊎ IsTooMuch (lines_of steps) in_hand
-  -- where nothing failed and there was memory, what was put depends on the history and the input alone
+  -- if nothing failed and there was memory, what was put depends on the history and the input alone
   pub function : status < 5 → ¬ (HasRisen output.count) → WereAnswered steps → WhereKnown (given from to) (λ text.
       Adds output.old output.new (printed (outcome book_limit found text)))
 

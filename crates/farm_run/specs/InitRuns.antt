@@ -62,7 +62,7 @@ pub record SiteInit (site : Described) (old new : Option (List State)) (disk : C
   pub made : status ≡ 0 → WasEmpty old new × EachNow new (Recovers book_limit (empty_history site)) × Adds output.old output.new []
   pub not_empty : status ≡ 3 → HasBytes old new × Says output [] [] not_empty_line
   pub disk_failed : status ≡ 5 → HasRisen disk × Says output [] [] disk_fault_line
-  -- there was no memory, which comes before the disk's first call; it couldn't be put where the output failed
+  -- there was no memory, which comes before the disk's first call; it couldn't be put if the output failed
   pub faulted : status ≡ 6 → HasRisen output.count × Says output [] (no_memory_line ∷ []) port_fault_line
   pub memory_only : status ≡ 7 → IsQuiet output.count × Says output [] [] no_memory_line
   pub disk_quiet : status ≢ 5 → IsQuiet disk

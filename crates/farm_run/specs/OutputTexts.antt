@@ -23,7 +23,7 @@ calc_text bytes = text_of_figures (answer_of bytes)
 abbrev pub calc_of : List ℕ → Option (Result (List ℕ) Refused)
 calc_of bytes = Some (calc_text bytes)
 
--- the text of a site that was described, or the fault; neither where a file isn't there
+-- the text of a site that was described, or the fault; neither if a file is missing
 abbrev pub text_or_fault : (Described → List ℕ) → Result Described Refusal → Option (Result (List ℕ) SiteFault)
 text_or_fault text (Ok site) = Some (Ok (text site))
 text_or_fault text (Err (Faulty fault)) = Some (Err fault)

@@ -50,13 +50,13 @@ uses_listeners (Some Table) = false
 uses_listeners (Some Batch) = false
 uses_listeners (Some (Serve options)) = true
 
--- what was left of an input as the run began, where it is still known at the end
+-- what was left of an input as the run began, if it is still known at the end
 abbrev pub given : Option Stream → Option Stream → Option (List ℕ)
 given (Some old) (Some new) = Some old.left
 given old new = None
 
--- What an input has: a text to put, or a reason to refuse it; neither where the input can't be had.
--- This is the text of what an input has; no bytes where it has none.
+-- What an input has: a text to put, or a reason to refuse it; neither if the input can't be had.
+-- This is the text of what an input has; no bytes if it has none.
 abbrev pub text_of : {Why : Type 0} → Option (Result (List ℕ) Why) → List ℕ
 text_of (Some (Ok text)) = text
 text_of (Some (Err why)) = []

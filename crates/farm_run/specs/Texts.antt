@@ -10,7 +10,7 @@ use Rattle.site_keys.specs.declared.fault.SiteFault.{SiteFault}
 abbrev pub usage_line : List ℕ
 usage_line = codes "usage: farm calc|init|table|batch|serve|report|drill\n"
 
--- 3: the disk has bytes where a journal is to be made
+-- 3: the disk has bytes, and a journal was to be made on it
 abbrev pub not_empty_line : List ℕ
 not_empty_line = codes "journal not empty\n"
 

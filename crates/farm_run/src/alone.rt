@@ -33,20 +33,19 @@ use std::alloc::Global;
 /// Runs the command of the arguments, which isn't `serve`, and answers the status that the program ends with, and the disk.
 ///
 /// - `calc` reads observed volumes, or levels with a capacity table and factors, and prints ten lines of figures. Its statuses
-///   are 0 where they were printed whole, 4 where the input was refused, 6 where a port failed and 7 where there was no memory.
-/// - `table` reads the site of the folder and prints the capacity table of each tank. Its statuses are 0 where they were printed
-///   whole, 2 where the folder describes no site, 6 where the folder or the output failed and 7 where there was no memory.
-/// - `init` reads the site of the folder and makes its journal on an empty disk. Its statuses are 0 where it was made, 2 where the folder
-///   describes no site, 3 where the disk isn't empty, 5 where it failed, 6 where the folder or the output failed and 7 where there was no
-///   memory.
+///   are 0 if they were printed whole, 4 if the input was refused, 6 if a port failed and 7 without memory.
+/// - `table` reads the site of the folder and prints the capacity table of each tank. Its statuses are 0 if they were printed
+///   whole, 2 if the folder describes no site, 6 if the folder or the output failed and 7 without memory.
+/// - `init` reads the site of the folder and makes its journal on an empty disk. Its statuses are 0 if it was made, 2 if the folder
+///   describes no site, 3 if the disk isn't empty, 5 if it failed, 6 if the folder or the output failed and 7 without memory.
 /// - `batch` recovers the desk of the journal on the disk and asks it the lines of the input, one after another, each answered by a line
-///   of its own. Its statuses are 0 where every line was answered, or a Stop was entered, and nothing is in doubt; 3 where the disk has no
-///   whole journal; 4 at a line too many; 5 where the disk failed before the desk was recovered, or an entry is in doubt at the end; 6 where
-///   a port failed and 7 where there was no memory.
+///   of its own. Its statuses are 0 if every line was answered, or a Stop was entered, and nothing is in doubt; 3 if the disk has no
+///   whole journal; 4 at a line too many; 5 if the disk failed before the desk was recovered, or an entry is in doubt at the end; 6 if
+///   a port failed and 7 without memory.
 /// - Arguments that are no command print the usage line, and end with 1.
 ///
 /// It returns, whatever the words are, and takes no runtime: `run` calls it for every command but `serve`. The least status that holds is
-/// answered, but in one case: where there is no memory for the line of a line too many, `batch` ends with 7 (or 6) also with an entry in
+/// answered, but in one case: without memory for the line of a line too many, `batch` ends with 7 (or 6) also with an entry in
 /// doubt. A command makes no call on a port or a disk that it doesn't use. A text follows what was printed before it. The disk is always
 /// handed back.
 pub fn run_alone<S: Source, K: Sink, F: Folder, D: Disk, C: Clock>(
@@ -72,7 +71,7 @@ pub fn run_alone<S: Source, K: Sink, F: Folder, D: Disk, C: Clock>(
         BatchRun D.trace D.moment D.faults (C.may_give clock.now) disk left (S.stream input.old) (S.stream input.new)
         (count_of S.faults input.old input.new) (output_of K.held K.faults output.old output.new) result.status) }
 
-    // Over a folder that lists no failure and an output that didn't fail, `table` ends with 6 only where a file is missing.
+    // Over a folder that lists no failure and an output that didn't fail, `table` ends with 6 only if a file is missing.
     ensures table_missing { command_of (map string_bytes words.now) ≡ Some Subcommand.Table → F.lists_no_failure folder.old →
         StopsAtMissing (F.files folder.new) (output_of K.held K.faults output.old output.new) result.status }
 

@@ -80,8 +80,8 @@ fn ask_lines<S: Source, K: Sink, D: Disk, C: Clock>(
     }
 }
 
-// Reports how a batch ended, with an entry in doubt or none. The least status that holds is answered, but in one case: where there is no
-// memory for the line of a line too many, the status is 7 (or 6) also with an entry in doubt.
+// Reports how a batch ended, with an entry in doubt or none. The least status that holds is answered, but in one case: without memory
+// for the line of a line too many, the status is 7 (or 6) also with an entry in doubt.
 fn report_end<K: Sink>(
     alloc: Global,
     end: Result<BatchEnd, NoMemory>,

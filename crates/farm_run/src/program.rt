@@ -25,9 +25,9 @@ use std::sync::Wait;
 /// Runs the command of the arguments, the words after the program's name, and answers the status that the program ends with, and the disk.
 ///
 /// - `serve` recovers the desk of the journal on the disk, and the first of the posts serves it on the port of the options until a Stop, the
-///   listener's end or its failure. Then the summary is printed. Its statuses are 0 where a Stop or the end ended it, nothing is in doubt and
-///   the summary was printed whole; 3 where the disk has no whole journal; 5 where the disk failed before the desk was recovered, or an entry
-///   is in doubt at the end; 6 where the listener or the output failed and 7 where there was no memory. It may wait, and need not return.
+///   listener's end or its failure. Then the summary is printed. Its statuses are 0 if a Stop or the end ended it, nothing is in doubt and
+///   the summary was printed whole; 3 if the disk has no whole journal; 5 if the disk failed before the desk was recovered, or an entry
+///   is in doubt at the end; 6 if the listener or the output failed and 7 without memory. It may wait, and need not return.
 /// - Every other command, and arguments that are none, are run as by `run_alone`.
 ///
 /// The least status that holds is answered, but for the two cases in which there is no memory for a last text: `serve`'s summary, then 7, and
@@ -60,7 +60,7 @@ pub fn run<R: Wait, S: Source, K: Sink, F: Folder, D: Disk, L: Listener, C: Cloc
         ServeRun D.trace D.moment D.faults L.events L.faults (C.may_give clock.now) options.port desks.old desks.new disk left
         (output_of K.held K.faults output.old output.new) result.status) }
 
-    // Over a folder that lists no failure and an output that didn't fail, `table` ends with 6 only where a file is missing.
+    // Over a folder that lists no failure and an output that didn't fail, `table` ends with 6 only if a file is missing.
     ensures table_missing { command_of (map string_bytes words.now) ≡ Some Subcommand.Table → F.lists_no_failure folder.old →
         StopsAtMissing (F.files folder.new) (output_of K.held K.faults output.old output.new) result.status }
 

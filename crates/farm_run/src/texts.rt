@@ -12,7 +12,7 @@ use text_pieces::{Piece, append};
 
 /// The arguments are no command.
 pub const USAGE_LINE: &[u8] = b"usage: farm calc|init|table|batch|serve|report|drill\n";
-/// The disk has bytes where a journal is to be made.
+/// The disk has bytes, and a journal was to be made on it.
 pub const NOT_EMPTY_LINE: &[u8] = b"journal not empty\n";
 
 /// The line of a site that its folder doesn't describe.

@@ -20,5 +20,5 @@ pub record LeavesHistory (found history : History) (faulted : ℕ) (doubt : Bool
   pub since : EachFrom trace moment (RecoversFront book_limit history (last_place found))
   -- each image now stands for the history, or where its last entry is in doubt for that or for the history without it
   pub now : EachNow trace (RecoversNow book_limit doubt history)
-  -- the disk counted just as many faults as were answered, and one more where an entry is in doubt
+  -- the disk counted just as many faults as were answered, and one more if an entry is in doubt
   pub counted : disk.now ≡ raised (faulted + faults_at_end doubt) disk.before

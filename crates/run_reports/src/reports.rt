@@ -15,7 +15,7 @@ use std::alloc::Global;
 
 /// What was asked for was done, and printed whole.
 pub const DONE: u8 = 0;
-/// The disk has bytes where a journal is to be made, or no whole journal.
+/// The disk has bytes, and a journal was to be made on it, or it has no whole journal.
 pub const JOURNAL_REFUSED: u8 = 3;
 /// The disk failed.
 pub const DISK_FAILED: u8 = 5;
@@ -45,7 +45,7 @@ pub fn say<K: Sink>(text: &[u8], status: u8, output: &mut K) -> u8
     status
 }
 
-/// Puts the line of a refusal where there was memory for it, and answers the status of it.
+/// Puts the line of a refusal, if there was memory for it, and answers its status.
 pub fn refuse<K: Sink>(text: Result<Vec<u8>, NoMemory>, status: u8, output: &mut K) -> u8
     ensures refuses { MatchResult text (λ text. Refuses (output_of K.held K.faults output.old output.new) status text.items result)
         (λ _. LacksMemory (output_of K.held K.faults output.old output.new) result) }
@@ -57,7 +57,7 @@ pub fn refuse<K: Sink>(text: Result<Vec<u8>, NoMemory>, status: u8, output: &mut
     }
 }
 
-/// Reports that there was no memory, with status 7. Where that can't be put the output failed, which is the lesser status, 6.
+/// Reports that there was no memory, with status 7. If that can't be put the output failed, which is the lesser status, 6.
 pub fn report_no_memory<K: Sink>(output: &mut K) -> u8
     ensures lacks_memory { LacksMemory (output_of K.held K.faults output.old output.new) result }
     ensures never_falls { K.faults output.old ≤ K.faults output.new }

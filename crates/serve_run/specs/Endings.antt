@@ -13,7 +13,7 @@ use Rattle.run_reports.specs.Limits.{book_limit}
 use Rattle.run_reports.specs.Reports.{Output}
 use Rattle.serve_run.specs.Summaries.{ReportsSummary}
 
--- A desk that was served ended, where a call on a listener failed or none did: its disk is left with its history, the last entry in doubt or
+-- A desk that was served ended, after a call on a listener failed or none did: its disk is left with its history, the last entry in doubt or
 -- not after its gate was opened once more, and the summary of that history and the status were put.
 pub record EndsDesk {D : Type 0} (trace : D → Option (List State)) (moment faults : D → ℕ) (desk : DeskState (BoxedDisk D)) (failed : Bool) (left : D)
     (output : Output) (status : ℕ) : Type 0 where

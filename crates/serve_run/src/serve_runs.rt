@@ -23,9 +23,9 @@ use std::sync::Wait;
 /// `serve`: the journal is read whole before the first call on a listener, and the first of the posts serves its desk on this port.
 ///
 /// When the post has ended, the summary of the book is made, the gate of an entry in doubt is opened once more, and the summary is put. Its
-/// statuses are 0 where a Stop or the listener's end ended the post, nothing is in doubt and the summary was put whole; 3 where the disk has
-/// no whole journal; 5 where the disk failed before the desk was recovered, or an entry is in doubt at the end; 6 where the output or the
-/// listener failed and 7 where there was no memory. The least that holds is answered, but without memory for the summary it is 7.
+/// statuses are 0 if a Stop or the listener's end ended the post, nothing is in doubt and the summary was put whole; 3 if the disk has
+/// no whole journal; 5 if the disk failed before the desk was recovered, or an entry is in doubt at the end; 6 if the output or the
+/// listener failed and 7 without memory. The least that holds is answered, but without memory for the summary it is 7.
 pub fn serve<R: Wait, K: Sink, D: Disk, L: Listener, C: Clock>(
     rt: &R,
     alloc: Global,

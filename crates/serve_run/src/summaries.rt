@@ -28,7 +28,7 @@ pub(crate) fn summary_of<const LIMIT: usize>(
 
 /// Puts a summary, and then the line of the least status that holds: an entry is in doubt, or a call on a listener or on the output failed.
 ///
-/// Without memory for the summary the status is 7, whatever else holds, also where that can't be put.
+/// Without memory for the summary the status is 7, whatever else holds, also if that can't be put.
 pub(crate) fn report_summary<K: Sink>(
     text: Result<Vec<u8>, NoMemory>,
     doubt: bool,
