@@ -9,6 +9,7 @@ use Rattle.farm_ports.specs.declared.links.LinkCall.{LinkCall}
 use Rattle.journaled_book.specs.Histories.{front_of}
 use Rattle.modbus_poll.specs.declared.raw.Raw.{Raw}
 use Rattle.desk_access.specs.Access.{CallerState, Continues}
+use Rattle.line_posts.specs.Laws.{line_with_seen, with_seen}
 use Rattle.line_posts.specs.Polls.{Poll}
 use Rattle.line_posts.specs.Requests.{Follow, Request, Requests}
 use Rattle.line_posts.specs.Rounds.{EndsAs, Round, requests_of, round_requests, stopped, whole}
@@ -19,21 +20,6 @@ use Rattle.desk_access.proofs.Fronts.{continues_on, front_whole, no_shorter}
 use Rattle.desk_access.proofs.Lists.{all_first, all_last}
 use Rattle.line_posts.proofs.Longer.{AreLaws, IsWithin, entered_on, follow_more, follow_on, follow_within, judged_on}
 use Rattle.line_posts.proofs.OneRun.{none_on, stop_on_one}
-
--- an access with this history in place of what its caller had seen
-abbrev pub with_seen : CallerState → History → CallerState
-with_seen state history = record {
-  seen = history;
-  caller = state.caller;
-  opened = state.opened;
-  own = state.own;
-  certain = state.certain;
-  faulted = state.faulted;
-}
-
--- a line whose caller has seen this history
-abbrev pub line_with_seen : LineState → History → LineState
-line_with_seen state history = record { calls = state.calls; faults = state.faults; poller = state.poller; access = with_seen state.access history }
 
 -- nothing entered since, requests are what they were on a history that may follow
 pub requests_on : (may_follow : History → History → Type 0) → AreLaws may_follow → (old new : CallerState) (next : History) (requests : List Request) →

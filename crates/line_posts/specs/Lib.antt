@@ -6,4 +6,5 @@ pub mod Polls
 pub mod Rounds
 pub mod States
 pub mod Runs
+pub mod Laws
 pub mod Steps

@@ -5,6 +5,7 @@
 //! rules, under "Gauge lines".
 #![tactic(auto)]
 
+mod laws;
 mod limits;
 mod line;
 mod number_laws;
@@ -13,6 +14,7 @@ mod rounds;
 mod running;
 mod submitting;
 
+pub use laws::line_laws;
 pub use limits::{KEYS_APART, LINE_ACCOUNTS, MOST_ROUNDS};
 pub use line::GaugeLine;
 pub use number_laws::defined_numbers;
