@@ -30,7 +30,17 @@ fn check_over(
 ) -> Result<(), Fail> {
     let mut disk = over(rt, path)?;
     check_calls(checks, &mut disk, buffer, calls);
+    drop(disk);
     Ok(())
+}
+
+// Calls of a disk over a path that names nothing before and after them.
+fn check_alone(rt: &HostRuntime, path: &str, buffer: &mut [u8], calls: Calls) -> Result<(), Fail> {
+    let mut checks = Checks::new(rt);
+    clear(rt, path)?;
+    check_over(&mut checks, rt, path, buffer, calls)?;
+    clear(rt, path)?;
+    Ok(checks.end()?)
 }
 
 // A call of a disk, or what its path names.
@@ -91,6 +101,20 @@ const FIRST_CALLS: &[(&str, Step)] = &[
 ];
 
 // The steps of a disk over a path.
+fn check_steps_of(
+    checks: &mut Checks<'_, HostRuntime>,
+    rt: &HostRuntime,
+    path: &str,
+    disk: &mut FileDisk<&HostRuntime>,
+    steps: &[(&str, Step)],
+) -> Result<(), Fail> {
+    for step in steps {
+        check_step(checks, rt, path, disk, *step)?;
+    }
+    Ok(())
+}
+
+// The steps of a disk over a path, which is dropped after them.
 fn check_steps(
     checks: &mut Checks<'_, HostRuntime>,
     rt: &HostRuntime,
@@ -98,10 +122,9 @@ fn check_steps(
     steps: &[(&str, Step)],
 ) -> Result<(), Fail> {
     let mut disk = over(rt, path)?;
-    for step in steps {
-        check_step(checks, rt, path, &mut disk, *step)?;
-    }
-    Ok(())
+    let checked = check_steps_of(checks, rt, path, &mut disk, steps);
+    drop(disk);
+    checked
 }
 
 #[test]
@@ -145,11 +168,7 @@ const PAST_THE_END: Calls = &[
 
 #[test]
 fn a_write_past_the_end_leaves_zeros(rt: HostRuntime) -> Result<(), Fail> {
-    let mut checks = Checks::new(&rt);
-    clear(&rt, "out/gap")?;
-    check_over(&mut checks, &rt, "out/gap", &mut [1; 4], PAST_THE_END)?;
-    clear(&rt, "out/gap")?;
-    Ok(checks.end()?)
+    check_alone(&rt, "out/gap", &mut [1; 4], PAST_THE_END)
 }
 
 const BEYOND: u64 = 1 << 63;
@@ -166,17 +185,7 @@ const BEYOND_THE_SYSTEM: Calls = &[
 
 #[test]
 fn an_offset_beyond_the_system_fails(rt: HostRuntime) -> Result<(), Fail> {
-    let mut checks = Checks::new(&rt);
-    clear(&rt, "out/beyond")?;
-    check_over(
-        &mut checks,
-        &rt,
-        "out/beyond",
-        &mut [0; 4],
-        BEYOND_THE_SYSTEM,
-    )?;
-    clear(&rt, "out/beyond")?;
-    Ok(checks.end()?)
+    check_alone(&rt, "out/beyond", &mut [0; 4], BEYOND_THE_SYSTEM)
 }
 
 const FIRST_DISK: Calls = &[("the first disk measures", Call::Len(Ok(0)))];
@@ -194,25 +203,38 @@ const UNLOCKED: Calls = &[
     ("no further fault", Call::Faults(4)),
 ];
 
+// Calls of a second disk over a path while the first has its lock. The first is dropped after them.
+fn check_locked(
+    checks: &mut Checks<'_, HostRuntime>,
+    rt: &HostRuntime,
+    path: &str,
+    second: &mut FileDisk<&HostRuntime>,
+) -> Result<(), Fail> {
+    let mut first = over(rt, path)?;
+    check_calls(checks, &mut first, &mut [], FIRST_DISK);
+    check_calls(checks, second, &mut [0; 4], LOCKED);
+    drop(first);
+    Ok(())
+}
+
 // Calls of a second disk over a path before and after the first is dropped.
 fn check_second(
     checks: &mut Checks<'_, HostRuntime>,
-    mut second: FileDisk<&HostRuntime>,
-    first: FileDisk<&HostRuntime>,
-) {
-    check_calls(checks, &mut second, &mut [0; 4], LOCKED);
-    drop(first);
+    rt: &HostRuntime,
+    path: &str,
+) -> Result<(), Fail> {
+    let mut second = over(rt, path)?;
+    let locked = check_locked(checks, rt, path, &mut second);
     check_calls(checks, &mut second, &mut [0; 4], UNLOCKED);
+    drop(second);
+    locked
 }
 
 #[test]
 fn a_second_disk_fails_until_the_first_is_dropped(rt: HostRuntime) -> Result<(), Fail> {
     let mut checks = Checks::new(&rt);
     clear(&rt, "out/locked")?;
-    let second = over(&rt, "out/locked")?;
-    let mut first = over(&rt, "out/locked")?;
-    check_calls(&mut checks, &mut first, &mut [], FIRST_DISK);
-    check_second(&mut checks, second, first);
+    check_second(&mut checks, &rt, "out/locked")?;
     clear(&rt, "out/locked")?;
     Ok(checks.end()?)
 }
@@ -223,11 +245,13 @@ const NOT_REGULAR: Calls = &[
     ("two faults", Call::Stands(2, 2)),
 ];
 
+const NO_DISKS: &[&str] = &["out", "/dev/null", "out/no_folder/file", ""];
+
 #[test]
 fn no_file_but_a_regular_one_is_a_disk(rt: HostRuntime) -> Result<(), Fail> {
     let mut checks = Checks::new(&rt);
     fs::create_dir_all(&rt, "out")?;
-    for path in ["out", "/dev/null", "out/no_folder/file", ""] {
+    for path in NO_DISKS {
         check_over(&mut checks, &rt, path, &mut [], NOT_REGULAR)?;
     }
     Ok(checks.end()?)

@@ -49,7 +49,14 @@ fn check_files<F: Folder, R: Print>(
 
 // A file of a name and bytes.
 fn file(alloc: Global, name: &str, bytes: &[u8]) -> Result<(String, Vec<u8>), AllocError> {
-    Ok((String::from_str(alloc, name)?, bytes.to_vec(alloc)?))
+    let bytes = bytes.to_vec(alloc)?;
+    match String::from_str(alloc, name) {
+        Ok(name) => Ok((name, bytes)),
+        Err(fault) => {
+            drop(bytes);
+            Err(fault)
+        }
+    }
 }
 
 // A long file, two files of one name, and a file without a byte; the second read fails.
@@ -140,7 +147,10 @@ fn large(alloc: Global) -> Result<Vec<u8>, AllocError> {
 fn read_again(rt: &HostRuntime, bytes: &[u8]) -> Result<Vec<u8>, Fail> {
     fs::create_dir_all(rt, "out")?;
     fs::write(rt, "out/large", bytes)?;
-    Ok(folder_of(rt, "out")?.read(rt.alloc(), "large", usize::MAX)?)
+    let mut folder = folder_of(rt, "out")?;
+    let read = folder.read(rt.alloc(), "large", usize::MAX);
+    drop(folder);
+    Ok(read?)
 }
 
 #[test]
@@ -161,14 +171,23 @@ fn given<C: Clock>(clock: &C) -> i64
     clock.now()
 }
 
+const MOMENTS: &[i64] = &[1_790_000_000, 0, -86_400];
+
+const TIMES: &[&str] = &["once", "again"];
+
+// A clock gives this moment each time.
+fn check_clock<C: Clock, R: Print>(checks: &mut Checks<'_, R>, clock: &C, moment: i64) {
+    for time in TIMES {
+        checks.same_at(*time, given(clock), moment);
+    }
+}
+
 #[test]
 fn a_fixed_clock_gives_its_moment(rt: HostRuntime) -> Result<(), Fail> {
     let mut checks = Checks::new(&rt);
-    for moment in [1_790_000_000, 0, -86_400] {
-        let clock = shared(Fixed::new(rt.alloc(), moment)?);
-        for time in ["once", "again"] {
-            checks.same_at(time, given(&clock), moment);
-        }
+    for moment in MOMENTS {
+        let clock = shared(Fixed::new(rt.alloc(), *moment)?);
+        check_clock(&mut checks, &clock, *moment);
     }
     Ok(checks.end()?)
 }

@@ -100,13 +100,23 @@ fn a_wire_gives_its_responses(rt: HostRuntime) -> Result<(), Fail> {
     Ok(checks.end()?)
 }
 
+// The same with room for a connect.
+fn with_room(alloc: Global) -> Result<Wire, NoMemory> {
+    let mut wire = two_responses(alloc)?;
+    if let Err(fault) = wire.reserve(1, 9) {
+        drop(wire);
+        return Err(fault);
+    }
+    Ok(wire)
+}
+
 #[test]
 fn a_wire_with_room_keeps_a_listed_connect(rt: HostRuntime) -> Result<(), Fail> {
     let mut checks = Checks::new(&rt);
-    let mut wire = two_responses(rt.alloc())?;
-    wire.reserve(1, 9)?;
+    let mut wire = with_room(rt.alloc())?;
     checks.same(wire.connect(b"127.0.0.1", 502), Err(Failed));
     checks.same(wire.calls().len(), 1);
+    drop(wire);
     Ok(checks.end()?)
 }
 
