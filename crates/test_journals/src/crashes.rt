@@ -64,16 +64,28 @@ fn wants_at(moment: u64) -> (&'static str, &'static str) {
     }
 }
 
+// The images of that disk at each moment from the start of the four calls on.
+fn check_bodies<R: Print>(
+    checks: &mut Checks<'_, R>,
+    alloc: Global,
+    disk: &MemDisk,
+    start: u64,
+) -> Result<(), Fail> {
+    for moment in 0..9 {
+        let at = start.saturating_add(moment);
+        check_images(checks, alloc, disk, at, wants_at(moment))?;
+    }
+    Ok(())
+}
+
 #[test]
 fn a_body_is_there_whole_or_not_at_all(rt: HostRuntime) -> Result<(), Fail> {
     let mut checks = Checks::new(&rt);
-    let alloc = rt.alloc();
-    let (disk, start) = two_bodies(alloc)?;
+    let (disk, start) = two_bodies(rt.alloc())?;
     checks.same(disk.stand().moment, start.saturating_add(8));
-    for moment in 0..9 {
-        let at = start.saturating_add(moment);
-        check_images(&mut checks, alloc, &disk, at, wants_at(moment))?;
-    }
+    let bodies = check_bodies(&mut checks, rt.alloc(), &disk, start);
+    drop(disk);
+    bodies?;
     Ok(checks.end()?)
 }
 
@@ -86,17 +98,28 @@ fn wants_within_the_making(moment: u64) -> (&'static str, &'static str) {
     }
 }
 
+// The images of a disk at each moment of the making.
+fn check_the_making<R: Print>(
+    checks: &mut Checks<'_, R>,
+    alloc: Global,
+    disk: &MemDisk,
+) -> Result<(), Fail> {
+    for moment in 0..13 {
+        let wants = wants_within_the_making(moment);
+        check_images(checks, alloc, disk, moment, wants)?;
+    }
+    Ok(())
+}
+
 #[test]
 fn a_crash_within_the_making_leaves_no_journal_or_the_empty_one(
     rt: HostRuntime,
 ) -> Result<(), Fail> {
     let mut checks = Checks::new(&rt);
-    let alloc = rt.alloc();
-    let disk = new_journal(alloc, &[])?.into_disk();
-    for moment in 0..13 {
-        let wants = wants_within_the_making(moment);
-        check_images(&mut checks, alloc, &disk, moment, wants)?;
-    }
+    let disk = new_journal(rt.alloc(), &[])?.into_disk();
+    let making = check_the_making(&mut checks, rt.alloc(), &disk);
+    drop(disk);
+    making?;
     Ok(checks.end()?)
 }
 

@@ -4,7 +4,8 @@ ghost use Rattle.std.specs.Prelude.{◌≡◌, ◌<◌, ◌≤◌, ◌+◌, None
 
 use crate::Listing;
 use crate::files::{
-    EMPTY, ONE, TWO, bytes_of, check_recovery, disk_of, keep, new_journal, refused_making,
+    EMPTY, ONE, TWO, bytes_of, bytes_under, check_recovery, disk_of, keep, new_journal,
+    refused_making,
 };
 use farm_disk::{Disk, Fill, MemDisk};
 use farm_journal::{CreateFault, DiskFault, Journal, RecoverFault, Taken};
@@ -30,13 +31,27 @@ fn put_in_vain(journal: &mut Journal<MemDisk>, body: &[u8]) -> Result<(), Fail>
     }
 }
 
+// The faults of an empty journal whose next put fails, before a put that doesn't.
+fn faults_between(journal: &mut Journal<MemDisk>) -> Result<u64, Fail>
+    requires idle { journal.old.next_gate ≡ None }
+    requires empty { journal.old.count ≡ 0 }
+{
+    put_in_vain(journal, b"three")?;
+    let faults = journal.stand().faults;
+    keep(journal, b"one")?;
+    Ok(faults)
+}
+
 // The faults of a journal one of whose puts fails, and its bytes after the next put.
 fn put_again(alloc: Global, failing: u64) -> Result<(u64, Vec<u8>), Fail> {
     let mut journal = new_journal(alloc, &[failing])?;
-    put_in_vain(&mut journal, b"three")?;
-    let faults = journal.stand().faults;
-    keep(&mut journal, b"one")?;
-    Ok((faults, bytes_of(alloc, &mut journal.into_disk())?))
+    match faults_between(&mut journal) {
+        Ok(faults) => Ok((faults, bytes_under(alloc, journal)?)),
+        Err(fail) => {
+            drop(journal);
+            Err(fail)
+        }
+    }
 }
 
 // The call of this number fails, and the body is put again.
@@ -79,12 +94,25 @@ fn keep_at_last(journal: &mut Journal<MemDisk>, body: &[u8]) -> Result<(), Fail>
     Ok(())
 }
 
+// Puts `one` on an empty journal, its gate opened at last, and then `three`.
+fn keep_both_at_last(journal: &mut Journal<MemDisk>) -> Result<(), Fail>
+    requires idle { journal.old.next_gate ≡ None }
+    requires empty { journal.old.count ≡ 0 }
+{
+    keep_at_last(journal, b"one")?;
+    keep(journal, b"three")
+}
+
 // The bytes of a journal with two bodies, the gate of the first one opened at last.
 fn opened_again(alloc: Global, failing: u64) -> Result<Vec<u8>, Fail> {
     let mut journal = new_journal(alloc, &[failing, MADE + 5])?;
-    keep_at_last(&mut journal, b"one")?;
-    keep(&mut journal, b"three")?;
-    bytes_of(alloc, &mut journal.into_disk())
+    match keep_both_at_last(&mut journal) {
+        Ok(()) => bytes_under(alloc, journal),
+        Err(fail) => {
+            drop(journal);
+            Err(fail)
+        }
+    }
 }
 
 #[test]
@@ -101,8 +129,9 @@ fn a_gate_that_was_not_opened_is_opened_again(rt: HostRuntime) -> Result<(), Fai
 fn failed_making(alloc: Global, failing: u64) -> Result<(CreateFault, u64, Vec<u8>), Fail> {
     let (disk, fault) = refused_making(alloc, b"", &[failing])?;
     let stand = disk.stand();
-    let old = disk.image(alloc, stand.moment, Fill::Old)?;
-    Ok((fault, stand.faults, old))
+    let old = disk.image(alloc, stand.moment, Fill::Old);
+    drop(disk);
+    Ok((fault, stand.faults, old?))
 }
 
 // The call of this number of a making fails.
@@ -129,8 +158,14 @@ fn a_fault_within_the_making_leaves_no_journal(rt: HostRuntime) -> Result<(), Fa
 // The disk of a recovery that fails at this call, and the fault.
 fn refused_recovery(alloc: Global, failing: u64) -> Result<(MemDisk, RecoverFault), Fail> {
     let disk = disk_of(alloc, ONE, &[failing])?;
-    match Journal::recover(alloc, disk, &mut Listing::new(alloc)) {
-        Ok(_) => Err("a journal was recovered".into()),
+    let mut listing = Listing::new(alloc);
+    let recovered = Journal::recover(alloc, disk, &mut listing);
+    drop(listing);
+    match recovered {
+        Ok(journal) => {
+            drop(journal);
+            Err("a journal was recovered".into())
+        }
         Err(refusal) => Ok(refusal),
     }
 }
@@ -139,7 +174,9 @@ fn refused_recovery(alloc: Global, failing: u64) -> Result<(MemDisk, RecoverFaul
 fn failed_recovery(alloc: Global, failing: u64) -> Result<(RecoverFault, u64, Vec<u8>), Fail> {
     let (mut disk, fault) = refused_recovery(alloc, failing)?;
     let faults = disk.stand().faults;
-    Ok((fault, faults, bytes_of(alloc, &mut disk)?))
+    let bytes = bytes_of(alloc, &mut disk);
+    drop(disk);
+    Ok((fault, faults, bytes?))
 }
 
 // The call of this number of a recovery fails.

@@ -48,16 +48,25 @@ fn fault_of(
 {
     let disk = disk_of(alloc, bytes, &[])?;
     match Journal::recover(alloc, disk, listing) {
-        Ok(_) => Ok(None),
-        Err((_, fault)) => Ok(Some(fault)),
+        Ok(journal) => {
+            drop(journal);
+            Ok(None)
+        }
+        Err((disk, fault)) => {
+            drop(disk);
+            Ok(Some(fault))
+        }
     }
 }
 
 /// What is recovered of bytes: what was taken, each byte string after a blank, or the text of the refusal.
 pub fn recovered(alloc: Global, bytes: &[u8]) -> Result<String, Fail> {
     let mut listing = Listing::new(alloc);
-    match fault_of(alloc, bytes, &mut listing)? {
-        None => Ok(text_of(alloc, listing.taken())?),
+    let fault = fault_of(alloc, bytes, &mut listing);
+    let taken = text_of(alloc, listing.taken());
+    drop(listing);
+    match fault? {
+        None => Ok(taken?),
         Some(fault) => Ok(format!(in alloc; "{fault}")?),
     }
 }
@@ -89,7 +98,10 @@ pub fn new_journal(alloc: Global, fails: &[u64]) -> Result<Journal<MemDisk>, Fai
 {
     match Journal::create(alloc, disk_of(alloc, b"", fails)?, b"site") {
         Ok(journal) => Ok(journal),
-        Err((_, fault)) => Err(fault.into()),
+        Err((disk, fault)) => {
+            drop(disk);
+            Err(fault.into())
+        }
     }
 }
 
@@ -100,7 +112,10 @@ pub fn refused_making(
     fails: &[u64],
 ) -> Result<(MemDisk, CreateFault), Fail> {
     match Journal::create(alloc, disk_of(alloc, bytes, fails)?, b"site") {
-        Ok(_) => Err("a journal was made".into()),
+        Ok(journal) => {
+            drop(journal);
+            Err("a journal was made".into())
+        }
         Err(refusal) => Ok(refusal),
     }
 }
@@ -119,21 +134,44 @@ pub fn keep<D: Disk>(journal: &mut Journal<D>, body: &[u8]) -> Result<(), Fail>
     Ok(())
 }
 
+// Puts the bodies `one` and `three` on an empty journal, and answers its moment between them.
+fn keep_both(journal: &mut Journal<MemDisk>) -> Result<u64, Fail>
+    requires idle { journal.old.next_gate ≡ None }
+    requires empty { journal.old.count ≡ 0 }
+{
+    keep(journal, b"one")?;
+    let start = journal.stand().moment;
+    keep(journal, b"three")?;
+    Ok(start)
+}
+
 /// A disk on which the bodies `one` and `three` were put, and its moment between them.
 pub fn two_bodies(alloc: Global) -> Result<(MemDisk, u64), Fail> {
     let mut journal = new_journal(alloc, &[])?;
-    keep(&mut journal, b"one")?;
-    let start = journal.stand().moment;
-    keep(&mut journal, b"three")?;
-    Ok((shared(journal).into_disk(), start))
+    let kept = keep_both(&mut journal);
+    let disk = shared(journal).into_disk();
+    match kept {
+        Ok(start) => Ok((disk, start)),
+        Err(fail) => {
+            drop(disk);
+            Err(fail)
+        }
+    }
 }
 
-// What reads of that disk give, and what a crash leaves of it.
-fn written(alloc: Global) -> Result<(Vec<u8>, Vec<u8>), Fail> {
-    let (mut disk, _) = two_bodies(alloc)?;
-    let read = bytes_of(alloc, &mut disk)?;
+// What reads of a disk give, and what a crash leaves of it.
+fn read_and_left(alloc: Global, disk: &mut MemDisk) -> Result<(Vec<u8>, Vec<u8>), Fail> {
+    let read = bytes_of(alloc, disk)?;
     let left = disk.image(alloc, disk.stand().moment, Fill::Byte(b'?'))?;
     Ok((read, left))
+}
+
+// The same of the disk with two bodies.
+fn written(alloc: Global) -> Result<(Vec<u8>, Vec<u8>), Fail> {
+    let (mut disk, _) = two_bodies(alloc)?;
+    let bytes = read_and_left(alloc, &mut disk);
+    drop(disk);
+    bytes
 }
 
 #[test]
@@ -156,19 +194,38 @@ fn reopened<D: Disk + Drop>(alloc: Global, disk: D) -> Result<Journal<D>, Fail>
     let mut listing = Listing::new(alloc);
     let journal = match Journal::recover(alloc, disk, &mut listing) {
         Ok(journal) => journal,
-        Err((_, fault)) => return Err(fault.into()),
+        Err((disk, fault)) => {
+            drop((disk, listing));
+            return Err(fault.into());
+        }
     };
-    if listing.taken().len() != 2 {
+    let taken = listing.taken().len();
+    drop(listing);
+    if taken != 2 {
+        drop(journal);
         return Err("the journal hasn't one body".into());
     }
     Ok(journal)
 }
 
+/// The bytes of the disk of a journal.
+pub fn bytes_under<D: Disk + Drop>(alloc: Global, journal: Journal<D>) -> Result<Vec<u8>, Fail> {
+    let mut disk = journal.into_disk();
+    let bytes = bytes_of(alloc, &mut disk);
+    drop(disk);
+    bytes
+}
+
 /// The bytes of a disk after its journal with one body was recovered and `three` was put on it.
 pub fn gone_on<D: Disk + Drop>(alloc: Global, disk: D) -> Result<Vec<u8>, Fail> {
     let mut journal = reopened(alloc, disk)?;
-    keep(&mut journal, b"three")?;
-    bytes_of(alloc, &mut journal.into_disk())
+    match keep(&mut journal, b"three") {
+        Ok(()) => bytes_under(alloc, journal),
+        Err(fail) => {
+            drop(journal);
+            Err(fail)
+        }
+    }
 }
 
 #[test]
@@ -183,7 +240,9 @@ fn a_journal_is_recovered_and_goes_on(rt: HostRuntime) -> Result<(), Fail> {
 // Why no journal is made on a disk with these bytes, and what reads of it then give.
 fn not_made(alloc: Global, bytes: &[u8]) -> Result<(CreateFault, Vec<u8>), Fail> {
     let (mut disk, fault) = refused_making(alloc, bytes, &[])?;
-    Ok((fault, bytes_of(alloc, &mut disk)?))
+    let bytes = bytes_of(alloc, &mut disk);
+    drop(disk);
+    Ok((fault, bytes?))
 }
 
 #[test]

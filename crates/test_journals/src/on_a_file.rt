@@ -15,15 +15,30 @@ fn over<'a>(rt: &'a HostRuntime, path: &str) -> Result<FileDisk<&'a HostRuntime>
 // Makes a journal with the body `one` in the file at a path.
 fn begin(rt: &HostRuntime, path: &str) -> Result<(), Fail> {
     match Journal::create(rt.alloc(), over(rt, path)?, b"site") {
-        Ok(mut journal) => keep(&mut journal, b"one"),
-        Err((_, fault)) => Err(fault.into()),
+        Ok(mut journal) => {
+            let kept = keep(&mut journal, b"one");
+            drop(journal);
+            kept
+        }
+        Err((disk, fault)) => {
+            drop(disk);
+            Err(fault.into())
+        }
     }
+}
+
+// The bytes of the file at a path.
+fn bytes_at(rt: &HostRuntime, path: &str) -> Result<Vec<u8>, Fail> {
+    let mut disk = over(rt, path)?;
+    let bytes = bytes_of(rt.alloc(), &mut disk);
+    drop(disk);
+    bytes
 }
 
 // The bytes of a journal on a new file, and those after it was recovered and `three` was put on it.
 fn kept(rt: &HostRuntime, path: &str) -> Result<(Vec<u8>, Vec<u8>), Fail> {
     begin(rt, path)?;
-    let first = bytes_of(rt.alloc(), &mut over(rt, path)?)?;
+    let first = bytes_at(rt, path)?;
     let then = gone_on(rt.alloc(), over(rt, path)?)?;
     Ok((first, then))
 }
