@@ -1,6 +1,6 @@
 //! Whole conversations of one gauge: responses, exceptions, wrong fields, responses cut short, and links that fail.
 
-use crate::gauges::{GAUGE, poller, wire};
+use crate::gauges::{GAUGE, linked};
 use farm_base::NoMemory;
 use farm_ports::{LinkCall, Wire};
 use modbus_poll::Polled::{Exception, Wrong};
@@ -133,9 +133,10 @@ fn poll_twice(poller: &mut Poller, wire: &mut Wire) -> (Polled, bool) {
 
 // The same of a poller at a link with this response, one call of which fails.
 fn converse(alloc: Global, response: &[u8], fails: u64) -> Result<(Polled, bool), NoMemory> {
-    let mut poller = poller(alloc, GAUGE)?;
-    let mut wire = wire(alloc, &[response], &[fails])?;
-    Ok(poll_twice(&mut poller, &mut wire))
+    let (mut poller, mut wire) = linked(alloc, GAUGE, &[response], &[fails])?;
+    let answer = poll_twice(&mut poller, &mut wire);
+    drop((wire, poller));
+    Ok(answer)
 }
 
 // Whether the connection stands after an answer.
@@ -154,8 +155,9 @@ fn check_case<R: Print>(
     (at, other, size, fails, want): Case,
 ) -> Result<(), NoMemory> {
     let response = response(alloc, at, other, size)?;
-    let got = converse(alloc, &response, fails)?;
-    checks.same_at(number, got, (want, stands_after(want)));
+    let got = converse(alloc, &response, fails);
+    drop(response);
+    checks.same_at(number, got?, (want, stands_after(want)));
     Ok(())
 }
 

@@ -2,7 +2,7 @@
 
 ghost use Rattle.std.specs.Prelude.{◌≡◌, IfSome};
 
-use crate::gauges::{GAUGE, poller, wire};
+use crate::gauges::{GAUGE, linked};
 use farm_ports::Link;
 use modbus_poll::{Polled, Poller, Raw};
 use std::test::Fail;
@@ -51,10 +51,8 @@ fn check_levels<L: Link, R: Print>(checks: &mut Checks<'_, R>, poller: &mut Poll
 #[test]
 fn a_reading_is_due_that_differs_by_the_deadband(rt: HostRuntime) -> Result<(), Fail> {
     let mut checks = Checks::new(&rt);
-    let mut poller = shared(poller(rt.alloc(), GAUGE)?);
-    let mut wire = wire(rt.alloc(), RESPONSES, &[])?;
+    let (mut poller, mut wire) = shared(linked(rt.alloc(), GAUGE, RESPONSES, &[])?);
     check_levels(&mut checks, &mut poller, &mut wire);
-    drop(wire);
-    drop(poller);
+    drop((wire, poller));
     Ok(checks.end()?)
 }

@@ -3,7 +3,7 @@
 ghost use Rattle.std.specs.Prelude.{◌<◌, IsTrue};
 ghost use Rattle.modbus_poll.specs.Maps.{is_gauge_map};
 
-use crate::gauges::{GAUGE, PLAIN, poller, wire};
+use crate::gauges::{GAUGE, PLAIN, linked};
 use farm_base::NoMemory;
 use modbus_poll::{Field, GaugeMap, Polled, Raw, Valid};
 use std::alloc::Global;
@@ -42,9 +42,10 @@ const READING: Raw = Raw {
 fn answer_of(alloc: Global, gauge: GaugeMap) -> Result<Polled, NoMemory>
     requires { IsTrue (is_gauge_map gauge) }
 {
-    let mut poller = poller(alloc, gauge)?;
-    let mut wire = wire(alloc, &[&RESPONSE], &[])?;
-    Ok(poller.turn(&mut wire))
+    let (mut poller, mut wire) = linked(alloc, gauge, &[&RESPONSE], &[])?;
+    let answer = poller.turn(&mut wire);
+    drop((wire, poller));
+    Ok(answer)
 }
 
 #[test]

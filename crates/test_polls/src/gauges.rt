@@ -6,7 +6,7 @@ ghost use Rattle.modbus_poll.specs.Maps.{is_gauge_map, is_line_map};
 use farm_base::NoMemory;
 use farm_ports::Wire;
 use modbus_poll::{Field, GaugeMap, Gauges, Host, LineMap, Poller, Valid};
-use std::alloc::Global;
+use std::alloc::{AllocError, Global};
 
 /// A field of one word in the unit of what it measures.
 pub const PLAIN: Field = Field {
@@ -52,18 +52,51 @@ pub fn line(alloc: Global, gauge: GaugeMap) -> Result<LineMap, NoMemory>
     })
 }
 
-/// A poller of a line with one gauge.
-pub fn poller(alloc: Global, gauge: GaugeMap) -> Result<Poller, NoMemory>
+// A poller of a line with one gauge.
+fn poller(alloc: Global, gauge: GaugeMap) -> Result<Poller, NoMemory>
     requires { IsTrue (is_gauge_map gauge) }
 {
     Poller::new(alloc, line(alloc, gauge)?)
 }
 
-/// A link with these responses, whose calls of these numbers fail.
-pub fn wire(alloc: Global, responses: &[&[u8]], fails: &[u64]) -> Result<Wire, NoMemory> {
-    let mut copies = Vec::new(alloc);
+// Appends copies of responses to a list.
+fn add_copies(
+    copies: &mut Vec<Vec<u8>>,
+    alloc: Global,
+    responses: &[&[u8]],
+) -> Result<(), AllocError> {
     for response in responses {
         copies.push(response.to_vec(alloc)?)?;
     }
-    Wire::new(alloc, copies, fails.to_vec(alloc)?)
+    Ok(())
+}
+
+// A link with these responses, whose calls of these numbers fail.
+fn wire(alloc: Global, responses: &[&[u8]], fails: &[u64]) -> Result<Wire, NoMemory> {
+    let fails = fails.to_vec(alloc)?;
+    let mut copies = Vec::new(alloc);
+    if let Err(fault) = add_copies(&mut copies, alloc, responses) {
+        drop((copies, fails));
+        return Err(fault.into());
+    }
+    Wire::new(alloc, copies, fails)
+}
+
+/// A poller of a line with one gauge, and a link with these responses, whose calls of these numbers fail.
+pub fn linked(
+    alloc: Global,
+    gauge: GaugeMap,
+    responses: &[&[u8]],
+    fails: &[u64],
+) -> Result<(Poller, Wire), NoMemory>
+    requires { IsTrue (is_gauge_map gauge) }
+{
+    let wire = wire(alloc, responses, fails)?;
+    match poller(alloc, gauge) {
+        Ok(poller) => Ok((poller, wire)),
+        Err(fault) => {
+            drop(wire);
+            Err(fault)
+        }
+    }
 }

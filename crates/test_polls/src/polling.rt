@@ -1,6 +1,7 @@
 //! The turns of a poller with the calls that they make on a link, and the copy of a line.
 
-use crate::gauges::{GAUGE, line, poller, wire};
+use crate::gauges::{GAUGE, line, linked};
+use farm_base::NoMemory;
 use farm_ports::{LinkCall, Wire};
 use modbus_poll::{LineMap, Polled, Poller, Raw};
 use std::alloc::Global;
@@ -87,10 +88,10 @@ fn check_polling<R: Print>(
     turns: Turns,
     last: Calls,
 ) -> Result<(), Fail> {
-    let mut poller = poller(alloc, GAUGE)?;
-    let mut wire = wire(alloc, responses, &[1])?;
+    let (mut poller, mut wire) = linked(alloc, GAUGE, responses, &[1])?;
     check_turns(checks, &mut poller, &mut wire, turns);
     check_all_calls(checks, wire.calls(), last);
+    drop((wire, poller));
     Ok(())
 }
 
@@ -182,13 +183,23 @@ fn check_parts<R: Print>(checks: &mut Checks<'_, R>, copy: &LineMap, line: &Line
     }
 }
 
+// A line and its copy.
+fn line_and_copy(alloc: Global) -> Result<(LineMap, LineMap), NoMemory> {
+    let line = line(alloc, GAUGE)?;
+    match line.copy(alloc) {
+        Ok(copy) => Ok((line, copy)),
+        Err(fault) => {
+            drop(line);
+            Err(fault)
+        }
+    }
+}
+
 #[test]
 fn a_copied_line_is_polled_as_the_line_is(rt: HostRuntime) -> Result<(), Fail> {
     let mut checks = Checks::new(&rt);
-    let line = line(rt.alloc(), GAUGE)?;
-    let copy = line.copy(rt.alloc())?;
+    let (line, copy) = line_and_copy(rt.alloc())?;
     check_parts(&mut checks, &copy, &line);
-    drop(copy);
-    drop(line);
+    drop((copy, line));
     Ok(checks.end()?)
 }
