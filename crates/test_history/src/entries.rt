@@ -181,8 +181,8 @@ fn a_bad_byte_is_refused_at_its_offset(rt: HostRuntime) -> Result<(), Fail> {
 #[test]
 fn a_bad_entry_has_a_text(rt: HostRuntime) -> Result<(), Fail> {
     let mut checks = Checks::new(&rt);
-    let mut text = String::new(rt.alloc());
-    write!(text, "{}", shared(BadEntry(24)))?;
+    let text = format!(in rt.alloc(); "{}", shared(BadEntry(24)))?;
     checks.same(text.as_str(), "no entry: byte 24 can't stand there");
+    drop(text);
     Ok(checks.end()?)
 }

@@ -87,6 +87,7 @@ fn a_receipt_is_held_afterwards(rt: HostRuntime) -> Result<(), Fail> {
         received(&mut stock, 101, 7, amount(1_000, 850)),
         Some(amount(960, 816)),
     );
+    drop(stock);
     Ok(checks.end()?)
 }
 
@@ -97,5 +98,6 @@ fn each_type_may_go_to_another_thread(rt: HostRuntime) -> Result<(), Fail> {
     checks.same(stock.total(), amount(0, 0));
     let gain = shared(posting(102, shared(Kind::Gain), 0, amount(-859, -731)));
     checks.same(gain, posting(102, Kind::Gain, 0, amount(-859, -731)));
+    drop(stock);
     Ok(checks.end()?)
 }
