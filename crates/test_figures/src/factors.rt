@@ -143,6 +143,7 @@ fn check_lists<R: Print>(
     for list in LISTS {
         check_list(checks, read, &listed, *list);
     }
+    drop(listed);
     Ok(())
 }
 
@@ -175,9 +176,10 @@ const GRID_NEAREST: Factors = &[
 fn a_file_and_its_lists_are_one_grid(rt: HostRuntime) -> Result<(), Fail> {
     let mut checks = Checks::new(&rt);
     let read = Vcf::read(rt.alloc(), GRID)?;
-    check_lists(&mut checks, rt.alloc(), &read)?;
+    let lists = check_lists(&mut checks, rt.alloc(), &read);
     check_factors(&mut checks, &read, GRID_NEAREST);
     drop(read);
+    lists?;
     Ok(checks.end()?)
 }
 

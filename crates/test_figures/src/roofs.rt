@@ -29,6 +29,18 @@ fn vcf(alloc: Global) -> Result<Vcf, Fail> {
     Ok(Vcf::from_grid(densities, temperatures, factors)?)
 }
 
+// The capacity table and the factors.
+fn tables(alloc: Global) -> Result<(CapTable, Vcf), Fail> {
+    let table = table(alloc)?;
+    match vcf(alloc) {
+        Ok(vcf) => Ok((table, vcf)),
+        Err(fail) => {
+            drop(table);
+            Err(fail)
+        }
+    }
+}
+
 // A level and water in mm, and a density in 0.1 kg/m3.
 type Gauged = (i64, i64, i64);
 
@@ -61,9 +73,10 @@ fn figures_at(
         sw: Permil5::new(0)?,
     };
     let rounding = RoundTable::usual();
-    let table = table(alloc)?;
-    let vcf = vcf(alloc)?;
-    Ok(quantities(&tank, &table, &vcf, &rounding, &reading, &sample))
+    let (table, vcf) = tables(alloc)?;
+    let figures = quantities(&tank, &table, &vcf, &rounding, &reading, &sample);
+    drop((table, vcf));
+    Ok(figures)
 }
 
 // The adjustment for the roof at a level.

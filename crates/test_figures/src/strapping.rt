@@ -85,7 +85,9 @@ pub fn rows_of(
 ) -> Result<Result<Vec<i64>, StrapFault>, Fail> {
     let course = [1_000, 355_000, 355_000, 0, 0, plate, 0];
     let tank = shared(tank_of(alloc, &[course], deadwoods, bottom)??);
-    Ok(tank.rows(alloc, rounding))
+    let rows = tank.rows(alloc, rounding);
+    drop(tank);
+    Ok(rows)
 }
 
 // Rows of a table: the index and the litres of each.

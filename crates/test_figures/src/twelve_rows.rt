@@ -41,6 +41,18 @@ fn vcf(alloc: Global) -> Result<Vcf, Fail> {
     Ok(Vcf::from_grid(densities, temperatures, factors)?)
 }
 
+// The capacity table and the factors.
+fn tables(alloc: Global) -> Result<(CapTable, Vcf), Fail> {
+    let table = table(alloc)?;
+    match vcf(alloc) {
+        Ok(vcf) => Ok((table, vcf)),
+        Err(fail) => {
+            drop(table);
+            Err(fail)
+        }
+    }
+}
+
 // The figures of a bare shell whose roof floats above 20 mm, at a level of 37 mm with 13 mm of water, 25.00 C and 33.00 C ambient, with
 // 0.250 percent of sediment and water.
 fn figures(alloc: Global) -> Result<Result<Quantities, ChainRule>, Fail> {
@@ -68,9 +80,10 @@ fn figures(alloc: Global) -> Result<Result<Quantities, ChainRule>, Fail> {
         sw: Permil5::new(250)?,
     };
     let rounding = RoundTable::new(TWELVE_ROWS)?;
-    let table = table(alloc)?;
-    let vcf = vcf(alloc)?;
-    Ok(quantities(&tank, &table, &vcf, &rounding, &reading, &sample))
+    let (table, vcf) = tables(alloc)?;
+    let figures = quantities(&tank, &table, &vcf, &rounding, &reading, &sample);
+    drop((table, vcf));
+    Ok(figures)
 }
 
 const ROUNDED: Figures = &[
