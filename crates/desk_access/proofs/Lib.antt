@@ -1,5 +1,6 @@
 -- The lemmas of `desk_access`, by subject.
 pub mod Fronts
 pub mod Lists
+pub mod Spans
 pub mod Later
 pub mod Asking

@@ -32,6 +32,12 @@ entered_since before after = drop (last_place before) after.entries
 abbrev pub has_stop : List Entry → Bool
 has_stop entries = list_any (λ entry. is_stop entry.cmd) entries
 
+-- What holds of the histories that may follow what a caller has seen: itself; what may follow one that may; and each continues it.
+pub record AreFollowers (may_follow : History → History → Type 0) : Type 0 where
+  pub itself : (seen : History) → may_follow seen seen
+  pub on : (first second third : History) → may_follow first second → may_follow second third → may_follow first third
+  pub continues : (seen next : History) → may_follow seen next → Continues seen next
+
 -- What no call changes: the number of the caller, and how many entries the desk had when it was opened. What isn't in doubt stays so.
 pub record StaysCaller (old new : CallerState) : Type 0 where
   pub caller : new.caller ≡ old.caller

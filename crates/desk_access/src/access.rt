@@ -1,7 +1,7 @@
 //! An access to a desk.
 
 ghost use Rattle.std.specs.Prelude.{◌≡◌, ℕ, drop};
-ghost use Rattle.desk_access.specs.Access.{CallerState, Continues, IsAsked, LooksOn, has_stop};
+ghost use Rattle.desk_access.specs.Access.{AreFollowers, CallerState, IsAsked, LooksOn, has_stop};
 ghost use Rattle.farm_history.specs.Desk.{IsWellFormedAsk};
 ghost use Rattle.farm_history.specs.History.{History};
 
@@ -27,9 +27,7 @@ pub trait DeskAccess {
 
     /// Does nothing: what holds of every access of this type.
     fn access_laws()
-        ensures follows_itself { (seen : History) → Self.may_follow seen seen }
-        ensures follows_on { (first second third : History) → Self.may_follow first second → Self.may_follow second third → Self.may_follow first third }
-        ensures continues { (seen next : History) → Self.may_follow seen next → Continues seen next }
+        ensures followers { AreFollowers Self.may_follow }
         ensures keeps_itself { (access : Self) → Self.keeps access access }
         ensures keeps_on { (first second third : Self) → Self.keeps first second → Self.keeps second third → Self.keeps first third };
 

@@ -1,6 +1,6 @@
 -- A request that is answered, as an exchange on the history that its caller has seen since.
-use Rattle.std.proofs.Common.{◌≡◌, ◌⊎◌, inl, inr, ◌∙◌, ℕ, ◌+◌, ◌≤◌, Bool, List, [], ◌∷◌, ◌++◌, add-zero, append-nil, drop, take, length, Option, Some, None, Result, Ok, Err, ℤ, refl, sym, ap, subst, arith}
-use Rattle.std.proofs.Math.Seq.{drop-length, take-append_seam, take-length}
+use Rattle.std.proofs.Common.{◌≡◌, inl, inr, ◌∙◌, ℕ, ◌≤◌, Bool, List, [], ◌∷◌, ◌++◌, add-zero, append-nil, take, length, Option, Some, None, Result, Ok, Err, ℤ, refl, sym, ap, subst, arith}
+use Rattle.std.proofs.Math.Seq.{drop-length}
 use Rattle.std.proofs.lemmas.List.Elements.{All-cons, All-nil}
 use Rattle.farm_base.specs.Counts.{raised}
 use Rattle.farm_base.specs.Known.{Adds}
@@ -20,24 +20,19 @@ use Rattle.http_requests.specs.Hearing.{IsHeard}
 use Rattle.http_requests.specs.declared.asked.Asked.TheVariants as asks
 use Rattle.http_requests.specs.declared.heard.Heard.{Heard}
 use Rattle.http_requests.specs.declared.heard.Heard.TheVariants.{Need, NoMemory, Broken, Got}
-use Rattle.journaled_book.specs.Histories.{HasGrown, front_of}
+use Rattle.journaled_book.specs.Histories.{front_of}
 use Rattle.journaled_book.specs.Replies.{IsAnswered, faults_of}
 use Rattle.journaled_book.specs.declared.answer.Answer.{Answer}
 use Rattle.journaled_book.specs.declared.answer.Answer.TheVariants as answers
 use Rattle.desk_access.specs.Access.{CallerState, Continues, IsAsked}
 use Rattle.desk_access.proofs.Asking.{grown}
 use Rattle.desk_posts.specs.Calls.{AsksWellFormed, IsMeant, IsShown, PutsPage, meant_by}
-use Rattle.desk_posts.specs.Exchanges.{Exchange, Follow, IsAskedDesk, IsExchange, IsReply, IsStatusPage, IsUnasked, ShowsAnswer, ends_after, size_of}
+use Rattle.desk_posts.specs.Exchanges.{Exchange, IsAskedDesk, IsExchange, IsReply, IsStatusPage, IsUnasked, ShowsAnswer, ends_after, size_of}
 use Rattle.desk_posts.specs.Visits.{Exchanges}
-use Rattle.desk_access.proofs.Fronts.{continues_on, front_whole, no_shorter}
+use Rattle.desk_access.proofs.Fronts.{continues_on, front_whole, grown_continues, no_shorter}
 use Rattle.desk_posts.proofs.Refusals.{answer_503, answer_507, bad_answer, broken_answer}
-
--- a history that has grown continues what it was
-pub grown_continues : (old new : History) → HasGrown old new → Continues old new
-grown_continues old new (inl same) = ap (λ (history : History). front_of history (last_place old)) same ∙ front_whole old
-grown_continues old new (inr (entry, more)) =
-    ap (λ (history : History). front_of history (last_place old)) more
-    ∙ ap (λ (entries : List Entry). let history : History = record { site = old.site; entries = entries } in history) (take-append_seam old.entries (entry ∷ []))
+use Rattle.desk_access.proofs.Spans.{all_taken}
+use Rattle.desk_access.specs.Spans.{Follow}
 
 -- what follows from a reply holds of each answer that is one
 on_reply : (answer : Answer) (P : Type 0) → ((reply : Reply) → answer ≡ answers.Done reply → P) → IsReply (Some answer) → P
@@ -65,12 +60,6 @@ pub record IsOnHistory (may_follow : History → History → Type 0) (may_give :
   pub before : History
   pub answered : IsExchange may_give limit old.caller new.seen heard (exchange_of heard answer page before new.seen)
   pub exchanged : Exchanges may_follow old new (exchange_of heard answer page before new.seen ∷ [])
-
--- the entries up to the last one are all
-all_taken : (history : History) (from : ℕ) → drop from history.entries ≡ drop from (take (last_place history) history.entries) ++ []
-all_taken history from =
-    sym (append-nil (drop from (take (last_place history) history.entries))
-    ∙ ap (λ (entries : List Entry). drop from entries) (take-length history.entries))
 
 -- what a request that the desk was asked did to the access
 asked_exchanged : (may_follow : History → History → Type 0) (limit : ℕ) (now : ℤ) (ask : Ask) (answer : Answer) (heard : Heard) (page : Page) (old new : CallerState) →

@@ -1,91 +1,25 @@
 -- A post as it runs.
-use Rattle.std.proofs.Common.{◌≡◌, ◌∙◌, inl, inr, ◌⊎◌, ℕ, ◌+◌, ◌≤◌, Bool, true, false, List, [], ◌∷◌, ◌++◌, length, length-append, drop, Option, None, Some, refl, sym, ap, subst, arith, ℤ}
+use Rattle.std.proofs.Common.{◌≡◌, ◌∙◌, ℕ, ◌≤◌, true, false, List, [], ◌∷◌, ◌++◌, length, length-append, drop, Option, refl, sym, ap, subst, arith, ℤ}
 use Rattle.std.proofs.lemmas.Grind.{flat_map-append}
 use Rattle.std.proofs.lemmas.List.{append-nil, drop_all, same_from_push}
-use Rattle.std.proofs.lemmas.List.Elements.{All-append, All-cons, All-head, All-nil, All-tail}
-use Rattle.std.specs.List.{All, flat_map}
+use Rattle.std.proofs.lemmas.List.Elements.{All-append, All-cons, All-nil}
+use Rattle.std.specs.List.{All}
 use Rattle.farm_base.specs.Counts.{Count, HasRisen, IsQuiet}
 use Rattle.farm_history.specs.History.{History, last_place}
-use Rattle.farm_history.specs.declared.entry.Entry.{Entry}
 use Rattle.farm_listeners.proofs.Events.{events_add_up, no_call_adds_none}
 use Rattle.farm_listeners.specs.Listeners.{AddsEvents, Came, Connection, Event, Left, Listened}
-use Rattle.desk_access.specs.Access.{CallerState, Continues, LooksOn, has_stop}
-use Rattle.desk_posts.specs.Conversations.{EndsAs, IsConversation, Served, StopsAtOnce, Visited, all_exchanges, events_of, last_events, listened, refused}
-use Rattle.desk_posts.specs.Courses.{Act, EndsWith, Exchanged, IsEnded, IsServed, StayedOpen, at_end, answered, exchanges_of, not_put, not_taken}
-use Rattle.desk_posts.specs.Exchanges.{Exchange, ends_after, sees_stop}
-use Rattle.desk_posts.specs.Limits.{most_requests}
+use Rattle.desk_access.specs.Access.{AreFollowers, CallerState, Continues, LooksOn, has_stop}
+use Rattle.desk_posts.specs.Conversations.{EndsAs, IsConversation, Served, StopsAtOnce, all_exchanges, events_of, last_events, listened, refused}
+use Rattle.desk_posts.specs.Courses.{IsServed, exchanges_of}
+use Rattle.desk_posts.specs.Exchanges.{Exchange, sees_stop, span_of}
 use Rattle.desk_posts.specs.Visits.{Exchanges, Serves}
 use Rattle.desk_posts.specs.declared.posts.PostEnd.{PostEnd}
 use Rattle.desk_posts.specs.declared.posts.PostEnd.TheVariants as how
-use Rattle.desk_posts.proofs.Acts.{exchanges_of-append}
-use Rattle.desk_posts.proofs.Following.{AreLaws, exchanges_add_up, follow_within, looked, no_exchange}
-use Rattle.desk_access.proofs.Lists.{all_by, all_first, all_last}
-use Rattle.desk_posts.proofs.Longer.{IsWithin, exchanges_on, none_seen, stays_open_on, stop_on}
-
--- a connection that stayed open did so on a history that continues this one
-stayed_on : (opened : ℕ) (first next : History) (exchanges : List Exchange) → Continues first next → All (IsWithin (last_place first)) exchanges →
-    StayedOpen opened first exchanges → StayedOpen opened next exchanges
-stayed_on opened first next exchanges continues within stayed =
-    record { each = stays_open_on opened first next exchanges continues within stayed.each; fewer = stayed.fewer }
-
--- the exchanges of acts that end with an exchange
-ends_are : (acts before : List Act) (last : Exchange) → acts ≡ before ++ Exchanged last ∷ [] → exchanges_of acts ≡ exchanges_of before ++ last ∷ []
-ends_are acts before last are = ap exchanges_of are ∙ exchanges_of-append before (Exchanged last ∷ [])
-
--- a connection ended with an exchange on a longer history too
-ends_on : (opened : ℕ) (first next : History) (before : List Exchange) (last : Exchange) → Continues first next → IsWithin (last_place first) last →
-    EndsWith opened first before last → EndsWith opened next before last
-ends_on opened first next before last continues within (inl is_last) = inl is_last
-ends_on opened first next before last continues within (inr (inl stop)) = inr (inl (stop_on opened first next last continues within ∙ stop))
-ends_on opened first next before last continues within (inr (inr full)) = inr (inr full)
-
--- a connection ended as soon as it had a cause to
-ended_on : (opened : ℕ) (first next : History) (conn : Connection) (acts : List Act) (in_hand : List ℕ) → Continues first next →
-    All (IsWithin (last_place first)) (exchanges_of acts) → IsEnded opened first conn acts in_hand → IsEnded opened next conn acts in_hand
-ended_on opened first next conn acts in_hand continues within (at_end stayed put need left quiet) =
-    at_end (stayed_on opened first next (exchanges_of acts) continues within stayed) put need left quiet
-ended_on opened first next conn acts in_hand continues within (not_taken stayed put need failed) =
-    not_taken (stayed_on opened first next (exchanges_of acts) continues within stayed) put need failed
-ended_on opened first next conn acts in_hand continues within (answered before last are stayed ends put quiet) =
-    let split = subst (λ (all : List Exchange). All (IsWithin (last_place first)) all) (ends_are acts before last are) within in
-    answered before last are
-    (stayed_on opened first next (exchanges_of before) continues (all_first (IsWithin (last_place first)) (exchanges_of before) (last ∷ []) split) stayed)
-    (ends_on opened first next (exchanges_of before) last continues
-    (All-head (IsWithin (last_place first)) last [] (all_last (IsWithin (last_place first)) (exchanges_of before) (last ∷ []) split)) ends)
-    put quiet
-ended_on opened first next conn acts in_hand continues within (not_put before last are stayed put failed) =
-    let split = subst (λ (all : List Exchange). All (IsWithin (last_place first)) all) (ends_are acts before last are) within in
-    not_put before last are
-    (stayed_on opened first next (exchanges_of before) continues (all_first (IsWithin (last_place first)) (exchanges_of before) (last ∷ []) split) stayed)
-    put failed
-
--- a connection was served on a longer history too
-served_on : (may_give : ℤ → Type 0) (limit caller opened : ℕ) (first next : History) (conn : Connection) (acts : List Act) → Continues first next →
-    All (IsWithin (last_place first)) (exchanges_of acts) → IsServed may_give limit caller opened first conn acts →
-    IsServed may_give limit caller opened next conn acts
-served_on may_give limit caller opened first next conn acts continues within served = record {
-  taken = served.taken;
-  in_hand = served.in_hand;
-  cut = served.cut;
-  answered = exchanges_on may_give limit caller first next (exchanges_of acts) continues within served.answered;
-  ended = ended_on opened first next conn acts served.in_hand continues within served.ended;
-}
-
--- and so were all connections
-each_on : (may_give : ℤ → Type 0) (limit caller opened : ℕ) (first next : History) (served : List Served) → Continues first next →
-    All (IsWithin (last_place first)) (all_exchanges served) →
-    All (λ (visit : Served). IsServed may_give limit caller opened first visit.conn visit.acts) served →
-    All (λ (visit : Served). IsServed may_give limit caller opened next visit.conn visit.acts) served
-each_on may_give limit caller opened first next [] continues within each =
-    All-nil (λ (visit : Served). IsServed may_give limit caller opened next visit.conn visit.acts)
-each_on may_give limit caller opened first next (visit ∷ served) continues within each =
-    All-cons (λ (other : Served). IsServed may_give limit caller opened next other.conn other.acts) visit served
-    (served_on may_give limit caller opened first next visit.conn visit.acts continues
-    (all_first (IsWithin (last_place first)) (exchanges_of visit.acts) (all_exchanges served) within)
-    (All-head (λ (other : Served). IsServed may_give limit caller opened first other.conn other.acts) visit served each))
-    (each_on may_give limit caller opened first next served continues
-    (all_last (IsWithin (last_place first)) (exchanges_of visit.acts) (all_exchanges served) within)
-    (All-tail (λ (other : Served). IsServed may_give limit caller opened first other.conn other.acts) visit served each))
+use Rattle.desk_posts.proofs.Following.{exchanges_add_up, looked, no_exchange}
+use Rattle.desk_access.proofs.Lists.{all_by, all_first}
+use Rattle.desk_posts.proofs.Longer.{none_seen, stop_on}
+use Rattle.desk_posts.proofs.Standing.{each_on}
+use Rattle.desk_access.proofs.Spans.{IsWithin, follow_within}
 
 -- what a post that listened did: the connections that it served
 pub record Serving (may_follow : History → History → Type 0) (may_give : ℤ → Type 0) (limit port : ℕ) (events_before events_now : Option (List Event))
@@ -107,10 +41,10 @@ abbrev NoneSees : ℕ → History → List Exchange → Type 0
 NoneSees opened history exchanges = All (λ (exchange : Exchange). sees_stop opened history exchange ≡ false) exchanges
 
 -- if no Stop was seen on a history, none of its exchanges sees one on a longer one
-none_sees : (opened : ℕ) (first next : History) (exchanges : List Exchange) → Continues first next → All (IsWithin (last_place first)) exchanges →
+none_sees : (opened : ℕ) (first next : History) (exchanges : List Exchange) → Continues first next → All (IsWithin span_of (last_place first)) exchanges →
     has_stop (drop opened first.entries) ≡ false → NoneSees opened next exchanges
 none_sees opened first next exchanges continues within none =
-    all_by (IsWithin (last_place first)) (λ (exchange : Exchange). sees_stop opened next exchange ≡ false) exchanges
+    all_by (IsWithin span_of (last_place first)) (λ (exchange : Exchange). sees_stop opened next exchange ≡ false) exchanges
     (λ exchange there. stop_on opened first next exchange continues there ∙ none_seen opened first exchange none) within
 
 -- if no exchange sees a Stop, none before the last connection does
@@ -131,7 +65,7 @@ none_at_opening opened history is =
     ap has_stop (drop_all opened history.entries all)
 
 -- a post that listened has served nobody
-pub listens : (may_follow : History → History → Type 0) → AreLaws may_follow → (may_give : ℤ → Type 0) (limit port : ℕ)
+pub listens : (may_follow : History → History → Type 0) → AreFollowers may_follow → (may_give : ℤ → Type 0) (limit port : ℕ)
     (events_before events_now : Option (List Event)) (state : CallerState) → AddsEvents events_before events_now (Listened port false ∷ []) →
     state.opened ≡ last_place state.seen → IsRunning may_follow may_give limit port events_before events_now state state
 listens may_follow laws may_give limit port events_before events_now state adds just_opened = record {
@@ -146,7 +80,7 @@ listens may_follow laws may_give limit port events_before events_now state adds 
 }
 
 -- a connection came, was served and handed back
-pub serves_one : (may_follow : History → History → Type 0) → AreLaws may_follow → (may_give : ℤ → Type 0) (limit port : ℕ)
+pub serves_one : (may_follow : History → History → Type 0) → AreFollowers may_follow → (may_give : ℤ → Type 0) (limit port : ℕ)
     (events_before events_now events_came events_left : Option (List Event)) (old middle new : CallerState) (conn : Connection) →
     (runs : IsRunning may_follow may_give limit port events_before events_now old middle) → AddsEvents events_now events_came (Came ∷ []) →
     (serves : Serves may_follow may_give limit conn middle new) → AddsEvents events_came events_left (Left conn ∷ []) →
@@ -156,7 +90,7 @@ serves_one may_follow laws may_give limit port events_before events_now events_c
     let serving = runs.serving in
     let visit : Served = record { conn = conn; acts = serves.acts } in
     let continues = serves.exchanged.continues in
-    let within = follow_within may_follow middle.seen (last_place old.seen) (all_exchanges served) (last_place middle.seen) serving.exchanged.follow in
+    let within = follow_within span_of may_follow middle.seen (last_place old.seen) (all_exchanges served) (last_place middle.seen) serving.exchanged.follow in
     let here = subst (λ (caller : ℕ). IsServed may_give limit caller old.opened new.seen conn serves.acts) serving.exchanged.stays.caller
     (subst (λ (opened : ℕ). IsServed may_give limit middle.caller opened new.seen conn serves.acts) serving.exchanged.stays.opened serves.served) in
     let none = none_sees old.opened middle.seen new.seen (all_exchanges served) continues within runs.no_stop in
@@ -179,7 +113,7 @@ serves_one may_follow laws may_give limit port events_before events_now events_c
     }
 
 -- nobody came, and the caller looked
-pub looks_on : (may_follow : History → History → Type 0) → AreLaws may_follow → (may_give : ℤ → Type 0) (limit port : ℕ)
+pub looks_on : (may_follow : History → History → Type 0) → AreFollowers may_follow → (may_give : ℤ → Type 0) (limit port : ℕ)
     (events_before events_now events_later : Option (List Event)) (old middle new : CallerState) →
     (runs : IsRunning may_follow may_give limit port events_before events_now old middle) → AddsEvents events_now events_later [] →
     LooksOn may_follow middle new → Serving may_follow may_give limit port events_before events_later old new runs.served
@@ -187,7 +121,7 @@ looks_on may_follow laws may_give limit port events_before events_now events_lat
     let served = runs.served in
     let serving = runs.serving in
     let more = looked may_follow laws middle new looks in
-    let within = follow_within may_follow middle.seen (last_place old.seen) (all_exchanges served) (last_place middle.seen) serving.exchanged.follow in
+    let within = follow_within span_of may_follow middle.seen (last_place old.seen) (all_exchanges served) (last_place middle.seen) serving.exchanged.follow in
     record {
       events = subst (λ (events : List Event). AddsEvents events_before events_later events) (append-nil (Listened port false ∷ events_of served))
           (events_add_up events_before events_now events_later (Listened port false ∷ events_of served) [] serving.events idle);
@@ -223,7 +157,7 @@ converses may_follow may_give limit port events_before events_now events_after c
 }
 
 -- a post whose listener didn't listen
-pub refuses : (may_follow : History → History → Type 0) → AreLaws may_follow → (may_give : ℤ → Type 0) (limit port : ℕ)
+pub refuses : (may_follow : History → History → Type 0) → AreFollowers may_follow → (may_give : ℤ → Type 0) (limit port : ℕ)
     (events_before events_after : Option (List Event)) (count : Count) (state : CallerState) → state.opened ≡ last_place state.seen →
     AddsEvents events_before events_after (Listened port true ∷ []) → HasRisen count →
     IsConversation may_follow may_give limit port events_before events_after count state state how.ListenerFailed

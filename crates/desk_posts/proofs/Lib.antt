@@ -7,4 +7,6 @@ pub mod Refusals
 pub mod Answering
 pub mod Acts
 pub mod Connections
+pub mod Meeting
+pub mod Standing
 pub mod Conversing

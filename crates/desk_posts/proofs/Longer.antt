@@ -1,7 +1,6 @@
 -- What holds on a history holds on one that continues it.
-use Rattle.std.proofs.Common.{◌≡◌, ◌∙◌, ◌||◌, ℕ, zero, suc, ◌≤◌, Bool, true, false, List, [], ◌∷◌, ◌++◌, take, drop, refl, sym, ap, ap₂, subst, arith, ℤ}
+use Rattle.std.proofs.Common.{◌≡◌, ◌∙◌, ◌||◌, ℕ, zero, suc, Bool, true, false, List, [], ◌∷◌, take, drop, refl, sym, ap, subst, ℤ}
 use Rattle.std.proofs.lemmas.List.{take-append-drop}
-use Rattle.std.proofs.lemmas.List.Elements.{All-head, All-tail}
 use Rattle.std.proofs.lemmas.List.Folds.{list_any-append}
 use Rattle.std.specs.List.{All}
 use Rattle.farm_history.specs.Commands.{is_stop}
@@ -16,18 +15,14 @@ use Rattle.journaled_book.specs.Histories.{front_of}
 use Rattle.journaled_book.specs.Replies.{IsAnswered}
 use Rattle.desk_access.specs.Access.{Continues, has_stop}
 use Rattle.desk_posts.specs.Courses.{StaysOpen}
-use Rattle.desk_posts.specs.Exchanges.{Exchange, IsAskedDesk, IsExchange, entered_by, entered_in, sees_stop}
+use Rattle.desk_posts.specs.Exchanges.{Exchange, IsAskedDesk, IsExchange, sees_stop, span_of}
 use Rattle.desk_access.proofs.Fronts.{entries_of_longer, front_of_longer}
 use Rattle.desk_access.proofs.Lists.{all_by_both}
-
--- the places of an exchange are within the first ones, this many
-pub record IsWithin (most : ℕ) (exchange : Exchange) : Type 0 where
-  pub before : exchange.before ≤ most
-  pub after : exchange.after ≤ most
+use Rattle.desk_access.proofs.Spans.{IsWithin}
 
 -- the desk's answer stands
 asked_on : (may_give : ℤ → Type 0) (limit caller : ℕ) (first next : History) (ask : Ask) (exchange : Exchange) → Continues first next →
-    IsWithin (last_place first) exchange → IsAskedDesk may_give limit caller first ask exchange → IsAskedDesk may_give limit caller next ask exchange
+    IsWithin span_of (last_place first) exchange → IsAskedDesk may_give limit caller first ask exchange → IsAskedDesk may_give limit caller next ask exchange
 asked_on may_give limit caller first next ask exchange continues within asked =
     let before_is = front_of_longer first next exchange.before continues within.before in
     let after_is = front_of_longer first next exchange.after continues within.after in
@@ -46,7 +41,7 @@ asked_on may_give limit caller first next ask exchange continues within asked =
 
 -- an exchange stands
 pub exchange_on : (may_give : ℤ → Type 0) (limit caller : ℕ) (first next : History) (heard : Heard) (exchange : Exchange) → Continues first next →
-    IsWithin (last_place first) exchange → IsExchange may_give limit caller first heard exchange → IsExchange may_give limit caller next heard exchange
+    IsWithin span_of (last_place first) exchange → IsExchange may_give limit caller first heard exchange → IsExchange may_give limit caller next heard exchange
 exchange_on may_give limit caller first next Need exchange continues within is = is
 exchange_on may_give limit caller first next NoMemory exchange continues within is = is
 exchange_on may_give limit caller first next (Broken status) exchange continues within is = is
@@ -56,44 +51,29 @@ exchange_on may_give limit caller first next (Got (asks.Bad status allow) last u
 
 -- and so do all exchanges
 pub exchanges_on : (may_give : ℤ → Type 0) (limit caller : ℕ) (first next : History) (exchanges : List Exchange) → Continues first next →
-    All (IsWithin (last_place first)) exchanges →
+    All (IsWithin span_of (last_place first)) exchanges →
     All (λ (exchange : Exchange). IsExchange may_give limit caller first exchange.heard exchange) exchanges →
     All (λ (exchange : Exchange). IsExchange may_give limit caller next exchange.heard exchange) exchanges
 exchanges_on may_give limit caller first next exchanges continues within each =
-    all_by_both (IsWithin (last_place first)) (λ (exchange : Exchange). IsExchange may_give limit caller first exchange.heard exchange)
+    all_by_both (IsWithin span_of (last_place first)) (λ (exchange : Exchange). IsExchange may_give limit caller first exchange.heard exchange)
     (λ (exchange : Exchange). IsExchange may_give limit caller next exchange.heard exchange) exchanges
     (λ exchange there is. exchange_on may_give limit caller first next exchange.heard exchange continues there is) within each
 
 -- an exchange sees a Stop or not, as before
-pub stop_on : (opened : ℕ) (first next : History) (exchange : Exchange) → Continues first next → IsWithin (last_place first) exchange →
+pub stop_on : (opened : ℕ) (first next : History) (exchange : Exchange) → Continues first next → IsWithin span_of (last_place first) exchange →
     sees_stop opened next exchange ≡ sees_stop opened first exchange
 stop_on opened first next exchange continues within =
     ap (λ (entries : List Entry). has_stop (drop opened entries)) (entries_of_longer first next exchange.after continues within.after)
 
 -- a connection stays open after it, as before
-pub stays_open_on : (opened : ℕ) (first next : History) (exchanges : List Exchange) → Continues first next → All (IsWithin (last_place first)) exchanges →
+pub stays_open_on : (opened : ℕ) (first next : History) (exchanges : List Exchange) → Continues first next → All (IsWithin span_of (last_place first)) exchanges →
     All (StaysOpen opened first) exchanges → All (StaysOpen opened next) exchanges
 stays_open_on opened first next exchanges continues within each =
-    all_by_both (IsWithin (last_place first)) (StaysOpen opened first) (StaysOpen opened next) exchanges
+    all_by_both (IsWithin span_of (last_place first)) (StaysOpen opened first) (StaysOpen opened next) exchanges
     (λ exchange there stays. record {
       not_last = stays.not_last;
       no_stop = stop_on opened first next exchange continues there ∙ stays.no_stop;
     }) within each
-
--- an exchange entered what it did
-entered_by_on : (first next : History) (exchange : Exchange) → Continues first next → IsWithin (last_place first) exchange →
-    entered_by next exchange ≡ entered_by first exchange
-entered_by_on first next exchange continues within =
-    ap (λ (entries : List Entry). drop exchange.before entries) (entries_of_longer first next exchange.after continues within.after)
-
--- and so did all exchanges
-pub entered_on : (first next : History) (exchanges : List Exchange) → Continues first next → All (IsWithin (last_place first)) exchanges →
-    entered_in next exchanges ≡ entered_in first exchanges
-entered_on first next [] continues within = refl
-entered_on first next (exchange ∷ exchanges) continues within =
-    ap₂ (λ (these those : List Entry). these ++ those)
-    (entered_by_on first next exchange continues (All-head (IsWithin (last_place first)) exchange exchanges within))
-    (entered_on first next exchanges continues (All-tail (IsWithin (last_place first)) exchange exchanges within))
 
 -- if not one of two holds, the first doesn't
 first_false : (first second : Bool) → (first || second) ≡ false → first ≡ false

@@ -1,5 +1,5 @@
 -- The bytes in hand among the bytes of a room.
-use Rattle.std.proofs.Common.{◌≡◌, ◌∙◌, ℕ, ◌+◌, ◌-◌, ◌<◌, ◌≤◌, List, [], ◌++◌, drop, take, length, length-drop, length-take, zero-add, Option, sym, ap, arith}
+use Rattle.std.proofs.Common.{◌≡◌, ◌∙◌, ℕ, ◌+◌, ◌-◌, ◌<◌, ◌≤◌, List, ◌++◌, drop, take, length, length-drop, length-take, zero-add, Option, sym, ap, arith}
 use Rattle.std.proofs.Math.Seq.{paste, take-add}
 use Rattle.std.proofs.lemmas.List.{drop-take}
 use Rattle.std.proofs.lemmas.List.Edits.{take-paste}

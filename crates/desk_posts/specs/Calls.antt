@@ -1,5 +1,5 @@
 -- What the calls on a connection do, one after another.
-use Rattle.std.specs.Prelude.{◌≡◌, ◌≢◌, ◌⊎◌, ℕ, ◌≤◌, Bool, List, [], ◌∷◌, length, map, take, Option, None, Some, Result, Ok, Err, ℤ}
+use Rattle.std.specs.Prelude.{◌≡◌, ◌≢◌, ◌⊎◌, ℕ, Bool, List, [], ◌∷◌, map, take, Option, None, Some, Result, Ok, Err, ℤ}
 use Rattle.std.specs.List.{concat}
 use Rattle.farm_base.specs.Known.{Adds, Stream, Takes, WhereKnown}
 use Rattle.farm_history.specs.Desk.{IsWellFormedAsk}

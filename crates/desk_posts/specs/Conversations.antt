@@ -1,5 +1,5 @@
 -- The conversation of a desk post: what it did on its listener, and what each connection was answered.
-use Rattle.std.specs.Prelude.{◌≡◌, ◌⊎◌, ℕ, Bool, true, false, All, List, [], ◌∷◌, ◌++◌, drop, flat_map, Option, ℤ}
+use Rattle.std.specs.Prelude.{◌≡◌, ℕ, true, false, All, List, [], ◌∷◌, ◌++◌, drop, flat_map, Option, ℤ}
 use Rattle.farm_base.specs.Counts.{Count, HasRisen, IsQuiet}
 use Rattle.farm_history.specs.History.{History}
 use Rattle.farm_listeners.specs.Listeners.{AddsEvents, Connection, Event, Listened, Came, Left, Ended}

@@ -1,10 +1,9 @@
 -- The course of a connection: what was taken from it, and what was heard and answered, in their order.
-use Rattle.std.specs.Prelude.{◌≡◌, ◌≢◌, ◌⊎◌, ℕ, ◌+◌, ◌<◌, ◌≤◌, Bool, true, false, All, List, [], ◌∷◌, ◌++◌, drop, length, take, ℤ}
+use Rattle.std.specs.Prelude.{◌≡◌, ◌≢◌, ◌⊎◌, ℕ, ◌+◌, ◌<◌, ◌≤◌, true, false, All, List, [], ◌∷◌, ◌++◌, drop, length, take, ℤ}
 use Rattle.farm_base.specs.Known.{WhereKnown}
 use Rattle.farm_history.specs.History.{History}
 use Rattle.farm_listeners.specs.Listeners.{Connection}
 use Rattle.http_requests.specs.Hearing.{IsHeard}
-use Rattle.http_requests.specs.declared.heard.Heard.{Heard}
 use Rattle.http_requests.specs.declared.heard.Heard.TheVariants.{Need}
 use Rattle.desk_posts.specs.Exchanges.{Exchange, IsExchange, ends_after, page_of, pages_of, sees_stop, size_of}
 use Rattle.desk_posts.specs.Limits.{most_requests}

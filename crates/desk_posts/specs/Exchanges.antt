@@ -1,7 +1,6 @@
 -- An exchange of a connection: a request as it was heard, the page that answers it, and what it did to the history.
-use Rattle.std.specs.Prelude.{◌≡◌, ◌⊎◌, ℕ, ◌+◌, ◌≤◌, Bool, true, false, All, List, [], ◌∷◌, ◌++◌, drop, flat_map, take, Option, None, Some, ℤ}
+use Rattle.std.specs.Prelude.{◌≡◌, ◌⊎◌, ℕ, ◌+◌, ◌≤◌, Bool, true, false, All, List, [], ◌∷◌, drop, flat_map, take, Option, None, Some, ℤ}
 use Rattle.farm_history.specs.declared.ask.Ask.{Ask}
-use Rattle.farm_history.specs.declared.entry.Entry.{Entry}
 use Rattle.farm_history.specs.Desk.{desk_answer}
 use Rattle.farm_history.specs.History.{History}
 use Rattle.farm_http.specs.declared.page.Allow.{Allow}
@@ -17,6 +16,7 @@ use Rattle.journaled_book.specs.Replies.{IsAnswered, faults_of}
 use Rattle.journaled_book.specs.declared.answer.Answer.{Answer}
 use Rattle.journaled_book.specs.declared.answer.Answer.TheVariants as answers
 use Rattle.desk_access.specs.Access.{has_stop}
+use Rattle.desk_access.specs.Spans.{Span}
 
 -- the answer where there is no memory for the one that is meant
 abbrev pub out_of_memory : Page
@@ -102,14 +102,6 @@ pages_of exchanges = flat_map page_of exchanges
 abbrev pub sees_stop : ℕ → History → Exchange → Bool
 sees_stop opened history exchange = has_stop (drop opened (take exchange.after history.entries))
 
--- the entries that an exchange entered: those after the ones on which its request was judged, up to what it left
-abbrev pub entered_by : History → Exchange → List Entry
-entered_by history exchange = drop exchange.before (take exchange.after history.entries)
-
--- the entries that exchanges entered, in their order
-abbrev pub entered_in : History → List Exchange → List Entry
-entered_in history exchanges = flat_map (entered_by history) exchanges
-
 -- how many faults of the disk the desk answered: 1 if that was its answer, and 0 if it gave another or wasn't asked
 abbrev pub faults_on : Option Answer → ℕ
 faults_on None = 0
@@ -131,10 +123,6 @@ IsReply None = ⊥
 abbrev pub AreAcknowledged : ℕ → List Exchange → Type 0
 AreAcknowledged most exchanges = All (λ exchange. IsReply exchange.answer → exchange.after ≤ most) exchanges
 
--- Exchanges follow one another on a history, from one number of its entries to another: each is judged on a history that may follow the one
--- that the exchange before left, and leaves no shorter one.
-unfoldable pub Follow : (History → History → Type 0) → History → ℕ → List Exchange → ℕ → Type 0
-Follow may_follow history from [] to = (from ≤ to) × may_follow (front_of history from) (front_of history to)
-Follow may_follow history from (exchange ∷ exchanges) to =
-    (from ≤ exchange.before) × may_follow (front_of history from) (front_of history exchange.before) × (exchange.before ≤ exchange.after)
-    × Follow may_follow history exchange.after exchanges to
+-- where an exchange stands on a history
+abbrev pub span_of : Exchange → Span
+span_of exchange = record { before = exchange.before; after = exchange.after }

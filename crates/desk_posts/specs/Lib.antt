@@ -5,3 +5,4 @@ pub mod Courses
 pub mod Calls
 pub mod Visits
 pub mod Conversations
+pub mod Laws

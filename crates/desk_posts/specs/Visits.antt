@@ -5,14 +5,15 @@ use Rattle.farm_history.specs.History.{History, last_place}
 use Rattle.farm_listeners.specs.Listeners.{Connection}
 use Rattle.desk_access.specs.Access.{CallerState, Continues, StaysCaller}
 use Rattle.desk_posts.specs.Courses.{Act, IsServed, exchanges_of}
-use Rattle.desk_posts.specs.Exchanges.{AreAcknowledged, Exchange, Follow, entered_in, faults_in}
+use Rattle.desk_posts.specs.Exchanges.{AreAcknowledged, Exchange, faults_in, span_of}
+use Rattle.desk_access.specs.Spans.{Follow, entered_in}
 
 -- What exchanges did to an access, from how it stood to how it stands: they follow one another on the history that its caller has seen since,
 -- what they entered is the caller's own, and each fault that they answered is counted. No reply rests on an entry that is in doubt.
 pub record Exchanges (may_follow : History → History → Type 0) (old new : CallerState) (exchanges : List Exchange) : Type 0 where
   pub continues : Continues old.seen new.seen
-  pub follow : Follow may_follow new.seen (last_place old.seen) exchanges (last_place new.seen)
-  pub own : new.own ≡ old.own ++ entered_in new.seen exchanges
+  pub follow : Follow span_of may_follow new.seen (last_place old.seen) exchanges (last_place new.seen)
+  pub own : new.own ≡ old.own ++ entered_in span_of new.seen exchanges
   pub faulted : new.faulted ≡ raised (faults_in exchanges) old.faulted
   pub acknowledged : AreAcknowledged new.certain exchanges
   pub stays : StaysCaller old new

@@ -6,6 +6,7 @@
 
 mod exchanging;
 mod hearing;
+mod laws;
 mod limits;
 mod number_laws;
 mod pages;
@@ -13,6 +14,7 @@ mod posts;
 mod room;
 mod serving;
 
+pub use laws::post_laws;
 pub use limits::MOST_REQUESTS;
 pub use number_laws::defined_numbers;
 pub use posts::{PostEnd, run_post};

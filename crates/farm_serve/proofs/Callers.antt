@@ -7,17 +7,18 @@ use Rattle.std.specs.List.{All}
 use Rattle.farm_history.specs.History.{History, last_place}
 use Rattle.farm_history.specs.declared.entry.Entry.{Entry}
 use Rattle.journaled_book.specs.Histories.{front_of}
-use Rattle.desk_posts.proofs.Longer.{IsWithin}
-use Rattle.desk_posts.specs.Exchanges.{Exchange, entered_by}
+use Rattle.desk_posts.specs.Exchanges.{Exchange, span_of}
 use Rattle.farm_serve.proofs.Growing.{HasGrownBy}
+use Rattle.desk_access.proofs.Spans.{IsWithin}
+use Rattle.desk_access.specs.Spans.{entered_by}
 
 -- an entry is of this caller
 abbrev pub IsOf : ℕ → Entry → Type 0
 IsOf caller entry = entry.caller ≡ caller
 
 -- what an exchange entered is of the caller by whose entry the history has grown, if it has
-pub entered_of : (caller : ℕ) (history : History) (exchange : Exchange) → IsWithin (last_place history) exchange →
-    HasGrownBy caller (front_of history exchange.before) (front_of history exchange.after) → All (IsOf caller) (entered_by history exchange)
+pub entered_of : (caller : ℕ) (history : History) (exchange : Exchange) → IsWithin span_of (last_place history) exchange →
+    HasGrownBy caller (front_of history exchange.before) (front_of history exchange.after) → All (IsOf caller) (entered_by span_of history exchange)
 entered_of caller history exchange within (inl same) =
     let first = take exchange.before history.entries in
     let no_more : length first ≤ exchange.before = omega (arith, length-take exchange.before history.entries) in

@@ -13,13 +13,11 @@ use Rattle.farm_listeners.specs.Listeners.{Event}
 use Rattle.journaled_book.proofs.Traces.{extends_same}
 use Rattle.journaled_book.specs.Histories.{certain, front_of}
 use Rattle.desk_access.specs.Sole.{SoleState, StandsLater, sole_caller}
-use Rattle.desk_posts.proofs.Following.{follow_within}
 use Rattle.desk_access.proofs.Fronts.{front_whole}
 use Rattle.desk_access.proofs.Lists.{all_by, all_by_both}
-use Rattle.desk_posts.proofs.Longer.{IsWithin}
 use Rattle.desk_posts.specs.Conversations.{EndsAs, IsConversation, Served, StopsAtOnce, all_exchanges}
 use Rattle.desk_posts.specs.Courses.{IsServed, exchanges_of}
-use Rattle.desk_posts.specs.Exchanges.{Exchange, IsExchange, IsReply, entered_by, entered_in, faults_in}
+use Rattle.desk_posts.specs.Exchanges.{Exchange, IsExchange, IsReply, faults_in, span_of}
 use Rattle.desk_posts.specs.declared.posts.PostEnd.{PostEnd}
 use Rattle.desk_posts.specs.declared.posts.PostEnd.TheVariants as how
 use Rattle.farm_serve.proofs.Callers.{IsOf, entered_of}
@@ -29,6 +27,8 @@ use Rattle.farm_serve.proofs.Raising.{raised_alike}
 use Rattle.farm_serve.proofs.Turns.{IsSeen, enters_at_most_one, follow_at_once}
 use Rattle.farm_serve.specs.Posts.{PostState}
 use Rattle.farm_serve.specs.Serving.{EntersAtMostOne, ServesDesk, ServesHistory, is_failed}
+use Rattle.desk_access.proofs.Spans.{IsWithin, follow_within}
+use Rattle.desk_access.specs.Spans.{entered_by, entered_in}
 
 -- each exchange of connections that were served leaves a history as it was, or with one entry more of the caller
 each_grown : (may_give : ℤ → Type 0) (limit caller opened : ℕ) (history : History) (served : List Served) →
@@ -54,16 +54,16 @@ serves_history may_give limit port events_before events_after count found left e
     let served = talk.served in
     let exchanges = all_exchanges served in
     let all : last_place after ≤ last_place after = omega arith in
-    let within = follow_within IsSeen after (last_place before) exchanges (last_place after) talk.exchanged.follow in
+    let within = follow_within span_of IsSeen after (last_place before) exchanges (last_place after) talk.exchanged.follow in
     let at_opening = subst (λ (place : ℕ). All (λ (visit : Served). IsServed may_give limit found.caller place after visit.conn visit.acts) served) opened talk.each in
     let each = subst (λ (caller : ℕ). All (λ (visit : Served). IsServed may_give limit caller (last_place before) after visit.conn visit.acts) served) sole at_opening in
     let Grown : Exchange → Type 0 = λ (exchange : Exchange). HasGrownBy 0 (front_of after exchange.before) (front_of after exchange.after) in
     let grown : All Grown exchanges = each_grown may_give limit 0 (last_place before) after served each in
     let none : drop (last_place before) before.entries ≡ [] = drop_all (last_place before) before.entries (omega arith) in
-    let entered : drop (last_place before) after.entries ≡ entered_in after exchanges =
+    let entered : drop (last_place before) after.entries ≡ entered_in span_of after exchanges =
     ap (λ (place : ℕ). drop place after.entries) (sym (talk.exchanged.stays.opened ∙ opened)) ∙ talk.exchanged.own
-    ∙ ap (λ (place : ℕ). drop place before.entries ++ entered_in after exchanges) opened
-    ∙ ap (λ (own : List Entry). own ++ entered_in after exchanges) none in
+    ∙ ap (λ (place : ℕ). drop place before.entries ++ entered_in span_of after exchanges) opened
+    ∙ ap (λ (own : List Entry). own ++ entered_in span_of after exchanges) none in
     record {
       served = served;
       end = end;
@@ -71,12 +71,12 @@ serves_history may_give limit port events_before events_after count found left e
       visited = talk.visited;
       each = each;
       in_turn = follow_at_once after (last_place before) exchanges (last_place after) all talk.exchanged.follow
-          (all_by_both (IsWithin (last_place after)) Grown EntersAtMostOne exchanges
+          (all_by_both (IsWithin span_of (last_place after)) Grown EntersAtMostOne exchanges
           (λ exchange there grown. enters_at_most_one 0 after exchange there grown) within grown);
       entered = entered;
       callers = subst (All (IsOf 0)) (sym entered)
-          (all_flat (IsOf 0) (entered_by after) exchanges
-          (all_by_both (IsWithin (last_place after)) Grown (λ (exchange : Exchange). All (IsOf 0) (entered_by after exchange)) exchanges
+          (all_flat (IsOf 0) (entered_by span_of after) exchanges
+          (all_by_both (IsWithin span_of (last_place after)) Grown (λ (exchange : Exchange). All (IsOf 0) (entered_by span_of after exchange)) exchanges
           (λ exchange there grown. entered_of 0 after exchange there grown) within grown));
       stops_at_once = subst (λ (place : ℕ). StopsAtOnce place after served) opened talk.stops_at_once;
       ends = subst (λ (place : ℕ). EndsAs place after count end) opened talk.ends;

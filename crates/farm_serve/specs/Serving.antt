@@ -11,10 +11,11 @@ use Rattle.farm_desk.specs.States.{DeskState}
 use Rattle.desk_access.specs.Access.{Continues}
 use Rattle.desk_posts.specs.Conversations.{EndsAs, Served, StopsAtOnce, Visited, all_exchanges}
 use Rattle.desk_posts.specs.Courses.{IsServed}
-use Rattle.desk_posts.specs.Exchanges.{AreAcknowledged, Exchange, entered_in, faults_in}
+use Rattle.desk_posts.specs.Exchanges.{AreAcknowledged, Exchange, faults_in, span_of}
 use Rattle.desk_posts.specs.declared.posts.PostEnd.{PostEnd}
 use Rattle.desk_posts.specs.declared.posts.PostEnd.TheVariants as ends
 use Rattle.farm_serve.specs.Posts.{PostState}
+use Rattle.desk_access.specs.Spans.{entered_in}
 
 -- whether a post ended since a call on its listener failed
 abbrev pub is_failed : PostEnd → Bool
@@ -44,7 +45,7 @@ pub record ServesHistory (may_give : ℤ → Type 0) (limit port : ℕ) (events_
   -- the first request is judged on the history that was found, and each other on what the one before left
   pub in_turn : FollowAtOnce (last_place found) exchanges (last_place left)
   -- the entries since are those that the exchanges entered, in their order, all of caller 0
-  pub entered : drop (last_place found) left.entries ≡ entered_in left exchanges
+  pub entered : drop (last_place found) left.entries ≡ entered_in span_of left exchanges
   pub callers : All (λ entry. entry.caller ≡ 0) (drop (last_place found) left.entries)
   -- it ended as soon as a Stop was seen, or its listener answered the end or failed
   pub stops_at_once : StopsAtOnce (last_place found) left served

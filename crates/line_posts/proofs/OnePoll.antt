@@ -10,13 +10,12 @@ use Rattle.modbus_poll.specs.declared.map.LineMap.{LineMap}
 use Rattle.modbus_poll.specs.declared.polled.Polled.{Polled}
 use Rattle.modbus_poll.specs.declared.polled.Polled.TheVariants.{Value}
 use Rattle.modbus_poll.specs.declared.raw.Raw.{Raw}
-use Rattle.desk_access.specs.Access.{CallerState, IsAsked}
+use Rattle.desk_access.specs.Access.{AreFollowers, CallerState, IsAsked}
 use Rattle.line_posts.specs.Polls.{Poll, Submits}
 use Rattle.line_posts.specs.States.{LineState}
 use Rattle.line_posts.specs.Steps.{AsksOnce, PollsOne, asks_of, counting}
 use Rattle.line_posts.specs.Submissions.{IsJudged}
 use Rattle.line_posts.specs.declared.submitting.Submitter.{Submitter}
-use Rattle.line_posts.proofs.Longer.{AreLaws}
 use Rattle.line_posts.proofs.Proceeding.{PollsLink, polled_alone, polled_submitted}
 use Rattle.line_posts.proofs.Requesting.{submits_once}
 
@@ -38,7 +37,7 @@ asks_once may_follow may_give limit now ask meant answer old new is given asked 
     subst (λ (said : Ask). AsksOnce may_follow may_give limit said old new) is (record { now = now; given = given; answer = answer; asked = asked })
 
 -- a poll of which nothing is submitted
-pub one_alone : (may_follow : History → History → Type 0) → AreLaws may_follow → (may_give : ℤ → Type 0) (limit : ℕ) (submitter : Submitter) (old new : LineState) (calls : List _)
+pub one_alone : (may_follow : History → History → Type 0) → AreFollowers may_follow → (may_give : ℤ → Type 0) (limit : ℕ) (submitter : Submitter) (old new : LineState) (calls : List _)
     (answer : Polled) → IsPoll old.poller new.poller calls answer → Submits new.poller new.poller answer None → index_of answer ≡ old.poller.next →
     PollsLink old new (record { calls = calls; answer = answer; submitted = None }) → new.access ≡ old.access →
     PollsOne may_follow may_give limit submitter submitter old new
@@ -53,7 +52,7 @@ one_alone may_follow laws may_give limit submitter old new calls answer asked su
     }
 
 -- a poll whose reading is due, and submitted
-pub one_submitted : (may_follow : History → History → Type 0) → AreLaws may_follow → (may_give : ℤ → Type 0) (limit : ℕ) (before after : Submitter) (old new : LineState)
+pub one_submitted : (may_follow : History → History → Type 0) → AreFollowers may_follow → (may_give : ℤ → Type 0) (limit : ℕ) (before after : Submitter) (old new : LineState)
     (polled : PollerState) (calls : List _) (answer : Polled) (index : ℕ) (raw : Raw) (gauge : GaugeMap) → IsPoll old.poller polled calls answer →
     answer ≡ Value index raw → index_of answer ≡ old.poller.next → IsGaugeAt polled.line index gauge → IsDue gauge (last_of polled index) raw →
     new.poller ≡ with_submitted polled index raw → AsksOnce may_follow may_give limit (asks_of before (before.count + 1) raw) old.access new.access →

@@ -11,7 +11,7 @@ use Rattle.farm_history.specs.History.{History, last_place}
 use Rattle.farm_ports.proofs.LinkCalls.{no_call_adds_none}
 use Rattle.farm_ports.specs.declared.links.LinkCall.{LinkCall}
 use Rattle.modbus_poll.specs.Polls.{PollerState, index_after, index_of}
-use Rattle.desk_access.specs.Access.{LooksOn}
+use Rattle.desk_access.specs.Access.{AreFollowers, LooksOn}
 use Rattle.line_posts.specs.Polls.{AreLinePolls, IsLinePoll, Poll, calls_in, gauges_in, requests_in}
 use Rattle.line_posts.specs.Requests.{Looked, Request, Submitted, submitted_in}
 use Rattle.line_posts.specs.Rounds.{Round}
@@ -19,7 +19,6 @@ use Rattle.line_posts.specs.States.{LineState, Proceeds}
 use Rattle.line_posts.specs.Steps.{PollsOne, RunsRound, asks_of, counting}
 use Rattle.line_posts.specs.Submissions.{Submission}
 use Rattle.line_posts.specs.declared.submitting.Submitter.{Submitter}
-use Rattle.line_posts.proofs.Longer.{AreLaws}
 use Rattle.line_posts.proofs.OnePoll.{none_counted}
 use Rattle.line_posts.proofs.Proceeding.{proceeds_add_up, proceeds_by_calls, proceeds_by_look}
 use Rattle.line_posts.proofs.Requesting.{submitted_in-append}
@@ -72,7 +71,7 @@ pub record IsPolling (may_follow : History → History → Type 0) (may_give : �
   pub next : new.poller.next ≡ next_after done (length old.poller.line.gauges)
 
 -- a round begins
-pub begins_polling : (may_follow : History → History → Type 0) → AreLaws may_follow → (may_give : ℤ → Type 0) (limit : ℕ) (submitter : Submitter) (state : LineState) →
+pub begins_polling : (may_follow : History → History → Type 0) → AreFollowers may_follow → (may_give : ℤ → Type 0) (limit : ℕ) (submitter : Submitter) (state : LineState) →
     state.poller.next ≡ 0 → IsPolling may_follow may_give limit submitter submitter state state 0
 unfolding AreLinePolls
 begins_polling may_follow laws may_give limit submitter state begins = record {
@@ -97,7 +96,7 @@ proceeds_from may_follow may_give limit first between count middle new calls req
     subst (λ (number : ℕ). Proceeds may_follow may_give limit (asks_of first) number middle new calls requests polls) (omega arith) there
 
 -- a round goes on by one poll
-pub polls_on : (may_follow : History → History → Type 0) → AreLaws may_follow → (may_give : ℤ → Type 0) (limit : ℕ) (first between after : Submitter) (old middle new : LineState) (done : ℕ) →
+pub polls_on : (may_follow : History → History → Type 0) → AreFollowers may_follow → (may_give : ℤ → Type 0) (limit : ℕ) (first between after : Submitter) (old middle new : LineState) (done : ℕ) →
     IsPolling may_follow may_give limit first between old middle done → PollsOne may_follow may_give limit between after middle new →
     done < length old.poller.line.gauges → new.poller.next ≡ index_after middle.poller.next (length middle.poller.line.gauges) →
     new.poller.line ≡ middle.poller.line → IsPolling may_follow may_give limit first after old new (done + 1)
@@ -137,7 +136,7 @@ polls_on may_follow laws may_give limit first between after old middle new done 
     }
 
 -- a round ends with a look
-pub ends_round : (may_follow : History → History → Type 0) → AreLaws may_follow → (may_give : ℤ → Type 0) (limit : ℕ) (first after : Submitter)
+pub ends_round : (may_follow : History → History → Type 0) → AreFollowers may_follow → (may_give : ℤ → Type 0) (limit : ℕ) (first after : Submitter)
     (old middle new : LineState) (done : ℕ) → IsPolling may_follow may_give limit first after old middle done → done ≡ length old.poller.line.gauges →
     new.calls ≡ middle.calls → new.faults ≡ middle.faults → new.poller ≡ middle.poller → LooksOn may_follow middle.access new.access →
     RunsRound may_follow may_give limit first after old new

@@ -12,9 +12,9 @@ use Rattle.farm_ports.specs.Links.{AddsCalls}
 use Rattle.farm_ports.specs.declared.links.LinkCall.{LinkCall}
 use Rattle.farm_ports.specs.declared.links.LinkCall.TheVariants.{Paused}
 use Rattle.modbus_poll.specs.Polls.{PollerState, fresh}
-use Rattle.desk_access.specs.Access.{CallerState, Continues, has_stop}
+use Rattle.desk_access.specs.Access.{AreFollowers, CallerState, Continues, has_stop}
 use Rattle.line_posts.specs.Polls.{AreLinePolls, Poll, calls_in}
-use Rattle.line_posts.specs.Requests.{Looked, Request, submitted_in}
+use Rattle.line_posts.specs.Requests.{Looked, Request, span_of, submitted_in}
 use Rattle.line_posts.specs.Rounds.{AreRounds, EndsAs, IsRound, Round, SeeNoStop, calls_of, polls_of, requests_of, round_requests, sees_stop, stopped}
 use Rattle.line_posts.specs.Runs.{IsLineRun}
 use Rattle.line_posts.specs.States.{LineState, Proceeds}
@@ -23,12 +23,12 @@ use Rattle.line_posts.specs.Submissions.{ask_of}
 use Rattle.line_posts.specs.declared.submitting.Submitter.{Submitter}
 use Rattle.desk_access.proofs.Fronts.{entries_of_longer}
 use Rattle.desk_access.proofs.Lists.{all_by_both, all_first, all_last}
-use Rattle.line_posts.proofs.Longer.{AreLaws, IsWithin, follow_within}
 use Rattle.line_posts.proofs.OnePoll.{none_counted}
 use Rattle.line_posts.proofs.OneRound.{proceeds_from}
 use Rattle.line_posts.proofs.Proceeding.{proceeds_add_up, proceeds_by_calls}
 use Rattle.line_posts.proofs.Remembering.{join_polls, submits_due}
 use Rattle.line_posts.proofs.Requesting.{submitted_in-append}
+use Rattle.desk_access.proofs.Spans.{IsWithin, follow_within}
 
 -- the polls of rounds are polls in a row
 are_polls : (old new : PollerState) (rounds : List Round) → AreRounds old new rounds → AreLinePolls old new (polls_of rounds)
@@ -71,25 +71,25 @@ looks_of P (round ∷ rounds) all =
     (looks_of P rounds (all_last P (round_requests round) (requests_of rounds) all))
 
 -- a look saw a Stop or not, on a longer history too
-stop_on : (opened : ℕ) (first next : History) (round : Round) → Continues first next → IsWithin (last_place first) (Looked round.seen) →
+stop_on : (opened : ℕ) (first next : History) (round : Round) → Continues first next → IsWithin span_of (last_place first) (Looked round.seen) →
     sees_stop opened next round ≡ sees_stop opened first round
 stop_on opened first next round continues within =
     ap (λ (entries : List Entry). has_stop (drop opened entries)) (entries_of_longer first next round.seen continues within.after)
 
 -- so did the look of one round
-pub stop_on_one : (opened : ℕ) (first next : History) (round : Round) → Continues first next → All (IsWithin (last_place first)) (requests_of (round ∷ [])) →
+pub stop_on_one : (opened : ℕ) (first next : History) (round : Round) → Continues first next → All (IsWithin span_of (last_place first)) (requests_of (round ∷ [])) →
     sees_stop opened next round ≡ sees_stop opened first round
 stop_on_one opened first next round continues within =
-    let looks = looks_of (IsWithin (last_place first)) (round ∷ []) within in
-    stop_on opened first next round continues (All-head (λ (one : Round). IsWithin (last_place first) (Looked one.seen)) round [] looks)
+    let looks = looks_of (IsWithin span_of (last_place first)) (round ∷ []) within in
+    stop_on opened first next round continues (All-head (λ (one : Round). IsWithin span_of (last_place first) (Looked one.seen)) round [] looks)
 
 -- and looks that saw none saw none
-pub none_on : (opened : ℕ) (first next : History) (rounds : List Round) → Continues first next → All (IsWithin (last_place first)) (requests_of rounds) →
+pub none_on : (opened : ℕ) (first next : History) (rounds : List Round) → Continues first next → All (IsWithin span_of (last_place first)) (requests_of rounds) →
     SeeNoStop opened first rounds → SeeNoStop opened next rounds
 none_on opened first next rounds continues within none =
-    all_by_both (λ (round : Round). IsWithin (last_place first) (Looked round.seen)) (λ (round : Round). sees_stop opened first round ≡ false)
+    all_by_both (λ (round : Round). IsWithin span_of (last_place first) (Looked round.seen)) (λ (round : Round). sees_stop opened first round ≡ false)
     (λ (round : Round). sees_stop opened next round ≡ false) rounds
-    (λ round there is. stop_on opened first next round continues there ∙ is) (looks_of (IsWithin (last_place first)) rounds within) none
+    (λ round there is. stop_on opened first next round continues there ∙ is) (looks_of (IsWithin span_of (last_place first)) rounds within) none
 
 -- what a line did since its run began, after so many rounds
 pub record HasRun (may_follow : History → History → Type 0) (may_give : ℤ → Type 0) (limit : ℕ) (first now : Submitter) (old new : LineState)
@@ -106,7 +106,7 @@ pub record IsRunning (may_follow : History → History → Type 0) (may_give : �
   pub none : SeeNoStop old.access.opened new.access.seen rounds
 
 -- a run begins
-pub begins_running : (may_follow : History → History → Type 0) → AreLaws may_follow → (may_give : ℤ → Type 0) (limit : ℕ) (first : Submitter) (state : LineState) →
+pub begins_running : (may_follow : History → History → Type 0) → AreFollowers may_follow → (may_give : ℤ → Type 0) (limit : ℕ) (first : Submitter) (state : LineState) →
     IsRunning may_follow may_give limit first first state state 0
 unfolding AreRounds
 begins_running may_follow laws may_give limit first state = record {
@@ -121,7 +121,7 @@ begins_running may_follow laws may_give limit first state = record {
 }
 
 -- a round after its pause, by what the submitter asks since the run began
-pub round_after_pause : (may_follow : History → History → Type 0) → AreLaws may_follow → (may_give : ℤ → Type 0) (limit : ℕ) (first between after : Submitter) (submitted : ℕ)
+pub round_after_pause : (may_follow : History → History → Type 0) → AreFollowers may_follow → (may_give : ℤ → Type 0) (limit : ℕ) (first between after : Submitter) (submitted : ℕ)
     (middle rested new : LineState) (pauses : List LinkCall) → between ≡ counting first submitted → AddsCalls middle.calls rested.calls pauses →
     rested.faults ≡ middle.faults → rested.access ≡ middle.access → (one : RunsRound may_follow may_give limit between after rested new) →
     Proceeds may_follow may_give limit (asks_of first) (first.count + 1 + submitted) middle new (pauses ++ calls_in one.round.polls)
@@ -137,7 +137,7 @@ round_after_pause may_follow laws may_give limit first between after submitted m
     proceeds_from may_follow may_give limit first between submitted middle new (pauses ++ calls) requests polls counted both
 
 -- a run goes on by one round
-pub runs_on : (may_follow : History → History → Type 0) → AreLaws may_follow → (may_give : ℤ → Type 0) (limit : ℕ) (first between after : Submitter) (old middle rested new : LineState) (done : ℕ) →
+pub runs_on : (may_follow : History → History → Type 0) → AreFollowers may_follow → (may_give : ℤ → Type 0) (limit : ℕ) (first between after : Submitter) (old middle rested new : LineState) (done : ℕ) →
     (running : IsRunning may_follow may_give limit first between old middle done) → AddsCalls middle.calls rested.calls (pauses_before done) →
     rested.faults ≡ middle.faults → rested.poller ≡ middle.poller → rested.access ≡ middle.access →
     (one : RunsRound may_follow may_give limit between after rested new) →
@@ -176,7 +176,7 @@ pub none_before : (may_follow : History → History → Type 0) (may_give : ℤ 
     SeeNoStop old.access.opened new.access.seen running.rounds
 none_before may_follow may_give limit first between old middle new done running continues =
     none_on old.access.opened middle.access.seen new.access.seen running.rounds continues
-    (follow_within may_follow middle.access.seen (last_place old.access.seen) (requests_of running.rounds) (last_place middle.access.seen)
+    (follow_within span_of may_follow middle.access.seen (last_place old.access.seen) (requests_of running.rounds) (last_place middle.access.seen)
     running.run.proceeds.requested.follow)
     running.none
 

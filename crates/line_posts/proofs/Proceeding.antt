@@ -11,13 +11,14 @@ use Rattle.modbus_poll.specs.Polls.{IsLinkFault}
 use Rattle.modbus_poll.specs.declared.polled.Polled.{Polled}
 use Rattle.modbus_poll.specs.declared.polled.Polled.TheVariants.{Value, NotValid, Exception, Wrong, LinkFault}
 use Rattle.modbus_poll.specs.declared.raw.Raw.{Raw}
-use Rattle.desk_access.specs.Access.{CallerState, LooksOn}
+use Rattle.desk_access.specs.Access.{AreFollowers, CallerState, LooksOn}
 use Rattle.line_posts.specs.Polls.{Poll, link_faults_in, link_faults_of}
-use Rattle.line_posts.specs.Requests.{AreJudged, Looked, Request, Requests, Submitted, submitted_in}
+use Rattle.line_posts.specs.Requests.{AreJudged, Looked, Request, Requests, Submitted, span_of, submitted_in}
 use Rattle.line_posts.specs.States.{LineState, Proceeds}
 use Rattle.line_posts.specs.Submissions.{IsJudged, Submission}
-use Rattle.line_posts.proofs.Longer.{AreLaws, follow_within, judged_on}
+use Rattle.line_posts.proofs.Longer.{judged_on}
 use Rattle.line_posts.proofs.Requesting.{judged_more, looked, no_request, requests_add_up}
+use Rattle.desk_access.proofs.Spans.{follow_within}
 
 -- the link faults of polls and then of others are their sum
 link_faults_in-append : (polls others : List Poll) → link_faults_in (polls ++ others) ≡ link_faults_in polls + link_faults_in others
@@ -27,14 +28,14 @@ link_faults_in-append (poll ∷ polls) others =
     omega (arith, rest)
 
 -- a line that proceeds, and then proceeds further
-pub proceeds_add_up : (may_follow : History → History → Type 0) → AreLaws may_follow → (may_give : ℤ → Type 0) (limit : ℕ) (asks : ℕ → Raw → Ask) (number : ℕ) (old middle new : LineState)
+pub proceeds_add_up : (may_follow : History → History → Type 0) → AreFollowers may_follow → (may_give : ℤ → Type 0) (limit : ℕ) (asks : ℕ → Raw → Ask) (number : ℕ) (old middle new : LineState)
     (calls more : List LinkCall) (requests others : List Request) (polls further : List Poll) →
     Proceeds may_follow may_give limit asks number old middle calls requests polls →
     Proceeds may_follow may_give limit asks (number + submitted_in requests) middle new more others further →
     Proceeds may_follow may_give limit asks number old new (calls ++ more) (requests ++ others) (polls ++ further)
 proceeds_add_up may_follow laws may_give limit asks number old middle new calls more requests others polls further earlier later =
     let sum = link_faults_in-append polls further in
-    let within = follow_within may_follow middle.access.seen (last_place old.access.seen) requests (last_place middle.access.seen) earlier.requested.follow in
+    let within = follow_within span_of may_follow middle.access.seen (last_place old.access.seen) requests (last_place middle.access.seen) earlier.requested.follow in
     record {
       added = calls_add_up old.calls middle.calls new.calls calls more earlier.added later.added;
       never_falls = omega (arith, earlier.never_falls, later.never_falls);
@@ -90,7 +91,7 @@ polled_with may_follow may_give limit asks number old new poll requests polls ju
 }
 
 -- a line proceeds by a poll of which nothing is submitted
-pub polled_alone : (may_follow : History → History → Type 0) → AreLaws may_follow → (may_give : ℤ → Type 0) (limit : ℕ) (asks : ℕ → Raw → Ask) (number : ℕ) (old new : LineState)
+pub polled_alone : (may_follow : History → History → Type 0) → AreFollowers may_follow → (may_give : ℤ → Type 0) (limit : ℕ) (asks : ℕ → Raw → Ask) (number : ℕ) (old new : LineState)
     (poll : Poll) → PollsLink old new poll → new.access ≡ old.access → Proceeds may_follow may_give limit asks number old new poll.calls [] (poll ∷ [])
 unfolding AreJudged
 polled_alone may_follow laws may_give limit asks number old new poll polls same =
@@ -112,7 +113,7 @@ rose_by_none : (before now : ℕ) → now ≡ before → RoseBy 0 before now
 rose_by_none before now same = omega (arith, same)
 
 -- a line proceeds by a look
-pub proceeds_by_look : (may_follow : History → History → Type 0) → AreLaws may_follow → (may_give : ℤ → Type 0) (limit : ℕ) (asks : ℕ → Raw → Ask) (number : ℕ)
+pub proceeds_by_look : (may_follow : History → History → Type 0) → AreFollowers may_follow → (may_give : ℤ → Type 0) (limit : ℕ) (asks : ℕ → Raw → Ask) (number : ℕ)
     (old new : LineState) → new.calls ≡ old.calls → new.faults ≡ old.faults → LooksOn may_follow old.access new.access →
     Proceeds may_follow may_give limit asks number old new [] (Looked (last_place new.access.seen) ∷ []) []
 unfolding AreJudged
@@ -126,7 +127,7 @@ proceeds_by_look may_follow laws may_give limit asks number old new same_calls s
 }
 
 -- a line proceeds by calls that count no fault, as a pause or none
-pub proceeds_by_calls : (may_follow : History → History → Type 0) → AreLaws may_follow → (may_give : ℤ → Type 0) (limit : ℕ) (asks : ℕ → Raw → Ask) (number : ℕ)
+pub proceeds_by_calls : (may_follow : History → History → Type 0) → AreFollowers may_follow → (may_give : ℤ → Type 0) (limit : ℕ) (asks : ℕ → Raw → Ask) (number : ℕ)
     (old new : LineState) (calls : List LinkCall) → AddsCalls old.calls new.calls calls → new.faults ≡ old.faults → new.access ≡ old.access →
     Proceeds may_follow may_give limit asks number old new calls [] []
 unfolding AreJudged

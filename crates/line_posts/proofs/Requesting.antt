@@ -1,6 +1,6 @@
 -- Requests of a desk, one after another.
-use Rattle.std.proofs.Common.{◌≡◌, ◌∙◌, inl, inr, ℕ, ◌+◌, ◌≤◌, List, [], ◌∷◌, ◌++◌, append_assoc, append-nil, add-zero, drop, take, refl, sym, ap, subst, arith, ℤ}
-use Rattle.std.proofs.Math.Seq.{drop-length, take-append_seam, take-length}
+use Rattle.std.proofs.Common.{◌≡◌, ◌∙◌, ℕ, ◌+◌, ◌≤◌, List, [], ◌∷◌, ◌++◌, append_assoc, append-nil, add-zero, refl, sym, ap, subst, arith, ℤ}
+use Rattle.std.proofs.Math.Seq.{drop-length}
 use Rattle.std.proofs.lemmas.Grind.{flat_map-append}
 use Rattle.std.proofs.lemmas.List.Elements.{All-append, All-cons, All-nil}
 use Rattle.farm_base.proofs.Rises.{faults_add_up}
@@ -10,19 +10,20 @@ use Rattle.farm_history.specs.History.{History, last_place}
 use Rattle.farm_history.specs.declared.ask.Ask.{Ask}
 use Rattle.farm_history.specs.declared.entry.Entry.{Entry}
 use Rattle.farm_history.specs.declared.reply.Reply.{Reply}
-use Rattle.journaled_book.specs.Histories.{HasGrown, front_of}
+use Rattle.journaled_book.specs.Histories.{front_of}
 use Rattle.journaled_book.specs.Replies.{IsAnswered, faults_of}
 use Rattle.journaled_book.specs.declared.answer.Answer.{Answer}
 use Rattle.journaled_book.specs.declared.answer.Answer.TheVariants as answers
 use Rattle.modbus_poll.specs.declared.raw.Raw.{Raw}
-use Rattle.desk_access.specs.Access.{CallerState, Continues, LooksOn}
+use Rattle.desk_access.specs.Access.{AreFollowers, CallerState, Continues, LooksOn}
 use Rattle.desk_access.proofs.Asking.{grown}
-use Rattle.line_posts.specs.Requests.{AreJudged, Follow, IsAcknowledged, IsReply, Looked, Request, Requests, Submitted, entered_by, entered_in, faults_in, submitted_in}
+use Rattle.line_posts.specs.Requests.{AreJudged, IsAcknowledged, IsReply, Looked, Request, Requests, Submitted, faults_in, span_of, submitted_in}
 use Rattle.line_posts.specs.Steps.{AsksOnce}
 use Rattle.line_posts.specs.Submissions.{IsJudged, Submission}
-use Rattle.desk_access.proofs.Fronts.{continues_on, front_whole, no_shorter}
+use Rattle.desk_access.proofs.Fronts.{continues_on, front_whole, grown_continues, no_shorter}
 use Rattle.desk_access.proofs.Lists.{all_by}
-use Rattle.line_posts.proofs.Longer.{AreLaws, entered_on, follow_more, follow_on, follow_within}
+use Rattle.desk_access.proofs.Spans.{all_taken, entered_on, follow_more, follow_on, follow_within}
+use Rattle.desk_access.specs.Spans.{Follow, entered_by, entered_in}
 
 -- the faults of requests and then of others are their sum
 faults_in-append : (requests others : List Request) → faults_in (requests ++ others) ≡ faults_in requests + faults_in others
@@ -62,20 +63,20 @@ acknowledged_on least most (Submitted submission) more known = λ reply. omega (
 acknowledged_on least most (Looked seen) more known = tt
 
 -- requests and then others are requests of both
-pub requests_add_up : (may_follow : History → History → Type 0) → AreLaws may_follow → (old middle new : CallerState) (requests others : List Request) →
+pub requests_add_up : (may_follow : History → History → Type 0) → AreFollowers may_follow → (old middle new : CallerState) (requests others : List Request) →
     Requests may_follow old middle requests → Requests may_follow middle new others → Requests may_follow old new (requests ++ others)
 requests_add_up may_follow laws old middle new requests others earlier later =
     let all : last_place middle.seen ≤ last_place middle.seen = omega arith in
-    let within = follow_within may_follow middle.seen (last_place old.seen) requests (last_place middle.seen) earlier.follow in
+    let within = follow_within span_of may_follow middle.seen (last_place old.seen) requests (last_place middle.seen) earlier.follow in
     record {
       continues = continues_on old.seen middle.seen new.seen earlier.continues later.continues;
-      follow = follow_more may_follow laws new.seen (last_place old.seen) requests (last_place middle.seen) others (last_place new.seen)
-          (follow_on may_follow middle.seen new.seen (last_place old.seen) requests (last_place middle.seen) later.continues all earlier.follow) later.follow;
-      own = later.own ∙ ap (λ (own : List Entry). own ++ entered_in new.seen others) earlier.own
-          ∙ append_assoc old.own (entered_in middle.seen requests) (entered_in new.seen others)
+      follow = follow_more span_of may_follow laws new.seen (last_place old.seen) requests (last_place middle.seen) others (last_place new.seen)
+          (follow_on span_of may_follow middle.seen new.seen (last_place old.seen) requests (last_place middle.seen) later.continues all earlier.follow) later.follow;
+      own = later.own ∙ ap (λ (own : List Entry). own ++ entered_in span_of new.seen others) earlier.own
+          ∙ append_assoc old.own (entered_in span_of middle.seen requests) (entered_in span_of new.seen others)
           ∙ ap (λ (more : List Entry). old.own ++ more)
-          (ap (λ (more : List Entry). more ++ entered_in new.seen others) (sym (entered_on middle.seen new.seen requests later.continues within))
-          ∙ sym (flat_map-append (entered_by new.seen) requests others));
+          (ap (λ (more : List Entry). more ++ entered_in span_of new.seen others) (sym (entered_on span_of middle.seen new.seen requests later.continues within))
+          ∙ sym (flat_map-append (entered_by span_of new.seen) requests others));
       faulted = later.faulted ∙ ap (raised (faults_in others)) earlier.faulted ∙ sym (faults_add_up (faults_in requests) (faults_in others) old.faulted)
           ∙ ap (λ (count : ℕ). raised count old.faulted) (sym (faults_in-append requests others));
       acknowledged = All-append (IsAcknowledged new.certain) requests others
@@ -90,7 +91,7 @@ requests_add_up may_follow laws old middle new requests others earlier later =
     }
 
 -- without a request an access stands as it stood
-pub no_request : (may_follow : History → History → Type 0) → AreLaws may_follow → (state : CallerState) → Requests may_follow state state []
+pub no_request : (may_follow : History → History → Type 0) → AreFollowers may_follow → (state : CallerState) → Requests may_follow state state []
 unfolding Follow
 no_request may_follow laws state = record {
   continues = front_whole state.seen;
@@ -101,14 +102,8 @@ no_request may_follow laws state = record {
   stays = record { caller = refl; opened = refl; surer = omega arith };
 }
 
--- the entries up to the last one are all
-all_taken : (history : History) (from : ℕ) → drop from history.entries ≡ drop from (take (last_place history) history.entries) ++ []
-all_taken history from =
-    sym (append-nil (drop from (take (last_place history) history.entries))
-    ∙ ap (λ (entries : List Entry). drop from entries) (take-length history.entries))
-
 -- a look is one request
-pub looked : (may_follow : History → History → Type 0) → AreLaws may_follow → (old new : CallerState) → LooksOn may_follow old new →
+pub looked : (may_follow : History → History → Type 0) → AreFollowers may_follow → (old new : CallerState) → LooksOn may_follow old new →
     Requests may_follow old new (Looked (last_place new.seen) ∷ [])
 unfolding Follow
 looked may_follow laws old new looks =
@@ -129,13 +124,6 @@ looked may_follow laws old new looks =
       stays = looks.stays;
     }
 
--- a history that has grown continues what it was
-grown_continues : (old new : History) → HasGrown old new → Continues old new
-grown_continues old new (inl same) = ap (λ (history : History). front_of history (last_place old)) same ∙ front_whole old
-grown_continues old new (inr (entry, more)) =
-    ap (λ (history : History). front_of history (last_place old)) more
-    ∙ ap (λ (entries : List Entry). let history : History = record { site = old.site; entries = entries } in history) (take-append_seam old.entries (entry ∷ []))
-
 -- what follows from a reply holds of each answer that is one
 on_reply : (answer : Answer) (P : Type 0) → ((reply : Reply) → answer ≡ answers.Done reply → P) → IsReply answer → P
 on_reply (answers.Done reply) P follows is = follows reply refl
@@ -150,7 +138,7 @@ pub record SubmitsOnce (may_follow : History → History → Type 0) (may_give :
   pub requested : Requests may_follow old new (Submitted submission ∷ [])
 
 -- an ask is a submission
-pub submits_once : (may_follow : History → History → Type 0) → AreLaws may_follow → (may_give : ℤ → Type 0) (limit : ℕ) (ask : Ask) (raw : Raw) (old new : CallerState) →
+pub submits_once : (may_follow : History → History → Type 0) → AreFollowers may_follow → (may_give : ℤ → Type 0) (limit : ℕ) (ask : Ask) (raw : Raw) (old new : CallerState) →
     AsksOnce may_follow may_give limit ask old new → SubmitsOnce may_follow may_give limit ask raw old new
 unfolding Follow
 submits_once may_follow laws may_give limit ask raw old new asks =

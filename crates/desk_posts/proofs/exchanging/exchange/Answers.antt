@@ -18,8 +18,8 @@ returns-clause-answered g c =
     let old = g.A.DeskAccess.state c.args.access.now in
     let new = g.A.DeskAccess.state c.meant_page-page.new.access in
     let shows = c.put_page.ensures.shows in
-    let on = on_history g.A.DeskAccess.may_follow (g.C.Clock.may_give c.args.clock.now) g.A.DeskAccess.limit c.access_laws.ensures.follows_itself
-    c.access_laws.ensures.continues c.args.heard c.meant_page-page.result shows.page old new c.meant_page-page.ensures.meant shows.shown in
+    let on = on_history g.A.DeskAccess.may_follow (g.C.Clock.may_give c.args.clock.now) g.A.DeskAccess.limit c.access_laws.ensures.followers.itself
+    c.access_laws.ensures.followers.continues c.args.heard c.meant_page-page.result shows.page old new c.meant_page-page.ensures.meant shows.shown in
     let exchange = exchange_of c.args.heard on.answer shows.page on.before new.seen in
     record {
       exchange = exchange;

@@ -1,25 +1,18 @@
 -- Answers to the open goals of `run_post`.
-use Rattle.std.proofs.Common.{rules, ◌≡◌, ◌∙◌, ℕ, ◌≤◌, Bool, true, false, List, [], ◌∷◌, ◌++◌, drop, Result, Ok, Err, Option, refl, sym, ap, subst, arith}
-use Rattle.std.specs.Prelude.{OnErr, OnOk}
+use Rattle.std.proofs.Common.{rules, ◌≡◌, ◌∙◌, ℕ, List, [], ◌∷◌, ◌++◌, sym, ap, subst, arith}
 use Rattle.farm_base.specs.Counts.{Rose, count_of}
 use Rattle.farm_listeners.specs.Listeners.{AddsAccepted, AddsEvents, Came, connection_of}
 use Rattle.farm_listeners.specs.declared.listeners.Accepted.{Accepted}
-use Rattle.desk_access.specs.Access.{has_stop}
 use Rattle.desk_posts.specs.Conversations.{Served}
 use Rattle.desk_posts.specs.declared.posts.PostEnd.TheVariants as how
-use Rattle.desk_posts.proofs.Conversing.{IsRunning, Serving, converses, goes_on, listens, looks_on, refuses, serves_one, stops}
-use Rattle.desk_posts.proofs.Following.{AreLaws}
+use Rattle.desk_posts.proofs.Conversing.{Serving, converses, goes_on, listens, looks_on, refuses, serves_one, stops}
 use Rattle.desk_posts.proofs.posts.run_post.Goals as goal
 use Rattle.desk_posts.proofs.posts.run_post.Goals.{in-Ok-Conn, in-Ok-Idle}
 
 pub returns-in-Err-clause-conversation : goal.returns-in-Err-clause-conversation
 returns-in-Err-clause-conversation g c =
     let follow = g.A.DeskAccess.may_follow in
-    let laws : AreLaws follow = record {
-      itself = c.access_laws.ensures.follows_itself;
-      on = c.access_laws.ensures.follows_on;
-      continues = c.access_laws.ensures.continues;
-    } in
+    let laws = c.access_laws.ensures.followers in
     refuses follow laws (g.C.Clock.may_give c.args.clock.now) g.A.DeskAccess.limit c.args.port (g.L.Listener.events c.args.listener.now)
     (g.L.Listener.events c.listen.new.self) (count_of g.L.Listener.faults c.args.listener.now c.listen.new.self) (g.A.DeskAccess.state c.args.access.now)
     c.requires.just_opened c.in-Err.ensures.event c.in-Err.ensures.cause.failed
@@ -27,11 +20,7 @@ returns-in-Err-clause-conversation g c =
 pub loop-init : goal.loop-init
 loop-init g c =
     let follow = g.A.DeskAccess.may_follow in
-    let laws : AreLaws follow = record {
-      itself = c.access_laws.ensures.follows_itself;
-      on = c.access_laws.ensures.follows_on;
-      continues = c.access_laws.ensures.continues;
-    } in (
+    let laws = c.access_laws.ensures.followers in (
       search rules,
       search rules,
       listens follow laws (g.C.Clock.may_give c.args.clock.now) g.A.DeskAccess.limit c.args.port (g.L.Listener.events c.args.listener.now)
@@ -79,11 +68,7 @@ returns-in-Err-accept-clause-never_falls g c =
 pub returns-then-stopped-clause-conversation : goal.returns-then-stopped-clause-conversation
 returns-then-stopped-clause-conversation g c =
     let follow = g.A.DeskAccess.may_follow in
-    let laws : AreLaws follow = record {
-      itself = c.access_laws.ensures.follows_itself;
-      on = c.access_laws.ensures.follows_on;
-      continues = c.access_laws.ensures.continues;
-    } in
+    let laws = c.access_laws.ensures.followers in
     let give = g.C.Clock.may_give c.args.clock.now in
     let limit = g.A.DeskAccess.limit in
     let events = g.L.Listener.events in
@@ -144,11 +129,7 @@ returns-then-stopped-clause-never_falls g c =
 pub loop-preserved : goal.loop-preserved
 loop-preserved g c =
     let follow = g.A.DeskAccess.may_follow in
-    let laws : AreLaws follow = record {
-      itself = c.access_laws.ensures.follows_itself;
-      on = c.access_laws.ensures.follows_on;
-      continues = c.access_laws.ensures.continues;
-    } in
+    let laws = c.access_laws.ensures.followers in
     let give = g.C.Clock.may_give c.args.clock.now in
     let limit = g.A.DeskAccess.limit in
     let events = g.L.Listener.events in

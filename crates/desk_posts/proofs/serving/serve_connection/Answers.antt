@@ -1,5 +1,5 @@
 -- Answers to the open goals of `serve_connection`.
-use Rattle.std.proofs.Common.{◌≡◌, ◌∙◌, ℕ, ◌+◌, ◌<◌, ◌≤◌, Bool, true, false, inl, inr, List, drop, None, Some, Option, Ok, Err, Result, refl, sym, ap, subst, arith}
+use Rattle.std.proofs.Common.{◌≡◌, ◌∙◌, ℕ, ◌+◌, true, false, inl, inr, List, drop, None, Some, Option, Ok, Result, sym, ap, subst, arith}
 use Rattle.std.specs.Prelude.{OnErr, OnOk}
 use Rattle.std.specs.Result.{is_err}
 use Rattle.farm_base.specs.Counts.{Rose}
@@ -9,19 +9,15 @@ use Rattle.http_requests.specs.declared.heard.Heard.{Heard}
 use Rattle.desk_posts.specs.Calls.{HearsNext}
 use Rattle.desk_posts.specs.Exchanges.{ends_after, size_of}
 use Rattle.desk_posts.specs.Limits.{most_requests}
-use Rattle.desk_posts.proofs.Connections.{IsOpen, Meets, cut_off, end_of_input, ends, ends_full, has_failed, if_failed, if_fine, meets, no_take, opens, put_to_prefix, put_whole, stays_open}
-use Rattle.desk_posts.proofs.Following.{AreLaws}
+use Rattle.desk_posts.proofs.Connections.{IsOpen, end_of_input, has_failed, no_take, opens}
+use Rattle.desk_posts.proofs.Meeting.{cut_off, ends, ends_full, if_failed, if_fine, meets, put_to_prefix, put_whole, stays_open}
 use Rattle.desk_posts.proofs.serving.serve_connection.Goals as goal
 use Rattle.desk_posts.proofs.serving.serve_connection.Goals.{then-is_err-via-then-is_err, then-is_err-via-else-is_err+then-last, then-is_err-via-else-is_err+else-last+then-stopped}
 
 pub loop-init : goal.loop-init
 loop-init g c =
     let follow = g.A.DeskAccess.may_follow in
-    let laws : AreLaws follow = record {
-      itself = c.access_laws.ensures.follows_itself;
-      on = c.access_laws.ensures.follows_on;
-      continues = c.access_laws.ensures.continues;
-    } in
+    let laws = c.access_laws.ensures.followers in
     let give = g.C.Clock.may_give c.args.clock.now in
     let conn = connection_of g.P.Port.stream g.P.Port.held g.P.Port.faults c.args.conn.now in
     let state = g.A.DeskAccess.state c.args.access.now in
@@ -62,11 +58,7 @@ returns-in_default-2-clause-keeps g c = c.loop.invariant.keeps
 pub returns-then-is_err-clause-served : goal.returns-then-is_err-clause-served
 returns-then-is_err-clause-served g c =
     let follow = g.A.DeskAccess.may_follow in
-    let laws : AreLaws follow = record {
-      itself = c.access_laws.ensures.follows_itself;
-      on = c.access_laws.ensures.follows_on;
-      continues = c.access_laws.ensures.continues;
-    } in
+    let laws = c.access_laws.ensures.followers in
     let give = g.C.Clock.may_give c.args.clock.now in
     let limit = g.A.DeskAccess.limit in
     let before = connection_of g.P.Port.stream g.P.Port.held g.P.Port.faults c.loop.conn in
@@ -112,11 +104,7 @@ returns-then-is_err-clause-keeps g c =
 pub loop-preserved : goal.loop-preserved
 loop-preserved g c =
     let follow = g.A.DeskAccess.may_follow in
-    let laws : AreLaws follow = record {
-      itself = c.access_laws.ensures.follows_itself;
-      on = c.access_laws.ensures.follows_on;
-      continues = c.access_laws.ensures.continues;
-    } in
+    let laws = c.access_laws.ensures.followers in
     let give = g.C.Clock.may_give c.args.clock.now in
     let limit = g.A.DeskAccess.limit in
     let before = connection_of g.P.Port.stream g.P.Port.held g.P.Port.faults c.loop.conn in

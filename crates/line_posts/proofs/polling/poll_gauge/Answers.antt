@@ -5,18 +5,13 @@ use Rattle.modbus_poll.specs.declared.raw.Raw.{Raw}
 use Rattle.line_posts.specs.States.{line_state}
 use Rattle.line_posts.specs.Steps.{HasDueReading, asks_of}
 use Rattle.line_posts.proofs.Dues.{reading_due, reading_is, submits_nothing}
-use Rattle.line_posts.proofs.Longer.{AreLaws}
 use Rattle.line_posts.proofs.OnePoll.{asks_once, its_gauge, one_alone, one_submitted}
 use Rattle.line_posts.proofs.polling.poll_gauge.Goals as goal
 
 pub returns-in-Some-clause-polled : goal.returns-in-Some-clause-polled
 returns-in-Some-clause-polled g c =
     let follow = g.A.DeskAccess.may_follow in
-    let laws : AreLaws follow = record {
-      itself = c.access_laws.ensures.follows_itself;
-      on = c.access_laws.ensures.follows_on;
-      continues = c.access_laws.ensures.continues;
-    } in
+    let laws = c.access_laws.ensures.followers in
     let give = g.C.Clock.may_give c.args.clock.now in
     let limit = g.A.DeskAccess.limit in
     let old = line_state g.M.Link.calls g.M.Link.faults g.A.DeskAccess.state c.args.link.now c.args.poller.now c.args.access.now in
@@ -40,11 +35,7 @@ returns-in-Some-clause-polled g c =
 pub returns-in_default-clause-polled : goal.returns-in_default-clause-polled
 returns-in_default-clause-polled g c =
     let follow = g.A.DeskAccess.may_follow in
-    let laws : AreLaws follow = record {
-      itself = c.access_laws.ensures.follows_itself;
-      on = c.access_laws.ensures.follows_on;
-      continues = c.access_laws.ensures.continues;
-    } in
+    let laws = c.access_laws.ensures.followers in
     let old = line_state g.M.Link.calls g.M.Link.faults g.A.DeskAccess.state c.args.link.now c.args.poller.now c.args.access.now in
     let new = line_state g.M.Link.calls g.M.Link.faults g.A.DeskAccess.state c.turn-answer.new.link c.turn-answer.new.self c.args.access.now in
     let polled = c.turn-answer.new.self in

@@ -2,17 +2,12 @@
 use Rattle.std.proofs.Common.{refl, arith}
 use Rattle.line_posts.specs.States.{line_state}
 use Rattle.line_posts.proofs.OneRound.{begins_polling, ends_round, polls_on}
-use Rattle.line_posts.proofs.Longer.{AreLaws}
 use Rattle.line_posts.proofs.rounds.run_round.Goals as goal
 
 pub loop-init : goal.loop-init
 loop-init g c =
     let follow = g.A.DeskAccess.may_follow in
-    let laws : AreLaws follow = record {
-      itself = c.access_laws.ensures.follows_itself;
-      on = c.access_laws.ensures.follows_on;
-      continues = c.access_laws.ensures.continues;
-    } in
+    let laws = c.access_laws.ensures.followers in
     record {
       polling = begins_polling follow laws (g.C.Clock.may_give c.args.clock.now) g.A.DeskAccess.limit c.args.submitter.now
           (line_state g.M.Link.calls g.M.Link.faults g.A.DeskAccess.state c.args.link.now c.args.poller.now c.args.access.now) c.requires.begins;
@@ -22,11 +17,7 @@ loop-init g c =
 pub loop-preserved : goal.loop-preserved
 loop-preserved g c =
     let follow = g.A.DeskAccess.may_follow in
-    let laws : AreLaws follow = record {
-      itself = c.access_laws.ensures.follows_itself;
-      on = c.access_laws.ensures.follows_on;
-      continues = c.access_laws.ensures.continues;
-    } in
+    let laws = c.access_laws.ensures.followers in
     let old = line_state g.M.Link.calls g.M.Link.faults g.A.DeskAccess.state c.args.link.now c.args.poller.now c.args.access.now in
     let middle = line_state g.M.Link.calls g.M.Link.faults g.A.DeskAccess.state c.loop.link c.loop.poller c.loop.access in
     let new = line_state g.M.Link.calls g.M.Link.faults g.A.DeskAccess.state c.poll_gauge.new.link c.poll_gauge.new.poller c.poll_gauge.new.access in
@@ -40,11 +31,7 @@ loop-preserved g c =
 pub returns-clause-round : goal.returns-clause-round
 returns-clause-round g c =
     let follow = g.A.DeskAccess.may_follow in
-    let laws : AreLaws follow = record {
-      itself = c.access_laws.ensures.follows_itself;
-      on = c.access_laws.ensures.follows_on;
-      continues = c.access_laws.ensures.continues;
-    } in
+    let laws = c.access_laws.ensures.followers in
     let old = line_state g.M.Link.calls g.M.Link.faults g.A.DeskAccess.state c.args.link.now c.args.poller.now c.args.access.now in
     let middle = line_state g.M.Link.calls g.M.Link.faults g.A.DeskAccess.state c.loop.link c.loop.poller c.loop.access in
     let new = line_state g.M.Link.calls g.M.Link.faults g.A.DeskAccess.state c.loop.link c.loop.poller c.look.new.self in

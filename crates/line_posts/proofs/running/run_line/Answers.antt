@@ -5,18 +5,13 @@ use Rattle.modbus_poll.specs.declared.map.LineMap.{LineMap}
 use Rattle.line_posts.specs.Rounds.{whole}
 use Rattle.line_posts.specs.States.{line_state}
 use Rattle.line_posts.specs.declared.submitting.Submitter.{Submitter}
-use Rattle.line_posts.proofs.Longer.{AreLaws}
 use Rattle.line_posts.proofs.OneRun.{IsRunning, begins_running, ends_at_stop, goes_on, is_line_run, runs_on}
 use Rattle.line_posts.proofs.running.run_line.Goals as goal
 
 pub loop-past-init : goal.loop-past-init
 loop-past-init g c =
     let follow = g.A.DeskAccess.may_follow in
-    let laws : AreLaws follow = record {
-      itself = c.access_laws.ensures.follows_itself;
-      on = c.access_laws.ensures.follows_on;
-      continues = c.access_laws.ensures.continues;
-    } in
+    let laws = c.access_laws.ensures.followers in
     let first : Submitter = record { line = c.args.number; recovered = c.args.recovered; count = 0 } in
     let state = line_state g.M.Link.calls g.M.Link.faults g.A.DeskAccess.state in
     record {
@@ -34,11 +29,7 @@ loop-past-init g c =
 pub returns-then-stopped-clause-line_run : goal.returns-then-stopped-clause-line_run
 returns-then-stopped-clause-line_run g c =
     let follow = g.A.DeskAccess.may_follow in
-    let laws : AreLaws follow = record {
-      itself = c.access_laws.ensures.follows_itself;
-      on = c.access_laws.ensures.follows_on;
-      continues = c.access_laws.ensures.continues;
-    } in
+    let laws = c.access_laws.ensures.followers in
     let give = g.C.Clock.may_give c.args.clock.now in
     let limit = g.A.DeskAccess.limit in
     let first : Submitter = record { line = c.args.number; recovered = c.args.recovered; count = 0 } in
@@ -60,11 +51,7 @@ returns-then-stopped-clause-line_run g c =
 pub loop-past-preserved : goal.loop-past-preserved
 loop-past-preserved g c =
     let follow = g.A.DeskAccess.may_follow in
-    let laws : AreLaws follow = record {
-      itself = c.access_laws.ensures.follows_itself;
-      on = c.access_laws.ensures.follows_on;
-      continues = c.access_laws.ensures.continues;
-    } in
+    let laws = c.access_laws.ensures.followers in
     let give = g.C.Clock.may_give c.args.clock.now in
     let limit = g.A.DeskAccess.limit in
     let first : Submitter = record { line = c.args.number; recovered = c.args.recovered; count = 0 } in

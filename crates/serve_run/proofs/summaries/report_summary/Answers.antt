@@ -2,7 +2,7 @@
 use Rattle.std.proofs.Common.{◌≡◌, ◌⊎◌, ◌∙◌, inl, inr, true, sym}
 use Rattle.std.specs.Result.{is_err}
 use Rattle.farm_base.specs.Counts.{Rose}
-use Rattle.desk_posts.proofs.Connections.{if_failed}
+use Rattle.desk_posts.proofs.Meeting.{if_failed}
 use Rattle.run_reports.proofs.Printing.{puts_from_put, rose_later}
 use Rattle.serve_run.proofs.SummariesPut.{reports_doubt, reports_fault, says_after}
 use Rattle.serve_run.proofs.summaries.report_summary.Goals as goal
