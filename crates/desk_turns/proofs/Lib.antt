@@ -4,3 +4,4 @@ pub mod Seeing
 pub mod Growing
 pub mod Turning
 pub mod Opening
+pub mod Accounts

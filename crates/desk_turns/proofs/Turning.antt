@@ -47,7 +47,7 @@ value_or other (Some value) = value
 value_or other _ = other
 
 -- two numbers of one pass are the same
-same_number : (first second : ℕ) (number : Option ℕ) → number ≡ Some first → number ≡ Some second → first ≡ second
+pub same_number : (first second : ℕ) (number : Option ℕ) → number ≡ Some first → number ≡ Some second → first ≡ second
 same_number first second number is also = ap (value_or first) (sym is ∙ also)
 
 module _ {D J : Type 0} (access : TurnState D) (new : PassView Entry FoundState) (does : J → ℕ → DeskState D → J → DeskState D → Type 0) (job job' : J)

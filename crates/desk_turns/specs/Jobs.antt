@@ -23,8 +23,10 @@ abbrev pub Begins : {D : Type 0} → DeskState D → Type 0
 Begins desk = Continues (found_of desk).history desk.history
 
 -- A desk was asked by a caller: it answers as the sequential desk on the history before, or by a fault of the disk, or out of memory, and
--- counts its faults. Its caller has then looked at all entries.
+-- counts its faults. Its caller has then looked at all entries. What is asked and the number of the clock stay.
 pub record DoesAsk {D : Type 0} (limit : ℕ) (job : AskState) (caller : ℕ) (before : DeskState D) (job' : AskState) (after : DeskState D) : Type 0 where
+  pub ask_stays : job'.ask ≡ job.ask
+  pub clock_stays : job'.clock ≡ job.clock
   pub answered : IsAnswered before.history after.history after.doubt (desk_answer limit before.history caller job.clock job.ask) job'.answer
   pub failed : after.failed ≡ raised (faults_of job'.answer) before.failed
   pub begins_before : Begins before

@@ -2,3 +2,4 @@
 pub mod Jobs
 pub mod Tallies
 pub mod Turns
+pub mod Closing

@@ -41,6 +41,8 @@ impl<'a> AskJob<'a> {
         ensures ask { result.ask ≡ ask.now }
         ensures clock { result.clock ≡ clock }
         ensures looked { result.looked ≡ looked }
+        ensures not_asked { result.answer ≡ Answer.NoMemory }
+        ensures not_stopped { result.stopped ≡ false }
     {
         AskJob {
             ask,

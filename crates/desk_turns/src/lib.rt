@@ -5,11 +5,13 @@
 #![tactic(auto)]
 
 mod asking;
+mod closing;
 mod laws;
 mod looking;
 mod turn_access;
 
 pub use asking::AskJob;
+pub use closing::close_turn;
 pub use laws::turn_laws;
 pub use looking::LookJob;
 pub use turn_access::TurnAccess;

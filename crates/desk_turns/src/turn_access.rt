@@ -1,8 +1,8 @@
 //! The access of one of the callers of a desk.
 
-ghost use Rattle.std.specs.Prelude.{◌≡◌, ℕ};
+ghost use Rattle.std.specs.Prelude.{◌≡◌, ℕ, false, length};
 ghost use Rattle.desk_access.specs.Access.{Continues};
-ghost use Rattle.desk_turns.specs.Turns.{IsNewPass, StaysAtTurn, turn_caller};
+ghost use Rattle.desk_turns.specs.Turns.{IsNewPass, IsTurnAccess, StaysAtTurn, turn_caller};
 ghost use Rattle.farm_history.specs.History.{last_place};
 
 use crate::asking::AskJob;
@@ -59,6 +59,7 @@ impl<'t, R: Wait, D: Disk, const LIMIT: usize> TurnAccess<'t, R, D, LIMIT> {
         ensures pass { result.pass ≡ pass.entry }
         ensures caller { result.caller ≡ caller }
         ensures faulted { result.faulted ≡ 0 }
+        ensures not_stopped { result.stopped ≡ false }
     {
         TurnAccess {
             rt,
@@ -71,9 +72,10 @@ impl<'t, R: Wait, D: Disk, const LIMIT: usize> TurnAccess<'t, R, D, LIMIT> {
         }
     }
 
-    /// Its pass.
+    /// Its pass, with which the turn can be closed.
     pub fn into_pass(self) -> Pass<Entry, Found<LIMIT>>
         ensures pass { result ≡ self.entry.pass }
+        ensures stands { IsTurnAccess self.entry (length self.entry.pass.known.seen) }
     {
         self.pass
     }

@@ -1,5 +1,5 @@
 -- Answers to the open goals of `run`.
-use Rattle.std.proofs.Common.{◌∙◌, ◌^◌, ◌<◌, List, length, drop, ap, subst, arith, rules, ℤ, w64}
+use Rattle.std.proofs.Common.{◌∙◌, ◌^◌, ◌<◌, List, length, drop, ap, refl, subst, arith, rules, ℤ, w64}
 use Rattle.std.proofs.lemmas.Int.{to_z-of_z}
 use Rattle.farm_history.specs.Desk.{desk_answer}
 use Rattle.farm_history.specs.History.{History}
@@ -25,6 +25,8 @@ returns-clause-does g c =
       answer = c.ask-self-inside.result;
       stopped = c.has_stop_past-self-inside.result;
     }) new) c.self.view_is (record {
+      ask_stays = refl;
+      clock_stays = refl;
       answered = subst (λ (clock : ℤ). IsAnswered old.history new.history new.doubt
           (desk_answer g.row.LIMIT old.history c.args.caller clock c.self.inside.ask.now) c.ask-self-inside.result)
           (to_z-of_z w64 c.self.inside.clock (record { sfits = c.self.ranges.1.0.1 })) c.ask-self-inside.ensures.answered;
