@@ -9,7 +9,7 @@ use crate::{Few, Gauged, Plan};
 /// in 0.01 C, densities in 0.1 kg/m3, sediment and water in 0.001 percent.
 ///
 /// A number that is outside the range of its quantity is refused by a rule and not by its type.
-#[derive(Debug, Drop, PartialEq, Eq)]
+#[derive(Clone, Copy, Debug, PartialEq, Eq)]
 pub enum Command {
     /// What an automatic gauge reads.
     Gauge {

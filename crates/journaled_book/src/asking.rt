@@ -46,7 +46,7 @@ impl<D: Disk, const LIMIT: usize> Records<D, LIMIT> {
         match ask {
             Ask::Look(query) => Ok(self.book.look(query)),
             Ask::Do { account, key, cmd } => {
-                let entry = self.entry_of(caller, now, *account, *key, copy_of(cmd));
+                let entry = self.entry_of(caller, now, *account, *key, *cmd);
                 self.judge_and_enter(entry)
             }
         }
@@ -112,64 +112,4 @@ fn stamped_moment(last: i64, now: i64) -> i64
     ensures after { last ≤ℤ result }
 {
     last.max(now.clamp(0, LAST_MOMENT))
-}
-
-// A copy of a command. Takes no memory.
-fn copy_of(cmd: &Command) -> Command
-    ensures copy { result ≡ cmd.now }
-{
-    match cmd {
-        Command::Gauge {
-            tank,
-            level,
-            water,
-            temperature,
-            ambient,
-        } => Command::Gauge {
-            tank: *tank,
-            level: *level,
-            water: *water,
-            temperature: *temperature,
-            ambient: *ambient,
-        },
-        Command::Dip {
-            tank,
-            outage,
-            tapes,
-            water,
-            temperatures,
-            ambient,
-        } => Command::Dip {
-            tank: *tank,
-            outage: *outage,
-            tapes: *tapes,
-            water: *water,
-            temperatures: *temperatures,
-            ambient: *ambient,
-        },
-        Command::Sample { tank, density, sw } => Command::Sample {
-            tank: *tank,
-            density: *density,
-            sw: *sw,
-        },
-        Command::Opening(plan) => Command::Opening(*plan),
-        Command::Closing {
-            movement,
-            first,
-            second,
-        } => Command::Closing {
-            movement: *movement,
-            first: *first,
-            second: *second,
-        },
-        Command::Cancel { movement } => Command::Cancel {
-            movement: *movement,
-        },
-        Command::Settle { tank, gauged } => Command::Settle {
-            tank: *tank,
-            gauged: *gauged,
-        },
-        Command::Reverse { ticket } => Command::Reverse { ticket: *ticket },
-        Command::Stop => Command::Stop,
-    }
 }

@@ -1,5 +1,5 @@
 -- Answers to the open goals of `answer`.
-use Rattle.std.proofs.Common.{◌∙◌, ap, sym, subst, arith, w64, ℤ}
+use Rattle.std.proofs.Common.{◌∙◌, ap, refl, sym, subst, arith, w64, ℤ}
 use Rattle.std.proofs.lemmas.Int.{to_z-of_z}
 use Rattle.farm_base.specs.Counts.{Rose, raised}
 use Rattle.farm_book.specs.Kept.{Kept}
@@ -21,9 +21,9 @@ returns-in-Look-clause-certain g c =
 
 pub returns-in-Do-clause-answered : goal.returns-in-Do-clause-answered
 returns-in-Do-clause-answered g c =
-    done_answered g.row.LIMIT c.args.self.now.book c.settle.new.self.book c.judge_and_enter.new.self.book c.judge_and_enter.new.self.doubt c.args.caller c.in-Do.account c.in-Do.key c.args.now c.args.ask.now c.copy_of.result c.in-Do.cmd c.entry_of-entry.result
-    _ c.settle.ensures.book c.in-Do.is c.copy_of.ensures.copy
-    (c.entry_of-entry.ensures.entry ∙ ap (λ (clock : ℤ). stamped c.settle.new.self.book.history c.args.caller clock c.in-Do.account c.in-Do.key c.copy_of.result)
+    done_answered g.row.LIMIT c.args.self.now.book c.settle.new.self.book c.judge_and_enter.new.self.book c.judge_and_enter.new.self.doubt c.args.caller c.in-Do.account c.in-Do.key c.args.now c.args.ask.now c.in-Do.cmd c.in-Do.cmd c.entry_of-entry.result
+    _ c.settle.ensures.book c.in-Do.is refl
+    (c.entry_of-entry.ensures.entry ∙ ap (λ (clock : ℤ). stamped c.settle.new.self.book.history c.args.caller clock c.in-Do.account c.in-Do.key c.in-Do.cmd)
     (to_z-of_z w64 c.args.now c.ranges.now)) c.judge_and_enter.ensures.answered
 
 pub returns-in-Do-clause-grows : goal.returns-in-Do-clause-grows
@@ -41,8 +41,8 @@ returns-in-Do-clause-certain g c =
 pub returns-in-Do-clause-untouched : goal.returns-in-Do-clause-untouched
 returns-in-Do-clause-untouched g c = λ sure stays.
     c.judge_and_enter.ensures.untouched
-    (ap (λ (answered : Answered). answered.history) (done_is g.row.LIMIT c.args.self.now.book c.settle.new.self.book c.args.caller c.in-Do.account c.in-Do.key c.args.now c.args.ask.now c.copy_of.result c.in-Do.cmd c.entry_of-entry.result c.settle.ensures.book c.in-Do.is c.copy_of.ensures.copy
-    (c.entry_of-entry.ensures.entry ∙ ap (λ (clock : ℤ). stamped c.settle.new.self.book.history c.args.caller clock c.in-Do.account c.in-Do.key c.copy_of.result)
+    (ap (λ (answered : Answered). answered.history) (done_is g.row.LIMIT c.args.self.now.book c.settle.new.self.book c.args.caller c.in-Do.account c.in-Do.key c.args.now c.args.ask.now c.in-Do.cmd c.in-Do.cmd c.entry_of-entry.result c.settle.ensures.book c.in-Do.is refl
+    (c.entry_of-entry.ensures.entry ∙ ap (λ (clock : ℤ). stamped c.settle.new.self.book.history c.args.caller clock c.in-Do.account c.in-Do.key c.in-Do.cmd)
     (to_z-of_z w64 c.args.now c.ranges.now)))
     ∙ stays ∙ sym (ap (λ (kept : Kept). kept.history) c.settle.ensures.book))
     ∙ ap (λ (journal : JournalState _). journal.disk) ((c.settle.ensures.untouched sure).0)
