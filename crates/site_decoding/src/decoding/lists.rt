@@ -1,6 +1,6 @@
 //! Lists of things at the front of bytes, and things that may be missing.
 
-ghost use Rattle.std.specs.Prelude.{◌≡◌, ◌<◌, ◌^◌, List, ℕ, IfOk, Result, length};
+ghost use Rattle.std.specs.Prelude.{◌≡◌, ◌*◌, ◌<◌, ◌≤◌, ◌^◌, List, ℕ, IfOk, Result, length};
 ghost use Rattle.std.specs.Int.{w16, w32};
 ghost use Rattle.site_decoding.specs.ByteReaders.{Gives, counted_at, list_at, option_at, short_list_at};
 
@@ -20,7 +20,7 @@ pub trait Piece: Drop {
         ensures reads { Gives (λ x. (x.0, x.1.now)) result (reads bytes.now) };
 }
 
-/// This many things, each of at least `size` bytes. Room is taken at once, for no more than the bytes can hold.
+/// This many things, each of at least `size` bytes. Room is taken at once, for no more than the bytes can hold (`room_for`).
 pub fn counted_at<T: Piece>(
     alloc: Global,
     count: usize,
@@ -31,8 +31,7 @@ pub fn counted_at<T: Piece>(
     ensures reads { Gives (λ x. (x.0.items, x.1.now)) result (counted_at T.reads count bytes.now) }
     ensures count { IfOk result (λ x. length x.0.items ≡ count) }
 {
-    let room = count.min(bytes.len() / size);
-    let mut items = Vec::with_capacity(alloc, room)?;
+    let mut items = Vec::with_capacity(alloc, room_for(count, size, bytes))?;
     let mut rest = bytes;
     for index in 0..count {
         let (item, after) = T::read_at(alloc, rest)?;
@@ -40,6 +39,15 @@ pub fn counted_at<T: Piece>(
         rest = after;
     }
     Ok((items, rest))
+}
+
+// How many things room is taken for: as many as are stated, or as the bytes can hold if those are fewer.
+fn room_for(count: usize, size: usize, bytes: &[u8]) -> usize
+    requires size { 0 < size }
+    ensures stated { result ≤ count }
+    ensures held { result * size ≤ length bytes.now }
+{
+    count.min(bytes.len() / size)
 }
 
 /// A list after its count of one byte.
