@@ -39,10 +39,10 @@ named_by kinds.Ticket path route =
 unfoldable pub resource_of : List ℕ → Option Resource
 resource_of path = if is_utf8 path then option_and_then (λ route. named_by route.value path route) (route_of path) else None
 
--- a parameter is a number of 1 to 10 digits, and at most this
+-- a parameter is a number of at least one digit and no more digits than the limit, and at most this
 pub record IsNumberWithin (most : ℕ) (text : List ℕ) (number : ℕ) : Type 0 where
   pub some : 1 ≤ length text
-  pub few : length text ≤ 10
+  pub few : length text ≤ most_parameter_digits
   pub digits : IsTrue (is_all_digits text)
   pub value : number ≡ digits_value 10 text
   pub within : number ≤ most
@@ -51,10 +51,10 @@ pub record IsNumberWithin (most : ℕ) (text : List ℕ) (number : ℕ) : Type 0
 abbrev pub IsPathOf : List ℕ → Resource → Type 0
 IsPathOf path (Command word) = path ≡ codes "/" ++ text_of word
 IsPathOf path (Look (queries.Stock tank)) =
-    (parameter : List ℕ) × (path ≡ codes "/stock/" ++ parameter) × IsNumberWithin 65535 parameter tank
+    (parameter : List ℕ) × (path ≡ codes "/stock/" ++ parameter) × IsNumberWithin greatest_tank parameter tank
 IsPathOf path (Look queries.Total) = path ≡ codes "/total"
 IsPathOf path (Look (queries.Ticket place)) =
-    (parameter : List ℕ) × (path ≡ codes "/ticket/" ++ parameter) × IsNumberWithin 4294967295 parameter place
+    (parameter : List ℕ) × (path ≡ codes "/ticket/" ++ parameter) × IsNumberWithin greatest_place parameter place
 
 -- a path names something if and only if it is one of these paths
 abbrev pub PathsNameResources : Type 0
