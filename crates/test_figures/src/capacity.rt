@@ -78,17 +78,29 @@ fn fault_of(alloc: Global, rows: &[i64]) -> Result<Option<TableFault>, AllocErro
 fn rows_are_refused_at_their_first_fault(rt: HostRuntime) -> Result<(), Fail> {
     let mut checks = Checks::new(&rt);
     let cases = [
-        (&[7][..], Some(TableFault::Short)),
-        (&[0; 5_002][..], Some(TableFault::TooMany)),
-        (&[0, -1][..], Some(TableFault::OutOfRange(1))),
-        (&[5, 4, -1][..], Some(TableFault::OutOfRange(2))),
-        (&[5, 4][..], Some(TableFault::Falling(1))),
-        (&[0, 0][..], None),
-        (&[0, 1_000_000_000][..], None),
-        (&[0; 5_001][..], None),
+        ("one row", &[7][..], Some(TableFault::Short)),
+        ("5,002 rows", &[0; 5_002][..], Some(TableFault::TooMany)),
+        (
+            "a negative row",
+            &[0, -1][..],
+            Some(TableFault::OutOfRange(1)),
+        ),
+        (
+            "a negative row after one that falls",
+            &[5, 4, -1][..],
+            Some(TableFault::OutOfRange(2)),
+        ),
+        (
+            "a row that falls",
+            &[5, 4][..],
+            Some(TableFault::Falling(1)),
+        ),
+        ("equal rows", &[0, 0][..], None),
+        ("the greatest row", &[0, 1_000_000_000][..], None),
+        ("5,001 rows", &[0; 5_001][..], None),
     ];
-    for (rows, want) in cases {
-        checks.same(fault_of(rt.alloc(), rows)?, want);
+    for (name, rows, want) in cases {
+        checks.same_at(name, fault_of(rt.alloc(), rows)?, want);
     }
     Ok(checks.end()?)
 }

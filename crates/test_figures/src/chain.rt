@@ -82,12 +82,24 @@ fn observed_volumes_with_and_without_a_roof(rt: HostRuntime) -> Result<(), Fail>
 fn water_above_level_comes_before_a_negative_volume(rt: HostRuntime) -> Result<(), Fail> {
     let mut checks = Checks::new(&rt);
     let cases = [
-        (40_000, 45_000, 0, ChainRule::WaterAboveLevel),
-        (40_000, 45_000, 85_000, ChainRule::WaterAboveLevel),
-        (45_000, 45_000, 85_000, ChainRule::Negative),
+        (
+            "water above the level",
+            (40_000, 45_000, 0),
+            ChainRule::WaterAboveLevel,
+        ),
+        (
+            "the same under a roof",
+            (40_000, 45_000, 85_000),
+            ChainRule::WaterAboveLevel,
+        ),
+        (
+            "a roof on water alone",
+            (45_000, 45_000, 85_000),
+            ChainRule::Negative,
+        ),
     ];
-    for (tov, fw, roof, want) in cases {
-        checks.same_at(roof, figures_of(tov, fw, roof)?, Err(want));
+    for (name, (tov, fw, roof), want) in cases {
+        checks.same_at(name, figures_of(tov, fw, roof)?, Err(want));
     }
     Ok(checks.end()?)
 }

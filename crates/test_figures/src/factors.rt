@@ -7,26 +7,55 @@ use std::alloc::Global;
 use std::test::Fail;
 use test_checks::{Checks, shared};
 
+// Appends the quantities of these numbers of units to a list.
+fn add_quantities<U: Unit>(list: &mut Vec<Quantity<U>>, values: &[i64]) -> Result<(), Fail> {
+    for value in values {
+        list.push(Quantity::new(*value)?)?;
+    }
+    Ok(())
+}
+
 // The quantities of these numbers of units.
 fn list_of<U: Unit>(alloc: Global, values: &[i64]) -> Result<Vec<Quantity<U>>, Fail> {
     let mut list = Vec::new(alloc);
-    for value in values {
-        list.push(Quantity::new(*value)?)?;
+    if let Err(fail) = add_quantities(&mut list, values) {
+        drop(list);
+        return Err(fail);
     }
     Ok(list)
 }
 
-// The grid of these lists, in units.
-fn grid_of(
+// Densities and temperatures, in units.
+fn axes_of(
+    alloc: Global,
+    densities: &[i64],
+    temperatures: &[i64],
+) -> Result<(Vec<Dens>, Vec<Centi>), Fail> {
+    let densities = list_of(alloc, densities)?;
+    match list_of(alloc, temperatures) {
+        Ok(temperatures) => Ok((densities, temperatures)),
+        Err(fail) => {
+            drop(densities);
+            Err(fail)
+        }
+    }
+}
+
+/// The grid of these lists, in units.
+pub fn grid_of(
     alloc: Global,
     densities: &[i64],
     temperatures: &[i64],
     factors: &[i64],
 ) -> Result<Vcf, Fail> {
-    let densities = list_of(alloc, densities)?;
-    let temperatures = list_of(alloc, temperatures)?;
-    let factors = list_of(alloc, factors)?;
-    Ok(Vcf::from_grid(densities, temperatures, factors)?)
+    let (densities, temperatures) = axes_of(alloc, densities, temperatures)?;
+    match list_of(alloc, factors) {
+        Ok(factors) => Ok(Vcf::from_grid(densities, temperatures, factors)?),
+        Err(fail) => {
+            drop((densities, temperatures));
+            Err(fail)
+        }
+    }
 }
 
 // The factor of a grid, where there is one.
@@ -238,22 +267,27 @@ fn a_file_is_read(rt: HostRuntime) -> Result<(), Fail> {
 #[test]
 fn a_text_that_is_no_factor_file_is_refused(rt: HostRuntime) -> Result<(), Fail> {
     let mut checks = Checks::new(&rt);
-    let cases: [(&[u8], VcfFault); 4] = [
-        (b"", VcfFault::NotGrid(1)),
-        (b"d,t,f\nx,15.00,0.99100\na,b\n", VcfFault::Csv),
+    let cases: [(&str, &[u8], VcfFault); 4] = [
+        ("no byte", b"", VcfFault::NotGrid(1)),
         (
+            "records of two lengths",
+            b"d,t,f\nx,15.00,0.99100\na,b\n",
+            VcfFault::Csv,
+        ),
+        (
+            "a temperature of letters",
             b"d,t,f\n840.0,15.00,0.99100\n840.0,x,0.99\n",
             VcfFault::BadField(2),
         ),
-        // The second block lacks its last row.
         (
+            "a second block without its last row",
             b"d,t,f\n840.0,15.00,0.991\n840.0,20.00,0.987\n850.0,15.00,0.992\n",
             VcfFault::NotGrid(4),
         ),
     ];
-    for (text, want) in cases {
+    for (name, text, want) in cases {
         let fault = Vcf::read(rt.alloc(), text).err();
-        checks.same(shared(fault), Some(want));
+        checks.same_at(name, shared(fault), Some(want));
     }
     Ok(checks.end()?)
 }

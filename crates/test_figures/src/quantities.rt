@@ -13,11 +13,20 @@ pub fn read_units<U: Unit>(text: &str) -> Result<i64, ReadFault> {
     Quantity::<U>::read(text.as_bytes()).map(|quantity| quantity.get())
 }
 
+// Appends the text of a number of units, unless it is out of range.
+fn write_units<U: Unit>(text: &mut Vec<u8>, units: i64) -> Result<(), NoMemory> {
+    match Quantity::<U>::new(units) {
+        Ok(quantity) => quantity.write(text),
+        Err(_) => Ok(()),
+    }
+}
+
 /// The text of a number of units; no bytes where it is out of range.
 pub fn text_of<U: Unit>(alloc: Global, units: i64) -> Result<Vec<u8>, NoMemory> {
     let mut text = Vec::new(alloc);
-    if let Ok(quantity) = Quantity::<U>::new(units) {
-        quantity.write(&mut text)?;
+    if let Err(fault) = write_units::<U>(&mut text, units) {
+        drop(text);
+        return Err(fault);
     }
     Ok(text)
 }
@@ -208,6 +217,7 @@ fn check_written<R: Print>(
 ) {
     let written = text_in(of, alloc, units);
     checks.same_at(text, written.as_deref(), Ok(text.as_bytes()));
+    drop(written);
 }
 
 // A number of units is read from this text.

@@ -10,6 +10,18 @@ use std::alloc::Global;
 use std::test::Fail;
 use test_checks::{Checks, shared};
 
+// The reading of tapes of these heights, which are put in a list.
+fn reading_in(
+    tapes: &mut Vec<Mm>,
+    heights: &[i64],
+    rounding: &RoundTable,
+) -> Result<Result<Mm, TapeFault>, Fail> {
+    for height in heights {
+        tapes.push(Mm::new(*height)?)?;
+    }
+    Ok(tape(tapes, rounding))
+}
+
 // The reading of tapes of these heights.
 fn reading(
     alloc: Global,
@@ -17,28 +29,43 @@ fn reading(
     rounding: &RoundTable,
 ) -> Result<Result<Mm, TapeFault>, Fail> {
     let mut tapes = Vec::new(alloc);
-    for height in heights {
-        tapes.push(Mm::new(*height)?)?;
-    }
-    Ok(tape(&tapes, rounding))
+    let reading = reading_in(&mut tapes, heights, rounding);
+    drop(tapes);
+    reading
 }
 
 #[test]
 fn equal_or_close_tapes_have_a_reading(rt: HostRuntime) -> Result<(), Fail> {
     let mut checks = Checks::new(&rt);
     let cases = [
-        (&[12_345, 12_345][..], Ok(12_345)),
-        (&[12_344, 12_346, 12_347][..], Ok(12_346)),
-        (&[12_344, 12_346, 12_348][..], Err(TapeFault::Spread)),
-        (&[12_344, 12_345][..], Err(TapeFault::Spread)),
-        (&[12_345][..], Err(TapeFault::Count)),
-        (&[][..], Err(TapeFault::Count)),
-        (&[12_345, 12_345, 12_345, 12_345][..], Err(TapeFault::Count)),
+        ("two equal", &[12_345, 12_345][..], Ok(12_345)),
+        (
+            "three within 3 mm",
+            &[12_344, 12_346, 12_347][..],
+            Ok(12_346),
+        ),
+        (
+            "three 4 mm apart",
+            &[12_344, 12_346, 12_348][..],
+            Err(TapeFault::Spread),
+        ),
+        (
+            "two that differ",
+            &[12_344, 12_345][..],
+            Err(TapeFault::Spread),
+        ),
+        ("one", &[12_345][..], Err(TapeFault::Count)),
+        ("no tape", &[][..], Err(TapeFault::Count)),
+        (
+            "four",
+            &[12_345, 12_345, 12_345, 12_345][..],
+            Err(TapeFault::Count),
+        ),
     ];
     let usual = RoundTable::usual();
-    for (heights, want) in cases {
+    for (name, heights, want) in cases {
         let reading = shared(reading(rt.alloc(), heights, &usual)?);
-        checks.same_at(heights.len(), reading.map(Mm::get), want);
+        checks.same_at(name, reading.map(Mm::get), want);
     }
     Ok(checks.end()?)
 }

@@ -1,9 +1,10 @@
 //! The figures of a reading under a floating roof, and their refusals in order.
 
+use crate::factors::grid_of;
 use crate::ten_figures::{Figure, Figures, check_figures};
 use farm_chain::quantities;
 use farm_fixed::{
-    Centi, ChainRule, Dens, Fac5, Kg, Mm, Permil5, Quantities, Reading, Sample, Shell,
+    Centi, ChainRule, Dens, Kg, Mm, NoMemory, Permil5, Quantities, Reading, Sample, Shell,
 };
 use farm_rounding::RoundTable;
 use farm_vcf::Vcf;
@@ -12,21 +13,27 @@ use std::test::Fail;
 use strap_table::{CapTable, Roof, TankSpec};
 use test_checks::Checks;
 
+// Appends rows of ten thousand litres each.
+fn add_rows(rows: &mut Vec<i64>) -> Result<(), NoMemory> {
+    for row in 0..200_u8 {
+        rows.push(i64::from(row) * 10_000)?;
+    }
+    Ok(())
+}
+
 // A thousand litres to each millimetre, up to 1,990 mm.
 fn table(alloc: Global) -> Result<CapTable, Fail> {
     let mut rows = Vec::new(alloc);
-    for row in 0..200_u8 {
-        rows.push(i64::from(row) * 10_000)?;
+    if let Err(fault) = add_rows(&mut rows) {
+        drop(rows);
+        return Err(fault.into());
     }
     Ok(CapTable::from_rows(rows)?)
 }
 
 // A factor of 1.00000 at a density of 850.0 and at 15.00 C alone.
 fn vcf(alloc: Global) -> Result<Vcf, Fail> {
-    let densities = vec![in alloc; Dens::new(8_500)?]?;
-    let temperatures = vec![in alloc; Centi::new(1_500)?]?;
-    let factors = vec![in alloc; Fac5::new(100_000)?]?;
-    Ok(Vcf::from_grid(densities, temperatures, factors)?)
+    grid_of(alloc, &[8_500], &[1_500], &[100_000])
 }
 
 // The capacity table and the factors.

@@ -12,14 +12,24 @@ use test_checks::{Checks, shared};
 fn nearest_ties(rt: HostRuntime) -> Result<(), Fail> {
     let mut checks = Checks::new(&rt);
     let cases = [
-        (5, 10, 1, Mode::HalfAway, 1),
-        (-5, 10, 1, Mode::HalfAway, -1),
-        (5, 10, 1, Mode::TowardZero, 0),
-        (-5, 10, 1, Mode::TowardZero, 0),
-        (1250, 100, 5, Mode::HalfAway, 15),
+        ("a half, away from zero", (5, 10, 1), Mode::HalfAway, 1),
+        (
+            "a negative half, away from zero",
+            (-5, 10, 1),
+            Mode::HalfAway,
+            -1,
+        ),
+        ("a half, toward zero", (5, 10, 1), Mode::TowardZero, 0),
+        (
+            "a negative half, toward zero",
+            (-5, 10, 1),
+            Mode::TowardZero,
+            0,
+        ),
+        ("12.5 by steps of 5", (1250, 100, 5), Mode::HalfAway, 15),
     ];
-    for (num, den, step, mode, want) in cases {
-        checks.same_at(num, nearest(num, den, step, mode), want);
+    for (name, (num, den, step), mode, want) in cases {
+        checks.same_at(name, nearest(num, den, step, mode), want);
     }
     Ok(checks.end()?)
 }

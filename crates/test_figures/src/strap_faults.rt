@@ -105,16 +105,26 @@ fn faults_are_reported_in_their_order(rt: HostRuntime) -> Result<(), Fail> {
 fn values_next_to_the_limits_of_a_strapped_tank(rt: HostRuntime) -> Result<(), Fail> {
     let mut checks = Checks::new(&rt);
     let cases = [
-        ([4, 5], 1, Some(StrapFault::TooTall)),
-        ([5, 5], 1, None),
-        ([25_000, 25_000], 1, None),
-        ([25_000, 25_001], 1, Some(StrapFault::TooTall)),
-        ([500, 500], 1_000_000_000, None),
-        ([500, 500], 1_000_000_001, Some(StrapFault::BadDeadwood(1))),
+        ("below 10 mm", [4, 5], 1, Some(StrapFault::TooTall)),
+        ("10 mm", [5, 5], 1, None),
+        ("50,000 mm", [25_000, 25_000], 1, None),
+        (
+            "above 50,000 mm",
+            [25_000, 25_001],
+            1,
+            Some(StrapFault::TooTall),
+        ),
+        ("the largest deadwood", [500, 500], 1_000_000_000, None),
+        (
+            "a larger deadwood",
+            [500, 500],
+            1_000_000_001,
+            Some(StrapFault::BadDeadwood(1)),
+        ),
     ];
-    for (heights, litres, want) in cases {
+    for (name, heights, litres, want) in cases {
         let fault = parts_fault(rt.alloc(), heights, (0, 1, litres), 0)?;
-        checks.same_at(heights[1], fault, want);
+        checks.same_at(name, fault, want);
     }
     Ok(checks.end()?)
 }
@@ -138,7 +148,8 @@ fn check_text<R: Print>(
     want: &str,
 ) -> Result<(), Fail> {
     let text = format!(in alloc; "{}", fault)?;
-    checks.same_at("a fault", text.as_str(), want);
+    checks.same_at(want, text.as_str(), want);
+    drop(text);
     Ok(())
 }
 

@@ -33,31 +33,74 @@ fn deadwood((low, high, litres): (i64, i64, i64)) -> Result<Deadwood, OutOfRange
     })
 }
 
-// Courses of their figures.
-fn courses_of(alloc: Global, figures: &[Figures]) -> Result<Vec<Course>, Fail> {
-    let mut courses = Vec::new(alloc);
+// Appends courses of their figures to a list.
+fn add_courses(courses: &mut Vec<Course>, figures: &[Figures]) -> Result<(), Fail> {
     for one in figures {
         courses.push(course(*one)?)?;
     }
+    Ok(())
+}
+
+// Courses of their figures.
+fn courses_of(alloc: Global, figures: &[Figures]) -> Result<Vec<Course>, Fail> {
+    let mut courses = Vec::new(alloc);
+    if let Err(fail) = add_courses(&mut courses, figures) {
+        drop(courses);
+        return Err(fail);
+    }
     Ok(courses)
+}
+
+// Appends deadwoods of their figures to a list.
+fn add_deadwoods(deadwoods: &mut Vec<Deadwood>, figures: &[(i64, i64, i64)]) -> Result<(), Fail> {
+    for one in figures {
+        deadwoods.push(shared(deadwood(*one)?))?;
+    }
+    Ok(())
 }
 
 // Deadwoods of their figures.
 fn deadwoods_of(alloc: Global, figures: &[(i64, i64, i64)]) -> Result<Vec<Deadwood>, Fail> {
     let mut deadwoods = Vec::new(alloc);
-    for one in figures {
-        deadwoods.push(shared(deadwood(*one)?))?;
+    if let Err(fail) = add_deadwoods(&mut deadwoods, figures) {
+        drop(deadwoods);
+        return Err(fail);
     }
     Ok(deadwoods)
+}
+
+// Appends points of a bottom to a list.
+fn add_points(bottom: &mut Vec<(Mm, i64)>, points: &[(i64, i64)]) -> Result<(), Fail> {
+    for (height, litres) in points {
+        bottom.push((Mm::new(*height)?, *litres))?;
+    }
+    Ok(())
 }
 
 // Points of a bottom: the litres at heights.
 fn bottom_of(alloc: Global, points: &[(i64, i64)]) -> Result<Vec<(Mm, i64)>, Fail> {
     let mut bottom = Vec::new(alloc);
-    for (height, litres) in points {
-        bottom.push((Mm::new(*height)?, *litres))?;
+    if let Err(fail) = add_points(&mut bottom, points) {
+        drop(bottom);
+        return Err(fail);
     }
     Ok(bottom)
+}
+
+// Courses and deadwoods of their figures.
+fn wall_of(
+    alloc: Global,
+    courses: &[Figures],
+    deadwoods: &[(i64, i64, i64)],
+) -> Result<(Vec<Course>, Vec<Deadwood>), Fail> {
+    let courses = courses_of(alloc, courses)?;
+    match deadwoods_of(alloc, deadwoods) {
+        Ok(deadwoods) => Ok((courses, deadwoods)),
+        Err(fail) => {
+            drop(courses);
+            Err(fail)
+        }
+    }
 }
 
 const FLAT: &[(i64, i64)] = &[(0, 0)];
@@ -69,10 +112,14 @@ pub fn tank_of(
     deadwoods: &[(i64, i64, i64)],
     bottom: &[(i64, i64)],
 ) -> Result<Result<Strapping, StrapFault>, Fail> {
-    let courses = courses_of(alloc, courses)?;
-    let deadwoods = deadwoods_of(alloc, deadwoods)?;
-    let bottom = bottom_of(alloc, bottom)?;
-    Ok(Strapping::new(courses, deadwoods, bottom))
+    let (courses, deadwoods) = wall_of(alloc, courses, deadwoods)?;
+    match bottom_of(alloc, bottom) {
+        Ok(bottom) => Ok(Strapping::new(courses, deadwoods, bottom)),
+        Err(fail) => {
+            drop((courses, deadwoods));
+            Err(fail)
+        }
+    }
 }
 
 /// The rows of a tank of one course with this plate.
@@ -149,6 +196,7 @@ fn check_deadwood<R: Print>(
     let usual = RoundTable::usual();
     let rows = rows_of(alloc, 113, &[(200, 700, taken)], FLAT, &usual)??;
     check_rows(checks, &rows, wants);
+    drop(rows);
     Ok(())
 }
 
@@ -204,6 +252,7 @@ fn check_rounded<R: Print>(
     let deadwoods = [(0, 1_000, 333), (0, 1_000, 333)];
     let rows = rows_of(alloc, 0, &deadwoods, FLAT, rounding)??;
     check_rows(checks, &rows, wants);
+    drop(rows);
     Ok(())
 }
 

@@ -1,10 +1,9 @@
 //! The figures of a reading under twelve different rounding rows, which docs/trade.md works out by hand.
 
+use crate::factors::grid_of;
 use crate::ten_figures::{Figure, Figures, check_figures};
 use farm_chain::quantities;
-use farm_fixed::{
-    Centi, ChainRule, Dens, Fac5, Kg, Mm, Permil5, Quantities, Reading, Sample, Shell,
-};
+use farm_fixed::{Centi, ChainRule, Dens, Kg, Mm, Permil5, Quantities, Reading, Sample, Shell};
 use farm_rounding::{Mode, RoundTable};
 use farm_vcf::Vcf;
 use std::alloc::Global;
@@ -35,10 +34,7 @@ fn table(alloc: Global) -> Result<CapTable, Fail> {
 
 // A factor of 0.99150 at 850.0 and 25.00 C alone.
 fn vcf(alloc: Global) -> Result<Vcf, Fail> {
-    let densities = vec![in alloc; Dens::new(8_500)?]?;
-    let temperatures = vec![in alloc; Centi::new(2_500)?]?;
-    let factors = vec![in alloc; Fac5::new(99_150)?]?;
-    Ok(Vcf::from_grid(densities, temperatures, factors)?)
+    grid_of(alloc, &[8_500], &[2_500], &[99_150])
 }
 
 // The capacity table and the factors.

@@ -34,12 +34,21 @@ fn answer(book: &mut Book<4>, entry: Entry) -> Result<Reply, NoMemory>
     requires moment { last_moment book.old.history ≤ℤ entry.at }
 {
     match book.judge(&entry) {
-        Verdict::Repeat(place) => Ok(book.reply_at(place)),
-        Verdict::Refused(rule) => Ok(Reply::Refused(rule)),
-        Verdict::Accept => {
-            book.reserve()?;
-            Ok(book.commit(entry))
+        Verdict::Repeat(place) => {
+            drop(entry);
+            Ok(book.reply_at(place))
         }
+        Verdict::Refused(rule) => {
+            drop(entry);
+            Ok(Reply::Refused(rule))
+        }
+        Verdict::Accept => match book.reserve() {
+            Ok(()) => Ok(book.commit(entry)),
+            Err(fault) => {
+                drop(entry);
+                Err(fault)
+            }
+        },
     }
 }
 
@@ -70,23 +79,24 @@ fn check_four<R: Print>(checks: &mut Checks<'_, R>, book: &mut Book<4>) {
     }
 }
 
-// The full book refuses a fifth, answers a repeat, and takes a Stop.
-fn check_full<R: Print>(checks: &mut Checks<'_, R>, book: &mut Book<4>) {
-    let fifth = placed(book, 5, command_of(READING));
-    checks.same_at("a fifth", fifth, Ok(Reply::Refused(Rule::HistoryFull)));
-    let repeat = placed(book, 2, command_of(READING));
-    checks.same_at("a repeat", repeat, Ok(Reply::Placed(2)));
-    let reused = placed(book, 2, command_of(OTHER));
-    checks.same_at(
+// Commands on the full book, and what it answers: it refuses a fifth, answers a repeat, and takes a Stop.
+const ON_FULL: [(&str, u64, Given, Reply); 4] = [
+    ("a fifth", 5, READING, Reply::Refused(Rule::HistoryFull)),
+    ("a repeat", 2, READING, Reply::Placed(2)),
+    (
         "a key of another",
-        reused,
-        Ok(Reply::Refused(Rule::KeyReused(2))),
-    );
-    checks.same_at(
-        "a Stop",
-        placed(book, 5, Command::Stop),
-        Ok(Reply::Placed(5)),
-    );
+        2,
+        OTHER,
+        Reply::Refused(Rule::KeyReused(2)),
+    ),
+    ("a Stop", 5, Given::Stop, Reply::Placed(5)),
+];
+
+// The full book answers each command of rows, and then has a Stop more.
+fn check_full<R: Print>(checks: &mut Checks<'_, R>, book: &mut Book<4>) {
+    for (name, key, given, want) in ON_FULL {
+        checks.same_at(name, placed(book, key, command_of(given)), Ok(want));
+    }
     let look = book.look(&Query::Ticket(1));
     checks.same_at("no ticket", look, Reply::Refused(Rule::UnknownTicket));
     checks.same_at("entries", book.entries().len(), 5);

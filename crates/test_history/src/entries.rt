@@ -17,7 +17,10 @@ fn written(alloc: Global, entry: &Entry) -> Result<Vec<u8>, NoMemory>
     requires { IsWellFormed entry.now }
 {
     let mut out = Vec::new(alloc);
-    entry.write(&mut out)?;
+    if let Err(fault) = entry.write(&mut out) {
+        drop(out);
+        return Err(fault);
+    }
     Ok(out)
 }
 
@@ -32,7 +35,9 @@ fn check_entry<R: Print>(
     let read = shared(Entry::read(bytes));
     checks.same_at(name, read.as_ref(), Ok(entry));
     if let Ok(read) = read {
-        checks.same_at(name, written(alloc, &read).as_deref(), Ok(bytes));
+        let written = written(alloc, &read);
+        checks.same_at(name, written.as_deref(), Ok(bytes));
+        drop((written, read));
     }
 }
 
@@ -46,7 +51,10 @@ fn check_entries<R: Print>(checks: &mut Checks<'_, R>, alloc: Global, entries: E
 // The offset of the first bad byte.
 fn bad_offset(bytes: &[u8]) -> Option<usize> {
     match Entry::read(bytes) {
-        Ok(_) => None,
+        Ok(entry) => {
+            drop(entry);
+            None
+        }
         Err(bad) => Some(bad.0),
     }
 }
@@ -101,9 +109,10 @@ fn bad_offset_of_longer(entry: &[u8]) -> Option<usize> {
 }
 
 // The first bytes of an entry are bad where they end.
-fn check_first_bytes<R: Print>(checks: &mut Checks<'_, R>, entry: &[u8]) {
+fn check_first_bytes<R: Print>(checks: &mut Checks<'_, R>, name: &str, entry: &[u8]) {
     for length in 0..entry.len() {
-        checks.same_at(length, bad_offset(&entry[..length]), Some(length));
+        let offset = bad_offset(&entry[..length]);
+        checks.same_at(name, (length, offset), (length, Some(length)));
     }
 }
 
@@ -164,7 +173,7 @@ const LONGER: Ends = &[
 // The first bytes of each entry are bad where they end, and one byte more where it stands.
 fn check_ends<R: Print>(checks: &mut Checks<'_, R>, rows: Ends) {
     for (name, entry, want) in rows {
-        check_first_bytes(checks, entry);
+        check_first_bytes(checks, name, entry);
         checks.same_at(name, bad_offset_of_longer(entry), Some(*want));
     }
 }
@@ -173,7 +182,7 @@ fn check_ends<R: Print>(checks: &mut Checks<'_, R>, rows: Ends) {
 fn a_bad_byte_is_refused_at_its_offset(rt: HostRuntime) -> Result<(), Fail> {
     let mut checks = Checks::new(&rt);
     check_bad_bytes(&mut checks, BAD_BYTES);
-    check_first_bytes(&mut checks, &STOP);
+    check_first_bytes(&mut checks, "a Stop", &STOP);
     check_ends(&mut checks, LONGER);
     Ok(checks.end()?)
 }

@@ -58,7 +58,10 @@ fn add_all(out: &mut Vec<u8>, density: Dens) -> Result<(), NoMemory> {
 // A line, and what is appended to it.
 fn pieces_text(alloc: Global, density: Dens) -> Result<Vec<u8>, NoMemory> {
     let mut out = b"rows\n".to_vec(alloc)?;
-    add_all(&mut out, density)?;
+    if let Err(fault) = add_all(&mut out, density) {
+        drop(out);
+        return Err(fault);
+    }
     Ok(out)
 }
 

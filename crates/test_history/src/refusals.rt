@@ -13,7 +13,10 @@ use test_checks::Checks;
 fn refusal(book: &Book<4>, cmd: Command) -> (u8, u32)
     requires { IsWellFormedCommand cmd }
 {
-    match book.judge(&entry(99, cmd)) {
+    let entry = entry(99, cmd);
+    let verdict = book.judge(&entry);
+    drop(entry);
+    match verdict {
         Verdict::Refused(rule) => (rule.number(), rule.value()),
         Verdict::Repeat(_) | Verdict::Accept => (0, 0),
     }

@@ -1,6 +1,9 @@
 //! Lines of a batch as requests, lines that aren't, and the bodies of answers.
 
+ghost use Rattle.farm_http.specs.PageTexts.{IsAnswer};
+
 use crate::line_rows::{ENDS, Lines, OPENINGS, READINGS, SETTLEMENTS, STOPS};
+use farm_base::NoMemory;
 use farm_history::{Ask, Command, Query, Reply, Rule};
 use farm_http::{LineAsked, Page, body, line};
 use std::alloc::{AllocError, Global};
@@ -25,6 +28,7 @@ fn check_line<R: Print>(
 ) {
     let asked = shared(line(alloc, text.as_bytes()));
     checks.same_at(name, done_of(&asked), Ok((1, 3, want)));
+    drop(asked);
 }
 
 // Each line asks for its command.
@@ -61,7 +65,9 @@ type Asked = &'static [(&'static str, LineAsked)];
 // Each line asks for what its row says.
 fn check_asked<R: Print>(checks: &mut Checks<'_, R>, alloc: Global, rows: Asked) {
     for (text, want) in rows {
-        checks.same_at(text, &line(alloc, text.as_bytes()), want);
+        let asked = line(alloc, text.as_bytes());
+        checks.same_at(text, &asked, want);
+        drop(asked);
     }
 }
 
@@ -92,16 +98,32 @@ const GREATEST: Asked = &[(
     }),
 )];
 
+// As many brackets that open and that close.
+fn brackets(alloc: Global, depth: usize) -> Result<(String, String), AllocError> {
+    let open = "[".repeat(alloc, depth)?;
+    match "]".repeat(alloc, depth) {
+        Ok(close) => Ok((open, close)),
+        Err(fault) => {
+            drop(open);
+            Err(fault)
+        }
+    }
+}
+
 // A Stop with a member that is passed over and nests this deep below the object.
 fn nested(alloc: Global, depth: usize) -> Result<String, AllocError> {
-    let (open, close) = ("[".repeat(alloc, depth)?, "]".repeat(alloc, depth)?);
-    format!(in alloc; "{{\"a\":{open}{close},\"do\":\"stop\",\"account\":1,\"key\":3}}")
+    let (open, close) = brackets(alloc, depth)?;
+    let text = format!(in alloc; "{{\"a\":{open}{close},\"do\":\"stop\",\"account\":1,\"key\":3}}");
+    drop((open, close));
+    text
 }
 
 // What a Stop with such a member asks for.
 fn nested_asked(alloc: Global, depth: usize) -> Result<LineAsked, AllocError> {
     let text = nested(alloc, depth)?;
-    Ok(line(alloc, text.as_bytes()))
+    let asked = line(alloc, text.as_bytes());
+    drop(text);
+    Ok(asked)
 }
 
 #[test]
@@ -170,6 +192,33 @@ fn other_lines_are_bad(rt: HostRuntime) -> Result<(), Fail> {
     Ok(checks.end()?)
 }
 
+// The body of a page.
+fn body_of(alloc: Global, page: &Page) -> Result<Vec<u8>, NoMemory>
+    requires { IsAnswer page.now }
+{
+    let mut out = Vec::new(alloc);
+    if let Err(fault) = body(alloc, page, &mut out) {
+        drop(out);
+        return Err(fault);
+    }
+    Ok(out)
+}
+
+// A page has this body.
+fn check_body<R: Print>(
+    checks: &mut Checks<'_, R>,
+    alloc: Global,
+    page: &Page,
+    want: &str,
+) -> Result<(), NoMemory>
+    requires { IsAnswer page.now }
+{
+    let body = body_of(alloc, page)?;
+    checks.same_at(want, body.as_slice(), want.as_bytes());
+    drop(body);
+    Ok(())
+}
+
 #[test]
 fn bodies_are_compact(rt: HostRuntime) -> Result<(), Fail> {
     let mut checks = Checks::new(&rt);
@@ -182,14 +231,15 @@ fn bodies_are_compact(rt: HostRuntime) -> Result<(), Fail> {
         (Reply::Refused(Rule::UnknownTank), r#"{"rule":3,"value":0}"#),
     ];
     for (reply, want) in replies {
-        let mut out = Vec::new(rt.alloc());
-        body(rt.alloc(), &Page::Reply(reply), &mut out)?;
-        checks.same(out.as_slice(), want.as_bytes());
+        check_body(&mut checks, rt.alloc(), &Page::Reply(reply), want)?;
     }
-    let mut out = Vec::new(rt.alloc());
-    body(rt.alloc(), &Page::Status(400, None), &mut out)?;
-    checks.same(out.as_slice(), r#"{"error":400}"#.as_bytes());
-    checks.same(shared(Page::Status(507, None)), Page::Status(507, None));
+    let refused = Page::Status(400, None);
+    check_body(&mut checks, rt.alloc(), &refused, r#"{"error":400}"#)?;
+    checks.same_at(
+        "a status",
+        shared(Page::Status(507, None)),
+        Page::Status(507, None),
+    );
     Ok(checks.end()?)
 }
 

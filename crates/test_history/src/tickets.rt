@@ -21,11 +21,20 @@ fn received(tank: u16, opening: Quantities, closing: Quantities) -> Result<Side,
     })
 }
 
+// Appends the lines of tickets.
+fn write_lines(out: &mut Vec<u8>, tickets: &[Ticket]) -> Result<(), Fail> {
+    for ticket in tickets {
+        ticket.write(out)?;
+    }
+    Ok(())
+}
+
 // The lines of tickets.
 fn lines_of(alloc: Global, tickets: &[Ticket]) -> Result<Vec<u8>, Fail> {
     let mut out = Vec::new(alloc);
-    for ticket in tickets {
-        ticket.write(&mut out)?;
+    if let Err(fail) = write_lines(&mut out, tickets) {
+        drop(out);
+        return Err(fail);
     }
     Ok(out)
 }
@@ -117,26 +126,56 @@ fn a_ticket_has_one_line(rt: HostRuntime) -> Result<(), Fail> {
 }
 
 // The net standard volume and the mass at closing, a way, and what moved of each.
-type Closing = (i64, i64, Way, Result<(i64, i64), WrongWay>);
+type Closing = (&'static str, i64, i64, Way, Result<(i64, i64), WrongWay>);
 
 const CLOSINGS: [Closing; 7] = [
-    (8_000_000, 6_800_000, Way::Inward, Ok((0, 0))),
-    (8_000_000, 6_799_999, Way::Inward, Ok((0, -1))),
-    (7_999_999, 6_800_001, Way::Inward, Err(WrongWay)),
-    (8_000_001, 6_799_999, Way::Inward, Ok((1, -1))),
-    (8_000_000, 6_800_001, Way::Outward, Ok((0, -1))),
-    (8_000_001, 6_799_999, Way::Outward, Err(WrongWay)),
-    (7_999_999, 6_799_000, Way::Outward, Ok((1, 1_000))),
+    ("nothing in", 8_000_000, 6_800_000, Way::Inward, Ok((0, 0))),
+    (
+        "no volume in",
+        8_000_000,
+        6_799_999,
+        Way::Inward,
+        Ok((0, -1)),
+    ),
+    (
+        "less by a receipt",
+        7_999_999,
+        6_800_001,
+        Way::Inward,
+        Err(WrongWay),
+    ),
+    ("a litre in", 8_000_001, 6_799_999, Way::Inward, Ok((1, -1))),
+    (
+        "no volume out",
+        8_000_000,
+        6_800_001,
+        Way::Outward,
+        Ok((0, -1)),
+    ),
+    (
+        "more by a shipment",
+        8_000_001,
+        6_799_999,
+        Way::Outward,
+        Err(WrongWay),
+    ),
+    (
+        "a litre out",
+        7_999_999,
+        6_799_000,
+        Way::Outward,
+        Ok((1, 1_000)),
+    ),
 ];
 
 #[test]
 fn the_net_volume_alone_decides_the_way(rt: HostRuntime) -> Result<(), Fail> {
     let mut checks = Checks::new(&rt);
     let opening = figures(EIGHT_MILLION)?;
-    for (nsv, mass, way, want) in CLOSINGS {
+    for (name, nsv, mass, way, want) in CLOSINGS {
         let closing = figures([8_000_000, 100_000, 100_000, 8_000_000, nsv, mass])?;
         let moved = shared(moved(&opening, &closing, shared(way)));
-        checks.same_at(nsv, moved.map(|moved| (moved.nsv, moved.mass)), want);
+        checks.same_at(name, moved.map(|moved| (moved.nsv, moved.mass)), want);
     }
     Ok(checks.end()?)
 }

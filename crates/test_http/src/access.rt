@@ -209,6 +209,7 @@ fn check_again<R: Print>(
     let access = SoleAccess::new(recovered_desk(alloc, disk)?, CALLER);
     let desk = desk_after(checks, access, OPENED_AGAIN);
     check_callers(checks, &desk, 4);
+    drop(desk);
     Ok(())
 }
 

@@ -138,6 +138,7 @@ fn check_body<R: Print>(
 ) {
     let asked = shared(posted(alloc, word, text.as_bytes()));
     checks.same_at(text, done_of(&asked), Ok((1, 3, want)));
+    drop(asked);
 }
 
 // Each body asks for its word's command.

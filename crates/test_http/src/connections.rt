@@ -7,6 +7,40 @@ use std::alloc::Global;
 use std::test::Fail;
 use test_checks::{Checks, shared};
 
+// Appends copies of pieces to a list.
+fn add_copies(copies: &mut Vec<Vec<u8>>, alloc: Global, pieces: &[&[u8]]) -> Result<(), NoMemory> {
+    for piece in pieces {
+        copies.push(piece.to_vec(alloc)?)?;
+    }
+    Ok(())
+}
+
+// Copies of pieces.
+fn copies_of(alloc: Global, pieces: &[&[u8]]) -> Result<Vec<Vec<u8>>, NoMemory> {
+    let mut copies = Vec::new(alloc);
+    if let Err(fault) = add_copies(&mut copies, alloc, pieces) {
+        drop(copies);
+        return Err(fault);
+    }
+    Ok(copies)
+}
+
+// Numbers of takes and of puts, in lists.
+fn numbers_of(
+    alloc: Global,
+    takes: &[u64],
+    puts: &[u64],
+) -> Result<(Vec<u64>, Vec<u64>), NoMemory> {
+    let takes = takes.to_vec(alloc)?;
+    match puts.to_vec(alloc) {
+        Ok(puts) => Ok((takes, puts)),
+        Err(fault) => {
+            drop(takes);
+            Err(fault.into())
+        }
+    }
+}
+
 // A connection that gives these pieces, and whose takes and puts of these numbers fail.
 fn talk(
     alloc: Global,
@@ -14,12 +48,14 @@ fn talk(
     bad_takes: &[u64],
     bad_puts: &[u64],
 ) -> Result<Talk, NoMemory> {
-    let mut copies = Vec::new(alloc);
-    for piece in pieces {
-        copies.push(piece.to_vec(alloc)?)?;
+    let copies = copies_of(alloc, pieces)?;
+    match numbers_of(alloc, bad_takes, bad_puts) {
+        Ok((bad_takes, bad_puts)) => Talk::new(alloc, copies, bad_takes, bad_puts),
+        Err(fault) => {
+            drop(copies);
+            Err(fault)
+        }
     }
-    let bad_takes = bad_takes.to_vec(alloc)?;
-    Talk::new(alloc, copies, bad_takes, bad_puts.to_vec(alloc)?)
 }
 
 // A call of a connection, and what it answers.
@@ -169,20 +205,33 @@ fn check_visits<R: Print>(checks: &mut Checks<'_, R>, visits: &mut Visits, calls
     }
 }
 
+// A connection that was used.
+fn used(alloc: Global) -> Result<Talk, NoMemory> {
+    let mut used = talk(alloc, &[], &[], &[])?;
+    let _ = used.put(b"used");
+    Ok(used)
+}
+
+// Appends a connection that was used, an idle place, a connection, another whose first take and first put fail, and an idle place.
+fn add_items(items: &mut Vec<Visit>, alloc: Global) -> Result<(), NoMemory> {
+    items.push(Visit::Conn(used(alloc)?))?;
+    items.push(shared(Visit::Idle))?;
+    items.push(Visit::Conn(talk(alloc, &[b"ab", b"cde"], &[], &[])?))?;
+    items.push(Visit::Conn(talk(alloc, &[b"xy"], &[1], &[1])?))?;
+    items.push(Visit::Idle)?;
+    Ok(())
+}
+
 // An idle place, a connection, another whose first take and first put fail, and an idle place; a connection that was used before them
 // is left out. The first and the fourth call fail.
 fn items(alloc: Global) -> Result<Visits, NoMemory> {
-    let mut used = talk(alloc, &[], &[], &[])?;
-    let _ = used.put(b"used");
-    let first = talk(alloc, &[b"ab", b"cde"], &[], &[])?;
-    let second = talk(alloc, &[b"xy"], &[1], &[1])?;
+    let fails = vec![in alloc; 1, 4]?;
     let mut items = Vec::new(alloc);
-    items.push(Visit::Conn(used))?;
-    items.push(shared(Visit::Idle))?;
-    items.push(Visit::Conn(first))?;
-    items.push(Visit::Conn(second))?;
-    items.push(Visit::Idle)?;
-    Visits::new(alloc, items, vec![in alloc; 1, 4]?)
+    if let Err(fault) = add_items(&mut items, alloc) {
+        drop((items, fails));
+        return Err(fault);
+    }
+    Visits::new(alloc, items, fails)
 }
 
 const VISITS: VisitsCalls = &[

@@ -21,10 +21,19 @@ pub fn empty_disk(alloc: Global, fails: &[u64]) -> Result<MemDisk, Fail> {
 pub fn new_desk(alloc: Global, disk: MemDisk) -> Result<RowDesk, Fail>
     ensures new { IfOk result (λ desk. IsJustMade ⟦<MemDisk as Disk>⟧.moment ⟦<MemDisk as Disk>⟧.faults desk (last_place desk.history)) }
 {
-    let site = sample_site::sample_site(alloc)?;
+    let site = match sample_site::sample_site(alloc) {
+        Ok(site) => site,
+        Err(fault) => {
+            drop(disk);
+            return Err(fault.into());
+        }
+    };
     match Desk::create(alloc, disk, site) {
         Ok(desk) => Ok(desk),
-        Err((_disk, fault)) => Err(fault)?,
+        Err((disk, fault)) => {
+            drop(disk);
+            Err(fault.into())
+        }
     }
 }
 
@@ -34,6 +43,9 @@ pub fn recovered_desk(alloc: Global, disk: MemDisk) -> Result<RowDesk, Fail>
 {
     match Desk::recover(alloc, disk) {
         Ok(desk) => Ok(desk),
-        Err((_disk, fault)) => Err(fault)?,
+        Err((disk, fault)) => {
+            drop(disk);
+            Err(fault.into())
+        }
     }
 }

@@ -247,7 +247,9 @@ const LENGTHS: Mades = &[
 // The bytes that are made of a repeated piece.
 fn made(alloc: Global, (before, piece, times, after): Made) -> Result<String, AllocError> {
     let pieces = piece.repeat(alloc, times)?;
-    format!(in alloc; "{before}{pieces}{after}")
+    let text = format!(in alloc; "{before}{pieces}{after}");
+    drop(pieces);
+    text
 }
 
 // What a row says that the front is.
@@ -269,6 +271,7 @@ fn check_mades<R: Print>(
         let text = made(alloc, *bytes)?;
         let want = made_front(*status, *whole);
         checks.same_at(name, front_of(text.as_bytes()), want);
+        drop(text);
     }
     Ok(())
 }

@@ -278,6 +278,7 @@ fn check_post<R: Print>(
     let text = post(alloc, word, body)?;
     let heard = routes.hear(alloc, text.as_bytes());
     checks.same_at(body, done_of(&heard), Ok((1, 3, want, false, text.len())));
+    drop((heard, text));
     Ok(())
 }
 
@@ -307,36 +308,68 @@ const ABOVE_ITS_RANGE: Bodies = &[(
     },
 )];
 
+// A POST of each body asks for its path's command.
+fn check_commands<R: Print>(
+    checks: &mut Checks<'_, R>,
+    alloc: Global,
+    routes: &Routes,
+) -> Result<(), AllocError> {
+    for rows in [MEASURED, MOVED, ENDED, ABOVE_ITS_RANGE] {
+        check_posts(checks, alloc, routes, rows)?;
+    }
+    Ok(())
+}
+
 #[test]
 fn a_post_asks_for_its_paths_command(rt: HostRuntime) -> Result<(), Fail> {
     let mut checks = Checks::new(&rt);
     let routes = routes_of(rt.alloc())?;
-    for rows in [MEASURED, MOVED, ENDED, ABOVE_ITS_RANGE] {
-        check_posts(&mut checks, rt.alloc(), &routes, rows)?;
-    }
+    let commands = check_commands(&mut checks, rt.alloc(), &routes);
     drop(routes);
+    commands?;
     Ok(checks.end()?)
+}
+
+// As many brackets that open and that close.
+fn brackets(alloc: Global, lists: usize) -> Result<(String, String), AllocError> {
+    let open = "[".repeat(alloc, lists)?;
+    match "]".repeat(alloc, lists) {
+        Ok(close) => Ok((open, close)),
+        Err(fault) => {
+            drop(open);
+            Err(fault)
+        }
+    }
 }
 
 // A Stop with a member that is passed over, in which this many lists stand one in another.
 fn nested(alloc: Global, lists: usize) -> Result<String, AllocError> {
-    let (open, close) = ("[".repeat(alloc, lists)?, "]".repeat(alloc, lists)?);
-    format!(in alloc; "{{\"a\":{open}{close},\"account\":1,\"key\":3}}")
+    let (open, close) = brackets(alloc, lists)?;
+    let text = format!(in alloc; "{{\"a\":{open}{close},\"account\":1,\"key\":3}}");
+    drop((open, close));
+    text
 }
 
 // What a POST of a body to the path of a word asks, if it is heard.
 fn asked_of(alloc: Global, word: &str, body: &str) -> Result<Option<Asked>, AllocError> {
     let text = post(alloc, word, body)?;
-    match hear(alloc, text.as_bytes()) {
+    let heard = hear(alloc, text.as_bytes());
+    drop(text);
+    match heard {
         Heard::Got { asked, .. } => Ok(Some(asked)),
-        _ => Ok(None),
+        other => {
+            drop(other);
+            Ok(None)
+        }
     }
 }
 
 // What a Stop asks that nests this deep, its object counted.
 fn nested_asked(alloc: Global, depth: usize) -> Result<Option<Asked>, AllocError> {
     let body = nested(alloc, depth.saturating_sub(1))?;
-    asked_of(alloc, "stop", &body)
+    let asked = asked_of(alloc, "stop", &body);
+    drop(body);
+    asked
 }
 
 // A level that no number of its form is.

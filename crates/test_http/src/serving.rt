@@ -3,6 +3,7 @@
 ghost use Rattle.std.specs.Prelude.{◌≡◌, ◌+◌, ◌≤◌, length};
 
 use crate::desks::{RowDesk, empty_disk, new_desk};
+use farm_base::NoMemory;
 use farm_disk::MemDisk;
 use farm_listeners::{Talk, Visit, Visits};
 use farm_ports::Fixed;
@@ -25,12 +26,35 @@ const STOP: &[u8] = b"POST /stop HTTP/1.1\r\ncontent-length: 21\r\n\r\n{\"accoun
 const STOPPED: &[u8] =
     b"HTTP/1.1 200 OK\r\ncontent-type: application/json\r\ncontent-length: 11\r\n\r\n{\"place\":1}";
 
+// Appends the request for a Stop to a list.
+fn add_stop(pieces: &mut Vec<Vec<u8>>, alloc: Global) -> Result<(), NoMemory> {
+    pieces.push(STOP.to_vec(alloc)?)?;
+    Ok(())
+}
+
+// A connection that asks for a Stop.
+fn talk(alloc: Global) -> Result<Talk, NoMemory> {
+    let mut pieces = Vec::new(alloc);
+    if let Err(fault) = add_stop(&mut pieces, alloc) {
+        drop(pieces);
+        return Err(fault);
+    }
+    Talk::new(alloc, pieces, Vec::new(alloc), Vec::new(alloc))
+}
+
+// Appends a connection that asks for a Stop to a list.
+fn add_talk(items: &mut Vec<Visit>, alloc: Global) -> Result<(), NoMemory> {
+    items.push(Visit::Conn(talk(alloc)?))?;
+    Ok(())
+}
+
 // A post whose listener gives one connection that asks for a Stop.
 fn post(alloc: Global) -> Result<Post<Visits>, Fail> {
-    let mut pieces = Vec::new(alloc);
-    pieces.push(STOP.to_vec(alloc)?)?;
     let mut items = Vec::new(alloc);
-    items.push(Visit::Conn(Talk::new(alloc, pieces, Vec::new(alloc), Vec::new(alloc))?))?;
+    if let Err(fault) = add_talk(&mut items, alloc) {
+        drop(items);
+        return Err(fault.into());
+    }
     Ok(shared(Post::new(Visits::new(alloc, items, Vec::new(alloc))?)))
 }
 
@@ -46,7 +70,10 @@ fn served<R: Wait>(
     let desk = new_desk(alloc, empty_disk(alloc, &[])?)?;
     match serve(rt, alloc, desk, posts, &clock, PORT) {
         Ok(served) => Ok(shared(served)),
-        Err(_) => Err("no memory")?,
+        Err(left) => {
+            drop(left);
+            Err("no memory")?
+        }
     }
 }
 
@@ -76,7 +103,13 @@ fn check_desk<R: Print>(checks: &mut Checks<'_, R>, desk: &RowDesk, entries: usi
 // Two posts that are alike.
 fn two_posts(alloc: Global) -> Result<[Post<Visits>; 2], Fail> {
     let first = post(alloc)?;
-    Ok([first, post(alloc)?])
+    match post(alloc) {
+        Ok(second) => Ok([first, second]),
+        Err(fail) => {
+            drop(first);
+            Err(fail)
+        }
+    }
 }
 
 // What two posts and a desk that they served have: the first served, and the second did nothing.
@@ -104,6 +137,7 @@ fn check_two<R: Wait + Print>(
 {
     let served = served(rt, alloc, posts)?;
     check_served(checks, &served, posts);
+    drop(served);
     Ok(())
 }
 
@@ -111,7 +145,8 @@ fn check_two<R: Wait + Print>(
 fn the_first_post_serves_alone(rt: HostRuntime) -> Result<(), Fail> {
     let mut checks = Checks::new(&rt);
     let mut posts = two_posts(rt.alloc())?;
-    check_two(&rt, rt.alloc(), &mut checks, &mut posts)?;
+    let two = check_two(&rt, rt.alloc(), &mut checks, &mut posts);
     drop(posts);
+    two?;
     Ok(checks.end()?)
 }

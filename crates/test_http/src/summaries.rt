@@ -103,7 +103,11 @@ total litres 12427621 kg 10563478
 // What a desk answers to a body, if it is one of a command.
 fn answer(alloc: Global, desk: &mut RowDesk, word: &str, body: &str) -> Option<Answer> {
     match posted(alloc, word, body.as_bytes()) {
-        LineAsked::Ask(ask) => Some(desk.ask(0, NOW, &ask)),
+        LineAsked::Ask(ask) => {
+            let answer = desk.ask(0, NOW, &ask);
+            drop(ask);
+            Some(answer)
+        }
         LineAsked::Bad | LineAsked::NoMemory => None,
     }
 }

@@ -14,7 +14,9 @@ type Talk<'a> = TcpTalk<&'a HostRuntime>;
 // A port that the system had free.
 fn free_port<R: Net>(rt: &R) -> io::Result<u16> {
     let listener = TcpListener::bind(rt, "127.0.0.1:0")?;
-    Ok(listener.local_addr()?.port())
+    let addr = listener.local_addr();
+    drop(listener);
+    Ok(addr?.port())
 }
 
 // What an accept gave.
@@ -25,12 +27,23 @@ enum Came {
     End,
 }
 
+// A peer asks, and sends no more.
+fn ask(peer: &mut TcpStream) -> io::Result<()> {
+    peer.write(b"ask")?;
+    peer.shutdown(Shutdown::Write)?;
+    Ok(())
+}
+
 // A peer that asked, and sends no more.
 fn peer_of(rt: &HostRuntime, port: u16) -> io::Result<TcpStream> {
     let mut peer = TcpStream::connect(rt, ("127.0.0.1", port))?;
-    peer.write(b"ask")?;
-    peer.shutdown(Shutdown::Write)?;
-    Ok(peer)
+    match ask(&mut peer) {
+        Ok(()) => Ok(peer),
+        Err(fault) => {
+            drop(peer);
+            Err(fault)
+        }
+    }
 }
 
 // A call of a connection, and what it answers.
@@ -118,6 +131,18 @@ fn check_peer(checks: &mut Checks<'_, HostRuntime>, peer: &mut TcpStream) -> io:
     Ok(())
 }
 
+// A post serves a peer that asked.
+fn check_asked(
+    checks: &mut Checks<'_, HostRuntime>,
+    post: &mut TcpPost<&HostRuntime>,
+    peer: &mut TcpStream,
+) -> io::Result<()> {
+    check_served(checks, post, "a peer comes", Ok(Came::Conn));
+    check_peer(checks, peer)?;
+    check_served(checks, post, "nobody comes any more", Ok(Came::Idle));
+    Ok(())
+}
+
 // A post at a port serves a peer.
 fn check_post(
     checks: &mut Checks<'_, HostRuntime>,
@@ -127,10 +152,9 @@ fn check_post(
 ) -> io::Result<()> {
     check_served(checks, post, "nobody comes", Ok(Came::Idle));
     let mut peer = peer_of(rt, port)?;
-    check_served(checks, post, "a peer comes", Ok(Came::Conn));
-    check_peer(checks, &mut peer)?;
-    check_served(checks, post, "nobody comes any more", Ok(Came::Idle));
-    Ok(())
+    let asked = check_asked(checks, post, &mut peer);
+    drop(peer);
+    asked
 }
 
 // A port that is taken is a fault of the listener that is second.
@@ -138,6 +162,20 @@ fn check_second(checks: &mut Checks<'_, HostRuntime>, rt: &HostRuntime, port: u1
     let mut second = TcpPost::new(rt);
     checks.same_at("a port that is taken", second.listen(port), Err(Failed));
     checks.same_at("its fault", second.faults(), 1);
+    drop(second);
+}
+
+// A post that listens at a port serves a peer, and has that port alone.
+fn check_listening(
+    checks: &mut Checks<'_, HostRuntime>,
+    rt: &HostRuntime,
+    post: &mut TcpPost<&HostRuntime>,
+    port: u16,
+) -> io::Result<()> {
+    check_post(checks, rt, post, port)?;
+    check_second(checks, rt, port);
+    checks.same_at("one fault", post.faults(), 1);
+    Ok(())
 }
 
 #[test]
@@ -147,9 +185,8 @@ fn a_peer_is_answered_over_tcp(rt: HostRuntime) -> Result<(), Fail> {
     let mut post = shared(TcpPost::new(&rt));
     check_served(&mut checks, &mut post, "before a listen", Err(Failed));
     checks.same_at("a listen", post.listen(port), Ok(()));
-    check_post(&mut checks, &rt, &mut post, port)?;
-    check_second(&mut checks, &rt, port);
-    checks.same_at("one fault", post.faults(), 1);
+    let listening = check_listening(&mut checks, &rt, &mut post, port);
     drop(post);
+    listening?;
     Ok(checks.end()?)
 }

@@ -132,14 +132,28 @@ fn with_gate(alloc: Global, gate: u8, rest: &[u8]) -> Result<Vec<u8>, AllocError
     Ok(bytes)
 }
 
-// No byte, the rest of a record after its gate, and that of another.
-const RESTS: &[&[u8]] = &[b"", b"\x01\0\0\0\x03one\0", b"\0\0\0\x03one\x01"];
+// What may stand after a closed gate.
+const RESTS: &[(&str, &[u8])] = &[
+    ("no byte", b""),
+    ("a record with its gate", b"\x01\0\0\0\x03one\0"),
+    ("the rest of a record", b"\0\0\0\x03one\x01"),
+];
 
 // Whatever stands after a closed gate, the journal is empty.
+fn check_rest<R: Print>(
+    checks: &mut Checks<'_, R>,
+    alloc: Global,
+    gate: u8,
+    (name, rest): (&'static str, &[u8]),
+) -> Result<(), Fail> {
+    let bytes = with_gate(alloc, gate, rest)?;
+    check_recovery(checks, alloc, name, &bytes, " site")
+}
+
+// The same of each rest.
 fn check_gate<R: Print>(checks: &mut Checks<'_, R>, alloc: Global, gate: u8) -> Result<(), Fail> {
     for rest in RESTS {
-        let bytes = with_gate(alloc, gate, rest)?;
-        check_recovery(checks, alloc, gate, &bytes, " site")?;
+        check_rest(checks, alloc, gate, *rest)?;
     }
     Ok(())
 }

@@ -43,32 +43,32 @@ fn changed(alloc: Global, offset: usize, byte: u8) -> Result<Vec<u8>, AllocError
 }
 
 // An offset, another byte that stands there, and what is recovered.
-const CHANGES: &[(usize, u8, &str)] = &[
-    (0, 0, "not a journal"),
-    (0, 2, "not a journal"),
-    (1, b'f', "not a journal"),
-    (8, b'2', "not a journal"),
-    (9, 1, "journal damaged at 0"),
-    (9, 2, "journal damaged at 0"),
-    (12, 250, "journal damaged at 0"),
-    (12, 3, " sit"),
-    (17, 0, " site"),
-    (18, 1, "journal damaged at 1"),
-    (18, 2, "journal damaged at 1"),
-    (21, 250, "journal damaged at 1"),
-    (25, 0x37, " site one"),
-    (35, 0x37, " site one three"),
-    (35, 1, "journal damaged at 3"),
+const CHANGES: &[(&str, usize, u8, &str)] = &[
+    ("the first gate 0", 0, 0, "not a journal"),
+    ("the first gate 2", 0, 2, "not a journal"),
+    ("the first letter", 1, b'f', "not a journal"),
+    ("the version", 8, b'2', "not a journal"),
+    ("a header of 2^24 bytes", 9, 1, "journal damaged at 0"),
+    ("a header of 2^25 bytes", 9, 2, "journal damaged at 0"),
+    ("a header of 250 bytes", 12, 250, "journal damaged at 0"),
+    ("a header of 3 bytes", 12, 3, " sit"),
+    ("a closed gate after the header", 17, 0, " site"),
+    ("a body of 2^24 bytes", 18, 1, "journal damaged at 1"),
+    ("a body of 2^25 bytes", 18, 2, "journal damaged at 1"),
+    ("a body of 250 bytes", 21, 250, "journal damaged at 1"),
+    ("another gate after a body", 25, 0x37, " site one"),
+    ("another gate at the end", 35, 0x37, " site one three"),
+    ("an open gate at the end", 35, 1, "journal damaged at 3"),
 ];
 
 // The journal with one change is recovered as its row says.
 fn check_change<R: Print>(
     checks: &mut Checks<'_, R>,
     alloc: Global,
-    (offset, byte, want): (usize, u8, &str),
+    (name, offset, byte, want): (&'static str, usize, u8, &str),
 ) -> Result<(), Fail> {
     let bytes = changed(alloc, offset, byte)?;
-    check_recovery(checks, alloc, offset, &bytes, want)
+    check_recovery(checks, alloc, name, &bytes, want)
 }
 
 #[test]

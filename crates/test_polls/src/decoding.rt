@@ -72,14 +72,14 @@ fn with_bit(offset: u8, bit: u8) -> GaugeMap
 fn a_bit_says_whether_a_reading_is_valid(rt: HostRuntime) -> Result<(), Fail> {
     let mut checks = Checks::new(&rt);
     let cases = [
-        (2, 2, false),
-        (1, 0, false),
-        (0, 0, true),
-        (2, 0, true),
-        (2, 15, true),
-        (0, 15, false),
+        ("bit 2 of register 2", 2, 2, false),
+        ("bit 0 of register 1", 1, 0, false),
+        ("bit 0 of register 0", 0, 0, true),
+        ("bit 0 of register 2", 2, 0, true),
+        ("bit 15 of register 2", 2, 15, true),
+        ("bit 15 of register 0", 0, 15, false),
     ];
-    for (offset, bit, valid) in cases {
+    for (name, offset, bit, valid) in cases {
         if offset >= 3 || bit >= 16 {
             return Err("no such bit".into());
         }
@@ -88,7 +88,7 @@ fn a_bit_says_whether_a_reading_is_valid(rt: HostRuntime) -> Result<(), Fail> {
         } else {
             Polled::NotValid(0)
         };
-        checks.same_at(offset, answer_of(rt.alloc(), with_bit(offset, bit))?, want);
+        checks.same_at(name, answer_of(rt.alloc(), with_bit(offset, bit))?, want);
     }
     Ok(checks.end()?)
 }

@@ -88,22 +88,57 @@ fn a_response_is_read_whatever_follows(rt: HostRuntime) -> Result<(), Fail> {
 fn the_first_field_that_disagrees_is_named(rt: HostRuntime) -> Result<(), Fail> {
     let mut checks = Checks::new(&rt);
     let cases = [
-        (2, &[0][..], Frame::Need(8)),
-        (2, &[0, 1][..], Frame::Wrong(1)),
-        (1, &[5][..], Frame::Need(8)),
-        (1, &[5, 0][..], Frame::Wrong(1)),
-        (1, &[0, 1, 0, 1][..], Frame::Wrong(2)),
-        (1, &[0, 1, 0, 0, 1][..], Frame::Need(4)),
-        (1, &[0, 1, 0, 0, 1, 5][..], Frame::Wrong(3)),
-        (1, &[0, 1, 0, 0, 0, 6][..], Frame::Wrong(3)),
-        (1, &[0, 1, 0, 0, 0, 5, 18][..], Frame::Wrong(4)),
-        (1, &[0, 1, 0, 0, 0, 5, 17, 3][..], Frame::Wrong(5)),
-        (1, &[0, 1, 0, 0, 0, 5, 17, 0x84][..], Frame::Wrong(5)),
-        (1, &[0, 1, 0, 0, 0, 3, 17, 4][..], Frame::Wrong(5)),
-        (1, &[0, 1, 0, 0, 0, 5, 17, 4, 3][..], Frame::Wrong(6)),
+        ("a byte of two transactions", 2, &[0][..], Frame::Need(8)),
+        ("another transaction", 2, &[0, 1][..], Frame::Wrong(1)),
+        ("half a transaction of another", 1, &[5][..], Frame::Need(8)),
+        ("a transaction of another", 1, &[5, 0][..], Frame::Wrong(1)),
+        ("another protocol", 1, &[0, 1, 0, 1][..], Frame::Wrong(2)),
+        ("half a length", 1, &[0, 1, 0, 0, 1][..], Frame::Need(4)),
+        (
+            "a length too long",
+            1,
+            &[0, 1, 0, 0, 1, 5][..],
+            Frame::Wrong(3),
+        ),
+        (
+            "a length of one more",
+            1,
+            &[0, 1, 0, 0, 0, 6][..],
+            Frame::Wrong(3),
+        ),
+        (
+            "another unit",
+            1,
+            &[0, 1, 0, 0, 0, 5, 18][..],
+            Frame::Wrong(4),
+        ),
+        (
+            "another function",
+            1,
+            &[0, 1, 0, 0, 0, 5, 17, 3][..],
+            Frame::Wrong(5),
+        ),
+        (
+            "an exception of a good length",
+            1,
+            &[0, 1, 0, 0, 0, 5, 17, 0x84][..],
+            Frame::Wrong(5),
+        ),
+        (
+            "a function of an exception's length",
+            1,
+            &[0, 1, 0, 0, 0, 3, 17, 4][..],
+            Frame::Wrong(5),
+        ),
+        (
+            "another byte count",
+            1,
+            &[0, 1, 0, 0, 0, 5, 17, 4, 3][..],
+            Frame::Wrong(6),
+        ),
     ];
-    for (transaction, bytes, want) in cases {
-        checks.same_at(bytes.len(), read_response(bytes, &asked(transaction)), want);
+    for (name, transaction, bytes, want) in cases {
+        checks.same_at(name, read_response(bytes, &asked(transaction)), want);
     }
     Ok(checks.end()?)
 }

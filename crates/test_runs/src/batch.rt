@@ -124,8 +124,9 @@ fn check_stop<R: Print>(
 fn nothing_is_taken_after_a_stop(rt: HostRuntime) -> Result<(), Fail> {
     let mut checks = Checks::new(&rt);
     let mut source = source_of(rt.alloc(), AROUND_A_STOP, Vec::new(rt.alloc()))?;
-    check_stop(&mut checks, rt.alloc(), &mut source)?;
+    let stop = check_stop(&mut checks, rt.alloc(), &mut source);
     drop(source);
+    stop?;
     Ok(checks.end()?)
 }
 
@@ -139,8 +140,13 @@ fn how_a_batch_ended_may_go_to_another_thread(rt: HostRuntime) -> Result<(), Fai
 #[test]
 fn what_is_looked_up_and_named_may_go_to_another_thread(rt: HostRuntime) -> Result<(), Fail> {
     let mut checks = Checks::new(&rt);
-    for query in [Query::Ticket(5), Query::Stock(101), Query::Total] {
-        checks.same(shared(query), query);
+    let queries = [
+        ("a ticket", Query::Ticket(5)),
+        ("a stock", Query::Stock(101)),
+        ("the total", Query::Total),
+    ];
+    for (name, query) in queries {
+        checks.same_at(name, shared(query), query);
     }
     let named = Named {
         tank: 101,
@@ -149,6 +155,6 @@ fn what_is_looked_up_and_named_may_go_to_another_thread(rt: HostRuntime) -> Resu
             sample: 1,
         },
     };
-    checks.same(shared(named), named);
+    checks.same_at("what is named", shared(named), named);
     Ok(checks.end()?)
 }

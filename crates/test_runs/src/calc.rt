@@ -34,6 +34,19 @@ fn check_calc<R: Print>(
     Ok(())
 }
 
+// The same of an input that is dropped after it.
+fn check_made<R: Print>(
+    checks: &mut Checks<'_, R>,
+    alloc: Global,
+    name: &str,
+    input: String,
+    want: (u8, &str),
+) -> Result<(), Fail> {
+    let checked = check_calc(checks, alloc, name, input.as_str(), want);
+    drop(input);
+    checked
+}
+
 #[test]
 fn calc_observed_volumes(rt: HostRuntime) -> Result<(), Fail> {
     let mut checks = Checks::new(&rt);
@@ -75,7 +88,7 @@ fn calc_roof_and_refusals(rt: HostRuntime) -> Result<(), Fail> {
     let mut checks = Checks::new(&rt);
     for (name, tov, roof, want) in ROOFS {
         let input = volumes_line(rt.alloc(), tov, roof)?;
-        check_calc(&mut checks, rt.alloc(), name, input.as_str(), *want)?;
+        check_made(&mut checks, rt.alloc(), name, input, *want)?;
     }
     check_calc(&mut checks, rt.alloc(), "no input", "", (4, FORM))?;
     Ok(checks.end()?)
@@ -117,7 +130,7 @@ fn calc_from_table(rt: HostRuntime) -> Result<(), Fail> {
     let mut checks = Checks::new(&rt);
     for (name, words, want) in TABLES {
         let input = table_lines(rt.alloc(), *words)?;
-        check_calc(&mut checks, rt.alloc(), name, input.as_str(), *want)?;
+        check_made(&mut checks, rt.alloc(), name, input, *want)?;
     }
     Ok(checks.end()?)
 }

@@ -51,10 +51,19 @@ pub type Calls = &'static [(&'static str, Call)];
 
 /// A desk of the row site, without an entry, on an empty disk.
 pub fn new_desk(alloc: Global, disk: MemDisk) -> Result<Desk<MemDisk, 4>, Fail> {
-    let site = sample_site::sample_site(alloc)?;
+    let site = match sample_site::sample_site(alloc) {
+        Ok(site) => site,
+        Err(fault) => {
+            drop(disk);
+            return Err(fault.into());
+        }
+    };
     match Desk::create(alloc, disk, site) {
         Ok(desk) => Ok(desk),
-        Err((_disk, fault)) => Err(fault)?,
+        Err((disk, fault)) => {
+            drop(disk);
+            Err(fault.into())
+        }
     }
 }
 

@@ -21,8 +21,7 @@ const MADE: Opened = Opened {
 
 // A disk without a byte that fails once, at the write of the gate.
 fn failing_disk(alloc: Global) -> Result<MemDisk, Fail> {
-    let mut fails = Vec::new(alloc);
-    fails.push(GATE_WRITE)?;
+    let fails = Vec::from_slice(alloc, &[GATE_WRITE])?;
     Ok(MemDisk::new(alloc, Vec::new(alloc), fails)?)
 }
 
@@ -50,7 +49,9 @@ const GATE: Calls = &[
 // Whether an entry is in doubt at the end of a desk, and where its disk stands.
 fn finished(desk: Desk<MemDisk, 4>) -> (bool, Stand) {
     let (disk, doubt) = desk.finish();
-    (doubt, disk.stand())
+    let stand = disk.stand();
+    drop(disk);
+    (doubt, stand)
 }
 
 // The disk of a desk with nothing in doubt had one fault. The body, the gate that failed and the gate that didn't took ten moments more.

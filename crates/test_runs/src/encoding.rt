@@ -2,7 +2,7 @@
 
 use farm_site::{Site, SiteBytesFault};
 use sample_site::sample_site;
-use std::alloc::Global;
+use std::alloc::{AllocError, Global};
 use std::test::Fail;
 use test_checks::Checks;
 
@@ -58,6 +58,7 @@ fn check_again<R: Print>(
 ) -> Result<(), Fail> {
     let again = bytes_of(alloc, Site::from_bytes(alloc, bytes)?)?;
     checks.same_at("read and written again", again.as_slice(), bytes);
+    drop(again);
     Ok(())
 }
 
@@ -67,8 +68,9 @@ fn the_row_site_is_read_from_its_bytes_and_written_again(rt: HostRuntime) -> Res
     let bytes = row_bytes(rt.alloc())?;
     checks.same_at("how many bytes", bytes.len(), LEN);
     check_parts(&mut checks, &bytes);
-    check_again(&mut checks, rt.alloc(), &bytes)?;
+    let again = check_again(&mut checks, rt.alloc(), &bytes);
     drop(bytes);
+    again?;
     Ok(checks.end()?)
 }
 
@@ -79,14 +81,25 @@ fn check_prefixes<R: Print>(checks: &mut Checks<'_, R>, alloc: Global, bytes: &[
     }
 }
 
+// Bytes of a site are no site's with one more.
+fn check_longer<R: Print>(
+    checks: &mut Checks<'_, R>,
+    alloc: Global,
+    bytes: &mut Vec<u8>,
+) -> Result<(), AllocError> {
+    bytes.push(0)?;
+    checks.same_at("one byte too many", is_bad(alloc, bytes), true);
+    Ok(())
+}
+
 #[test]
 fn bytes_of_the_row_site_are_neither_missing_nor_too_many(rt: HostRuntime) -> Result<(), Fail> {
     let mut checks = Checks::new(&rt);
     let mut bytes = row_bytes(rt.alloc())?;
     check_prefixes(&mut checks, rt.alloc(), &bytes);
-    bytes.push(0)?;
-    checks.same_at("one byte too many", is_bad(rt.alloc(), &bytes), true);
+    let longer = check_longer(&mut checks, rt.alloc(), &mut bytes);
     drop(bytes);
+    longer?;
     Ok(checks.end()?)
 }
 

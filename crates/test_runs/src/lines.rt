@@ -51,6 +51,19 @@ fn check_calls<R: Print>(
     }
 }
 
+// Calls of a new reader of a source.
+fn check_source<R: Print>(
+    checks: &mut Checks<'_, R>,
+    alloc: Global,
+    input: &mut Script,
+    calls: &[(&str, Call<'_>)],
+) -> Result<(), NoMemory> {
+    let mut reader = shared(LineReader::new(alloc)?);
+    check_calls(checks, &mut reader, input, calls);
+    drop(reader);
+    Ok(())
+}
+
 // Calls of a reader of a source of these pieces, whose takes of these numbers fail.
 fn check_lines<R: Print>(
     checks: &mut Checks<'_, R>,
@@ -61,9 +74,9 @@ fn check_lines<R: Print>(
 ) -> Result<(), NoMemory> {
     let fails = fails.to_vec(alloc)?;
     let mut input = source_of(alloc, pieces, fails)?;
-    let mut reader = shared(LineReader::new(alloc)?);
-    check_calls(checks, &mut reader, &mut input, calls);
-    Ok(())
+    let checked = check_source(checks, alloc, &mut input, calls);
+    drop(input);
+    checked
 }
 
 const ACROSS_PIECES: &[(&str, Call<'static>)] = &[
@@ -113,8 +126,9 @@ fn check_longest<R: Print>(
 fn a_line_of_65_537_bytes_is_passed_over(rt: HostRuntime) -> Result<(), Fail> {
     let mut checks = Checks::new(&rt);
     let longest = vec![in rt.alloc(); b'x'; 65_536]?;
-    check_longest(&mut checks, rt.alloc(), &longest)?;
+    let checked = check_longest(&mut checks, rt.alloc(), &longest);
     drop(longest);
+    checked?;
     Ok(checks.end()?)
 }
 

@@ -5,7 +5,7 @@ use farm_base::NoMemory;
 use farm_disk::MemDisk;
 use farm_ports::{Files, Fixed, Gather, Script};
 use farm_run::{Done, run_alone};
-use std::alloc::Global;
+use std::alloc::{AllocError, Global};
 use std::test::Fail;
 use test_checks::Checks;
 
@@ -22,7 +22,8 @@ const MOMENT: i64 = 1_700_000_000;
 
 /// What the words are answered with, over an input, a folder and an empty disk, no call on which fails.
 pub fn answer(alloc: Global, words: &[&str], input: &str, folder: Files) -> Result<Answer, Fail> {
-    let (answer, _) = answer_over(alloc, words, input, folder)?;
+    let (answer, disk) = answer_over(alloc, words, input, folder)?;
+    drop(disk);
     Ok(answer)
 }
 
@@ -33,15 +34,48 @@ fn answer_over(
     input: &str,
     mut folder: Files,
 ) -> Result<(Answer, MemDisk), Fail> {
+    let answer = answer_to(alloc, words, input, &mut folder);
+    drop(folder);
+    answer
+}
+
+// The same over a folder that is lent.
+fn answer_to(
+    alloc: Global,
+    words: &[&str],
+    input: &str,
+    folder: &mut Files,
+) -> Result<(Answer, MemDisk), Fail> {
     let mut source = source_of(alloc, &[input.as_bytes()], Vec::new(alloc))?;
-    answer_on(alloc, words, &mut source, &mut folder, empty_disk(alloc)?)
+    let answer = answer_on_empty(alloc, words, &mut source, folder);
+    drop(source);
+    answer
+}
+
+// What the words are answered with, over a source, a folder and an empty disk, and the disk that is left.
+fn answer_on_empty(
+    alloc: Global,
+    words: &[&str],
+    source: &mut Script,
+    folder: &mut Files,
+) -> Result<(Answer, MemDisk), Fail> {
+    answer_on(alloc, words, source, folder, empty_disk(alloc)?)
+}
+
+// Appends copies of pieces to a list.
+fn add_copies(copies: &mut Vec<Vec<u8>>, alloc: Global, pieces: &[&[u8]]) -> Result<(), NoMemory> {
+    for piece in pieces {
+        copies.push(piece.to_vec(alloc)?)?;
+    }
+    Ok(())
 }
 
 /// A source of these pieces, whose takes of these numbers fail.
 pub fn source_of(alloc: Global, pieces: &[&[u8]], fails: Vec<u64>) -> Result<Script, NoMemory> {
     let mut copies = Vec::new(alloc);
-    for piece in pieces {
-        copies.push(piece.to_vec(alloc)?)?;
+    if let Err(fault) = add_copies(&mut copies, alloc, pieces) {
+        drop((copies, fails));
+        return Err(fault);
     }
     Script::new(alloc, copies, fails)
 }
@@ -56,13 +90,34 @@ pub fn empty_disk(alloc: Global) -> Result<MemDisk, Fail> {
     Ok(MemDisk::new(alloc, Vec::new(alloc), Vec::new(alloc))?)
 }
 
-/// Words as a run takes them.
-pub fn words_of(alloc: Global, words: &[&str]) -> Result<Vec<String>, Fail> {
-    let mut owned = Vec::new(alloc);
+// Appends words to a list as a run takes them.
+fn add_words(owned: &mut Vec<String>, alloc: Global, words: &[&str]) -> Result<(), NoMemory> {
     for word in words {
         owned.push(String::from_str(alloc, word)?)?;
     }
+    Ok(())
+}
+
+/// Words as a run takes them.
+pub fn words_of(alloc: Global, words: &[&str]) -> Result<Vec<String>, Fail> {
+    let mut owned = Vec::new(alloc);
+    if let Err(fault) = add_words(&mut owned, alloc, words) {
+        drop(owned);
+        return Err(fault.into());
+    }
     Ok(owned)
+}
+
+// Words as a run takes them, and an output without a byte.
+fn words_and_sink(alloc: Global, words: &[&str]) -> Result<(Vec<String>, Gather), Fail> {
+    let owned = words_of(alloc, words)?;
+    match Gather::new(alloc, Vec::new(alloc)) {
+        Ok(sink) => Ok((owned, sink)),
+        Err(fault) => {
+            drop(owned);
+            Err(fault.into())
+        }
+    }
 }
 
 // What the words are answered with, over a source, a folder and a disk, and the disk that is left.
@@ -73,35 +128,71 @@ fn answer_on(
     folder: &mut Files,
     disk: MemDisk,
 ) -> Result<(Answer, MemDisk), Fail> {
-    let owned = words_of(alloc, words)?;
-    let (done, bytes) = done_on(alloc, &owned, source, folder, disk)?;
-    Ok(((done.status, bytes), done.disk.ok_or("no disk")?))
+    match words_and_sink(alloc, words) {
+        Ok((owned, mut sink)) => {
+            let left = left_on(alloc, &owned, source, &mut sink, folder, disk);
+            let bytes = Vec::from_slice(alloc, sink.bytes());
+            drop((owned, sink));
+            answered(left, bytes)
+        }
+        Err(fail) => {
+            drop(disk);
+            Err(fail)
+        }
+    }
 }
 
-// How the run of these words ended, which don't ask to serve, and the bytes that it put.
-fn done_on(
+// The status of the run of these words, which don't ask to serve, and the disk that is left.
+fn left_on(
     alloc: Global,
     words: &[String],
     source: &mut Script,
+    sink: &mut Gather,
     folder: &mut Files,
     disk: MemDisk,
-) -> Result<(Done<MemDisk>, Vec<u8>), Fail> {
+) -> Result<(u8, MemDisk), Fail> {
     if asks_to_serve(words) {
+        drop(disk);
         return Err("words that ask to serve")?;
     }
-    let mut sink = Gather::new(alloc, Vec::new(alloc))?;
-    let clock = Fixed::new(alloc, MOMENT)?;
-    let done = run_alone(alloc, words, source, &mut sink, folder, disk, &clock);
-    let bytes = Vec::from_slice(alloc, sink.bytes())?;
-    Ok((done, bytes))
+    match Fixed::new(alloc, MOMENT) {
+        Ok(clock) => left_of(run_alone(alloc, words, source, sink, folder, disk, &clock)),
+        Err(fault) => {
+            drop(disk);
+            Err(fault.into())
+        }
+    }
+}
+
+// The status of a run that ended, and the disk that is left.
+fn left_of(done: Done<MemDisk>) -> Result<(u8, MemDisk), Fail> {
+    Ok((done.status, done.disk.ok_or("no disk")?))
+}
+
+// The status of a run with the bytes that it put, and the disk that is left.
+fn answered(
+    left: Result<(u8, MemDisk), Fail>,
+    bytes: Result<Vec<u8>, AllocError>,
+) -> Result<(Answer, MemDisk), Fail> {
+    let (status, disk) = left?;
+    match bytes {
+        Ok(bytes) => Ok(((status, bytes), disk)),
+        Err(fault) => {
+            drop(disk);
+            Err(fault.into())
+        }
+    }
 }
 
 // A disk with the journal of the row site, without an entry.
 fn row_journal(alloc: Global) -> Result<MemDisk, Fail> {
     let (answer, disk) = answer_over(alloc, INIT, "", sample_site::row_folder(alloc)?)?;
-    if answer.0 == 0 {
+    let status = answer.0;
+    drop(answer);
+    if status == 0 {
         Ok(disk)
     } else {
+        drop(disk);
         Err("no journal")?
     }
 }
@@ -109,29 +200,43 @@ fn row_journal(alloc: Global) -> Result<MemDisk, Fail> {
 /// What a batch on a new journal of the row site answers to a source of lines.
 pub fn batch_answer(alloc: Global, lines: &mut Script) -> Result<Answer, Fail> {
     let mut folder = no_folder(alloc)?;
-    let (answer, _) = answer_on(alloc, BATCH, lines, &mut folder, row_journal(alloc)?)?;
+    let answer = batch_over(alloc, lines, &mut folder);
+    drop(folder);
+    answer
+}
+
+// The same over a folder that is lent.
+fn batch_over(alloc: Global, lines: &mut Script, folder: &mut Files) -> Result<Answer, Fail> {
+    let (answer, disk) = answer_on(alloc, BATCH, lines, folder, row_journal(alloc)?)?;
+    drop(disk);
     Ok(answer)
 }
 
-// Appends the lines of rows to a text and their answers to another, each with its line feed.
-fn push_rows(rows: &[(&str, &str)], lines: &mut String, answers: &mut String) -> Result<(), Fail> {
-    for (line, answer) in rows {
+// Appends the lines of rows to a text, each with its line feed.
+fn push_rows(rows: &[(&str, &str)], lines: &mut String) -> Result<(), Fail> {
+    for (line, _) in rows {
         lines.push_str(line)?;
         lines.push('\n')?;
-        answers.push_str(answer)?;
-        answers.push('\n')?;
     }
     Ok(())
 }
 
-// The lines of rows, and their answers.
-fn texts_of(alloc: Global, rows: &[&[(&str, &str)]]) -> Result<(String, String), Fail> {
-    let mut lines = String::new(alloc);
-    let mut answers = String::new(alloc);
+// The same of each part of rows.
+fn push_parts(rows: &[&[(&str, &str)]], lines: &mut String) -> Result<(), Fail> {
     for part in rows {
-        push_rows(part, &mut lines, &mut answers)?;
+        push_rows(part, lines)?;
     }
-    Ok((lines, answers))
+    Ok(())
+}
+
+// The lines of rows.
+fn lines_of(alloc: Global, rows: &[&[(&str, &str)]]) -> Result<String, Fail> {
+    let mut lines = String::new(alloc);
+    if let Err(fail) = push_parts(rows, &mut lines) {
+        drop(lines);
+        return Err(fail);
+    }
+    Ok(lines)
 }
 
 /// An answer has this status and this text.
@@ -145,6 +250,36 @@ pub fn check_answer<R: Print>(
     let (came, bytes) = answer;
     checks.same_at(case, came, status);
     checks.same_at(case, bytes.as_slice(), text.as_bytes());
+    drop(bytes);
+}
+
+// A text is the answers of rows, a line each. A line that differs is printed with its request.
+fn check_lines<R: Print>(checks: &mut Checks<'_, R>, rows: &[&[(&str, &str)]], text: &[u8]) {
+    let mut lines = text.split(|byte| *byte == b'\n');
+    for part in rows {
+        for (request, answer) in *part {
+            checks.same_at(*request, lines.next(), Some(answer.as_bytes()));
+        }
+    }
+    checks.same_at("after the last line", lines.next(), Some(b"".as_slice()));
+    checks.same_at("lines that follow", lines.next(), None);
+}
+
+// A batch on a new journal of the row site answers a text of lines as the rows say.
+fn check_rows<R: Print>(
+    checks: &mut Checks<'_, R>,
+    alloc: Global,
+    rows: &[&[(&str, &str)]],
+    lines: &str,
+) -> Result<(), Fail> {
+    let mut source = source_of(alloc, &[lines.as_bytes()], Vec::new(alloc))?;
+    let answer = batch_answer(alloc, &mut source);
+    drop(source);
+    let (status, text) = answer?;
+    checks.same_at("the status of a batch", status, 0);
+    check_lines(checks, rows, &text);
+    drop(text);
+    Ok(())
 }
 
 /// A batch on a new journal of the row site answers each line of rows as its row says.
@@ -153,11 +288,10 @@ pub fn check_batch<R: Print>(
     alloc: Global,
     rows: &[&[(&str, &str)]],
 ) -> Result<(), Fail> {
-    let (lines, answers) = texts_of(alloc, rows)?;
-    let mut source = source_of(alloc, &[lines.as_bytes()], Vec::new(alloc))?;
-    let answer = batch_answer(alloc, &mut source)?;
-    check_answer(checks, "a batch", answer, 0, answers.as_str());
-    Ok(())
+    let lines = lines_of(alloc, rows)?;
+    let checked = check_rows(checks, alloc, rows, lines.as_str());
+    drop(lines);
+    checked
 }
 
 /// What `calc` answers to an input.

@@ -14,13 +14,26 @@ fn table_answer(alloc: Global, folder: Files) -> Result<Answer, Fail> {
     answer(alloc, &["table", "--site", "row"], "", folder)
 }
 
-// The folder of the row site, with a text in one of its files replaced where it stands first.
-fn edited(alloc: Global, [name, old, new]: [&str; 3]) -> Result<Files, Fail> {
-    let mut files = sample_site::row_files(alloc)?;
-    for (own, bytes) in &mut files {
+// Replaces a text in the file of a name, where it stands first.
+fn replace_in(
+    files: &mut [(String, Vec<u8>)],
+    alloc: Global,
+    [name, old, new]: [&str; 3],
+) -> Result<(), Fail> {
+    for (own, bytes) in files {
         if own.as_str() == name {
             *bytes = replaced(alloc, bytes, old, new)?;
         }
+    }
+    Ok(())
+}
+
+// The folder of the row site, with a text in one of its files replaced where it stands first.
+fn edited(alloc: Global, words: [&str; 3]) -> Result<Files, Fail> {
+    let mut files = sample_site::row_files(alloc)?;
+    if let Err(fail) = replace_in(&mut files, alloc, words) {
+        drop(files);
+        return Err(fail);
     }
     Ok(Files::new(alloc, files, Vec::new(alloc))?)
 }
@@ -31,20 +44,36 @@ fn replaced(alloc: Global, bytes: &[u8], old: &str, new: &str) -> Result<Vec<u8>
     Ok(text.replacen(alloc, old, new, 1)?.into_bytes())
 }
 
+// Appends a line, which is dropped after it.
+fn push_line(out: &mut String, line: String) -> Result<(), AllocError> {
+    let pushed = out.push_str(line.as_str());
+    drop(line);
+    pushed
+}
+
 // The issued table of a tank of the row site: a row each 10 mm from 0 to 15,000 mm, of 10,000 litres each.
 fn write_table(out: &mut String, alloc: Global, tank: u16) -> Result<(), AllocError> {
-    out.push_str(format!(in alloc; "tank {tank}\n")?.as_str())?;
+    push_line(out, format!(in alloc; "tank {tank}\n")?)?;
     for row in 0..=1_500_u32 {
-        out.push_str(format!(in alloc; "{} {}\n", 10 * row, 10_000 * row)?.as_str())?;
+        push_line(out, format!(in alloc; "{} {}\n", 10 * row, 10_000 * row)?)?;
     }
     Ok(())
 }
 
-// The issued tables of the row site.
+// The issued tables of the tanks of the row site.
+fn write_tables(out: &mut String, alloc: Global) -> Result<(), AllocError> {
+    for tank in 101..=106 {
+        write_table(out, alloc, tank)?;
+    }
+    Ok(())
+}
+
+// The same as a text.
 fn issued(alloc: Global) -> Result<String, AllocError> {
     let mut tables = String::new(alloc);
-    for tank in 101..=106 {
-        write_table(&mut tables, alloc, tank)?;
+    if let Err(fault) = write_tables(&mut tables, alloc) {
+        drop(tables);
+        return Err(fault);
     }
     Ok(tables)
 }
@@ -58,6 +87,7 @@ fn check_tables<R: Print>(
     let (status, bytes) = table_answer(alloc, sample_site::row_folder(alloc)?)?;
     checks.same_at("the status", status, 0);
     checks.same_at("the tables", bytes.as_slice() == want.as_bytes(), true);
+    drop(bytes);
     Ok(())
 }
 
@@ -65,8 +95,9 @@ fn check_tables<R: Print>(
 fn each_tank_has_its_table_issued(rt: HostRuntime) -> Result<(), Fail> {
     let mut checks = Checks::new(&rt);
     let want = issued(rt.alloc())?;
-    check_tables(&mut checks, rt.alloc(), want.as_str())?;
+    let tables = check_tables(&mut checks, rt.alloc(), want.as_str());
     drop(want);
+    tables?;
     Ok(checks.end()?)
 }
 

@@ -21,7 +21,9 @@ fn usage_line(rt: HostRuntime) -> Result<(), Fail> {
 // The site's folder and the journal's file that words name.
 fn places_of(alloc: Global, words: &[&str]) -> Result<(String, String), Fail> {
     let owned = words_of(alloc, words)?;
-    Ok(places(alloc, &owned).ok_or("out of memory")?)
+    let named = places(alloc, &owned);
+    drop(owned);
+    Ok(named.ok_or("out of memory")?)
 }
 
 // Words, and the folder and the file that they name.
@@ -62,6 +64,7 @@ fn check_places<R: Print>(
 ) -> Result<(), Fail> {
     let (site, journal) = places_of(alloc, words)?;
     checks.same_at(name, (site.as_str(), journal.as_str()), want);
+    drop((site, journal));
     Ok(())
 }
 
@@ -85,8 +88,9 @@ fn report_of(alloc: Global, failing: u64) -> Result<Answer, Fail> {
     let fails = Vec::from_slice(alloc, &[failing])?;
     let mut sink = Gather::new(alloc, fails)?;
     let status = report_no_memory(&mut sink);
-    let bytes = Vec::from_slice(alloc, sink.bytes())?;
-    Ok((status, bytes))
+    let bytes = Vec::from_slice(alloc, sink.bytes());
+    drop(sink);
+    Ok((status, bytes?))
 }
 
 #[test]

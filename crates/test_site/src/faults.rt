@@ -19,7 +19,7 @@ fn faults_have_their_words(rt: HostRuntime) -> Result<(), Fail> {
     ];
     for (fault, want) in cases {
         let text = format!(in rt.alloc(); "{fault}")?;
-        checks.same(text.as_str(), want);
+        checks.same_at(want, text.as_str(), want);
     }
     Ok(checks.end()?)
 }
