@@ -1,0 +1,2 @@
+-- The lemmas of `test_turns`, by topic.
+pub mod Keeping

@@ -1,0 +1,2 @@
+-- The definitions of `test_turns`, by subject.
+pub mod Passes
