@@ -90,16 +90,17 @@ class Library:
 
 
 class Run:
-    """`rt` that builds a library in the checkout or in a copy."""
+    """`rt` that builds a library in the checkout or in a copy. What isn't first gives way to what is."""
 
-    def __init__(self, top, library, jobs):
+    def __init__(self, top, library, jobs, is_first=True):
         self.top, self.library, self.jobs, self.began = top, library, jobs, time.monotonic()
         folder = f"{top}/crates/{library.name}"
         os.makedirs(f"{folder}/out", exist_ok=True)
         self.log = f"{folder}/out/library.log"
         with open(self.log, "wb") as log:
             # On standard error it says only for what it waits, as for another command in the same checkout.
-            self.process = subprocess.Popen(["rt", "lib", "--jobs", str(jobs)], cwd=folder, stdin=subprocess.DEVNULL, stdout=log)
+            words = [*([] if is_first else ["nice"]), "rt", "lib", "--jobs", str(jobs)]
+            self.process = subprocess.Popen(words, cwd=folder, stdin=subprocess.DEVNULL, stdout=log)
 
     def said(self):
         """What `rt` said, with the paths of the checkout."""
@@ -145,7 +146,7 @@ class Build:
 
     def begin(self):
         """Begins as many libraries as may go on at once, those with the longest chain first. The one with the longest chain of all has all
-        jobs, since it bounds the time of the whole; any other has one, or more if few are there to begin."""
+        jobs and goes first, since it bounds the time of the whole; any other has one job, or more if few are there to begin."""
         ready = [library for library in self.left if self.built.issuperset(library.needs)]
         for at, library in enumerate(ready):
             free = self.at_once - len(self.running)
@@ -155,7 +156,7 @@ class Build:
             is_longest = all(run.library.chain <= library.chain for run in self.running)
             jobs = self.at_once if is_longest else max(1, free // (len(ready) - at))
             self.left.remove(library)
-            self.running.append(Run(top, library, min(jobs, MOST_JOBS)))
+            self.running.append(Run(top, library, min(jobs, MOST_JOBS), is_longest))
 
     def end(self, run):
         """Takes in what a run that has ended came to."""
