@@ -10,6 +10,8 @@ mod bodies;
 #[cfg(test)]
 mod broken_heads;
 #[cfg(test)]
+mod commands;
+#[cfg(test)]
 mod connections;
 #[cfg(test)]
 mod desks;
