@@ -58,11 +58,11 @@ any_by P Q R xs all implies (k, x, within, at, holds) = (k, x, within, at, impli
 abbrev caller_faults : {D : Type 0} → TurnState D → CallerFaults
 caller_faults access = record { tally = access.pass.known.tally; level = access.pass.known.level; faulted = access.faulted }
 
-module _ {D : Type 0} (turn : TurnView (DeskState D)) (passes : List (PassView Entry FoundState)) (left : DeskState D)
+module _ {D : Type 0} (turn : TurnView (DeskState D)) (passes : List (PassView Entry (FoundState D))) (left : DeskState D)
     (closed : IsClosed desk_features turn.opening passes left) (unused : IsUnused turn.opening) (fits : left.failed < 2 ^ 64) where
   module _ (accesses : List (TurnState D)) (maps : map (λ access. access.pass) accesses ≡ passes) (each : All (IsAccessOf turn) accesses) where
     -- what holds of each pass holds of the pass of each access
-    of_each : (P : PassView Entry FoundState → Type 0) → All P passes → All (λ access. P access.pass) accesses
+    of_each : (P : PassView Entry (FoundState D) → Type 0) → All P passes → All (λ access. P access.pass) accesses
     of_each P all = all_of_map (λ (access : TurnState D). access.pass) P accesses (subst (All P) (sym maps) all)
 
     -- the desk's history continues what a caller has seen
@@ -70,7 +70,7 @@ module _ {D : Type 0} (turn : TurnView (DeskState D)) (passes : List (PassView E
         Continues (seen_history access) left.history
     continues_one access is prefix =
         continues_by (seen_history access) left.history
-        (ap (λ (found : FoundState). found.history.site) closed.root_is
+        (ap (λ (found : FoundState D). found.history.site) closed.root_is
         ∙ ap (λ (view : TurnView (DeskState D)). view.opening.history.site) (sym is.turn_is)) prefix
 
     -- its entries are those with its number
@@ -83,8 +83,8 @@ module _ {D : Type 0} (turn : TurnView (DeskState D)) (passes : List (PassView E
     -- all faults of the accesses are those of the desk
     failed_is : left.failed ≡ sum_by (λ (faults : CallerFaults). faults.tally) (map caller_faults accesses)
     failed_is =
-        let sums = sum_of_map (λ (access : TurnState D). access.pass) (λ (pass : PassView Entry FoundState). pass.known.tally) accesses in
-        let same = ap (sum_by (λ (pass : PassView Entry FoundState). pass.known.tally)) maps in
+        let sums = sum_of_map (λ (access : TurnState D). access.pass) (λ (pass : PassView Entry (FoundState D)). pass.known.tally) accesses in
+        let same = ap (sum_by (λ (pass : PassView Entry (FoundState D)). pass.known.tally)) maps in
         let own = sum_of_map caller_faults (λ (faults : CallerFaults). faults.tally) accesses in
         omega (arith, closed.tally, unused.failed, sums, same, own)
 
@@ -109,8 +109,8 @@ module _ {D : Type 0} (turn : TurnView (DeskState D)) (passes : List (PassView E
           (any_by (IsAccessOf turn) (λ (access : TurnState D). access.pass.known.number ≡ Some entry.caller)
           (λ (access : TurnState D). access.caller ≡ entry.caller) accesses each
           (λ access is number. same_number access.caller entry.caller access.pass.known.number is.stands.enrolled number)
-          (any_of_map (λ (access : TurnState D). access.pass) (λ (pass : PassView Entry FoundState). pass.known.number ≡ Some entry.caller) accesses
-          (subst (λ (all : List (PassView Entry FoundState)). Any (λ pass. pass.known.number ≡ Some entry.caller) all) (sym maps)
+          (any_of_map (λ (access : TurnState D). access.pass) (λ (pass : PassView Entry (FoundState D)). pass.known.number ≡ Some entry.caller) accesses
+          (subst (λ (all : List (PassView Entry (FoundState D))). Any (λ pass. pass.known.number ≡ Some entry.caller) all) (sym maps)
           (closed.callers k d within))));
       certain = All-map (λ (caller : CallerState). caller.certain ≤ certain left.doubt left.history) turn_caller accesses
           (of_each (λ pass. pass.known.mark ≤ certain left.doubt left.history) closed.marks);

@@ -12,7 +12,7 @@ use Rattle.desk_access.specs.Access.{has_stop}
 use Rattle.desk_turns.specs.Turns.{IsNewPass, IsTurnAccess}
 
 -- it stands as every access does
-pub new_stands : {D : Type 0} (turn : TurnView (DeskState D)) (pass : PassView Entry FoundState) (caller opened : ℕ) → IsNewPass turn pass caller →
+pub new_stands : {D : Type 0} (turn : TurnView (DeskState D)) (pass : PassView Entry (FoundState D)) (caller opened : ℕ) → IsNewPass turn pass caller →
     opened ≡ last_place turn.opening.history →
     IsTurnAccess (record { turn = turn; pass = pass; caller = caller; faulted = 0; stopped = false }) opened
 new_stands turn pass caller opened new is =

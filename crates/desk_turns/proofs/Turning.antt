@@ -26,12 +26,12 @@ use Rattle.desk_turns.proofs.Counting.{raised_own, tallied_looked, tallied_on}
 use Rattle.desk_turns.proofs.Seeing.{continues_by, same_site, stop_on}
 
 -- what a desk shows under a turn
-abbrev pub desk_features : {D : Type 0} → Features (DeskState D) Entry FoundState
+abbrev pub desk_features : {D : Type 0} → Features (DeskState D) Entry (FoundState D)
 desk_features =
     features (λ desk. desk.history.entries) (λ entry. entry.caller) found_of (λ desk. desk.failed) (λ desk. certain desk.doubt desk.history)
 
 -- the access after a turn of its pass
-abbrev pub after_turn : {D : Type 0} → TurnState D → PassView Entry FoundState → ℕ → Bool → TurnState D
+abbrev pub after_turn : {D : Type 0} → TurnState D → PassView Entry (FoundState D) → ℕ → Bool → TurnState D
 after_turn access pass faulted stopped = record { turn = access.turn; pass = pass; caller = access.caller; faulted = faulted; stopped = stopped }
 
 -- nothing is in doubt after a reply
@@ -50,19 +50,19 @@ value_or other _ = other
 pub same_number : (first second : ℕ) (number : Option ℕ) → number ≡ Some first → number ≡ Some second → first ≡ second
 same_number first second number is also = ap (value_or first) (sym is ∙ also)
 
-module _ {D J : Type 0} (access : TurnState D) (new : PassView Entry FoundState) (does : J → ℕ → DeskState D → J → DeskState D → Type 0) (job job' : J)
+module _ {D J : Type 0} (access : TurnState D) (new : PassView Entry (FoundState D)) (does : J → ℕ → DeskState D → J → DeskState D → Type 0) (job job' : J)
     (turned : Turned desk_features does access.turn.opening job job' access.pass.known new.known) where
   -- the turn's desk before, if it begins with what it was made with, continues what the caller had seen
   pub follows_seen : Begins turned.before → Continues (seen_history access) turned.before.history
   follows_seen begins =
       continues_by (seen_history access) turned.before.history
-      (same_site (found_of turned.before).history turned.before.history begins ∙ ap (λ (found : FoundState). found.history.site) turned.root_before) turned.begins
+      (same_site (found_of turned.before).history turned.before.history begins ∙ ap (λ (found : FoundState D). found.history.site) turned.root_before) turned.begins
 
   -- the desk's history afterwards is what the caller has then seen
   pub seen_is : (faulted : ℕ) (stopped : Bool) → Begins turned.after → seen_history (after_turn access new faulted stopped) ≡ turned.after.history
   seen_is faulted stopped begins =
       ap₂ (λ place (entries : List Entry). record { site = place; entries = entries })
-      (sym (same_site (found_of turned.after).history turned.after.history begins ∙ ap (λ (found : FoundState). found.history.site) turned.root_after)) turned.seen
+      (sym (same_site (found_of turned.after).history turned.after.history begins ∙ ap (λ (found : FoundState D). found.history.site) turned.root_after)) turned.seen
 
   -- what the caller has seen begins with what it had seen
   pub seen_on : IsPrefix access.pass.known.seen new.known.seen
@@ -85,7 +85,7 @@ module _ {D J : Type 0} (access : TurnState D) (new : PassView Entry FoundState)
     enrolled = numbers.number ∙ is.enrolled;
     begins =
         subst (λ (history : History). Continues (opening_history access) history) (sym (seen_is faulted (access.stopped || stop) begins))
-        (subst (λ (found : FoundState). Continues found.history turned.after.history) turned.root_after begins);
+        (subst (λ (found : FoundState D). Continues found.history turned.after.history) turned.root_after begins);
     looked_is = looked_is ∙ ap length (sym turned.seen);
     stopped_is =
         ap₂ (λ was is. was || is) is.stopped_is
@@ -100,7 +100,7 @@ module _ {D J : Type 0} (access : TurnState D) (new : PassView Entry FoundState)
       StaysAtTurn access (after_turn access new faulted stopped)
   stays_at faulted stopped same numbers = record { turn = refl; of_the_turn = same; numbers = numbers }
 
-module _ {D : Type 0} (limit : ℕ) (access : TurnState D) (new : PassView Entry FoundState) (job job' : AskState)
+module _ {D : Type 0} (limit : ℕ) (access : TurnState D) (new : PassView Entry (FoundState D)) (job job' : AskState)
     (turned : Turned desk_features (DoesAsk limit) access.turn.opening job job' access.pass.known new.known) where
   -- the caller asked
   pub asked : (faulted : ℕ) (stopped : Bool) (looked : ℕ) → IsTurnAccess access looked → access.faulted < 2 ^ 64 →
@@ -138,7 +138,7 @@ module _ {D : Type 0} (limit : ℕ) (access : TurnState D) (new : PassView Entry
       (record { tally = new.known.tally; level = new.known.level; faulted = faulted }) turned.before.failed turned.after.failed is.tallied
       turned.level_seen turned.tally_rises turned.ran.failed turned.tally turned.level_is count
 
-module _ {D : Type 0} (access : TurnState D) (new : PassView Entry FoundState) (job job' : LookJob)
+module _ {D : Type 0} (access : TurnState D) (new : PassView Entry (FoundState D)) (job job' : LookJob)
     (turned : Turned desk_features DoesLook access.turn.opening job job' access.pass.known new.known) where
   -- a look leaves a desk that begins with what it was made with
   pub look_begins : Begins turned.after

@@ -37,6 +37,6 @@ pub record IsAccessOf {D : Type 0} (turn : TurnView (DeskState D)) (access : Tur
   pub stands : IsTurnAccess access (length access.pass.known.seen)
 
 -- a desk accounts for these passes of its turn: whatever accesses they are of, the callers of these are all that the desk had
-abbrev pub AccountsFor : {D : Type 0} → TurnView (DeskState D) → List (PassView Entry FoundState) → DeskState D → Type 0
+abbrev pub AccountsFor : {D : Type 0} → TurnView (DeskState D) → List (PassView Entry (FoundState D)) → DeskState D → Type 0
 AccountsFor {D} turn passes left = (accesses : List (TurnState D)) → map (λ access. access.pass) accesses ≡ passes → All (IsAccessOf turn) accesses →
     AreCallers turn.opening left (map turn_caller accesses)

@@ -12,7 +12,7 @@ use Rattle.desk_turns.specs.Tallies.{IsTallied}
 -- its answers were faults of the disk; and whether it has seen a Stop that was entered since.
 pub record TurnState (D : Type 0) : Type 0 where
   pub turn : TurnView (DeskState D)
-  pub pass : PassView Entry FoundState
+  pub pass : PassView Entry (FoundState D)
   pub caller : ℕ
   pub faulted : ℕ
   pub stopped : Bool
@@ -26,7 +26,7 @@ abbrev pub seen_history : {D : Type 0} → TurnState D → History
 seen_history access = record { site = (opening_history access).site; entries = access.pass.known.seen }
 
 -- A pass is new: it is enrolled with this number, has taken no turn, and is of a turn that was opened with a desk as it was made.
-pub record IsNewPass {D : Type 0} (turn : TurnView (DeskState D)) (pass : PassView Entry FoundState) (caller : ℕ) : Type 0 where
+pub record IsNewPass {D : Type 0} (turn : TurnView (DeskState D)) (pass : PassView Entry (FoundState D)) (caller : ℕ) : Type 0 where
   pub of_this_turn : pass.turn ≡ turn.turn
   pub enrolled : pass.known.number ≡ Some caller
   pub seen : pass.known.seen ≡ turn.opening.history.entries

@@ -14,12 +14,12 @@ use farm_turn::{Pass, Turn};
 /// Takes the desk back, with all passes of its turn, which was opened with a desk that was just made. Takes no memory.
 pub fn close_turn<D: Disk + Drop, const LIMIT: usize>(
     turn: Turn<Desk<BoxedDisk<D>, LIMIT>>,
-    passes: Vec<Pass<Entry, Found<LIMIT>>>,
+    passes: Vec<Pass<Entry, Found<BoxedDisk<D>, LIMIT>>>,
 ) -> Desk<BoxedDisk<D>, LIMIT>
     requires of_this_turn { All (λ pass. pass.turn ≡ turn.turn) passes.items }
     requires all_passes { sum_by (λ pass. numbers_of pass.known) passes.items ≡ number_limit }
     requires unused { IsUnused turn.opening }
-    ensures accounts { AccountsFor turn passes.entry.items result }
+    ensures accounts { AccountsFor turn passes.items result }
     ensures durable { IsDurable (λ boxed. D.trace boxed.disk.value) (λ boxed. D.moment boxed.disk.value) (λ boxed. D.faults boxed.disk.value) LIMIT result }
 {
     let Ok(desk) = turn.close(passes) else {

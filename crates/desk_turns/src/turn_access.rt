@@ -25,7 +25,7 @@ use std::sync::Wait;
 pub struct TurnAccess<'t, R: Wait, D: Disk, const LIMIT: usize> {
     rt: &'t R,
     turn: &'t Turn<Desk<BoxedDisk<D>, LIMIT>>,
-    pass: Pass<Entry, Found<LIMIT>>,
+    pass: Pass<Entry, Found<BoxedDisk<D>, LIMIT>>,
     caller: u32,
     looked: usize,
     faulted: u64,
@@ -49,14 +49,14 @@ impl<'t, R: Wait, D: Disk, const LIMIT: usize> TurnAccess<'t, R, D, LIMIT> {
     pub fn new(
         rt: &'t R,
         turn: &'t Turn<Desk<BoxedDisk<D>, LIMIT>>,
-        pass: Pass<Entry, Found<LIMIT>>,
+        pass: Pass<Entry, Found<BoxedDisk<D>, LIMIT>>,
         caller: u32,
         opened: usize,
     ) -> Self
         requires new { IsNewPass turn.now pass caller }
         requires opened { opened ≡ last_place turn.now.opening.history }
         ensures turn { result.turn ≡ turn.now }
-        ensures pass { result.pass ≡ pass.entry }
+        ensures pass { result.pass ≡ pass }
         ensures caller { result.caller ≡ caller }
         ensures faulted { result.faulted ≡ 0 }
         ensures not_stopped { result.stopped ≡ false }
@@ -73,7 +73,7 @@ impl<'t, R: Wait, D: Disk, const LIMIT: usize> TurnAccess<'t, R, D, LIMIT> {
     }
 
     /// Its pass, with which the turn can be closed.
-    pub fn into_pass(self) -> Pass<Entry, Found<LIMIT>>
+    pub fn into_pass(self) -> Pass<Entry, Found<BoxedDisk<D>, LIMIT>>
         ensures pass { result ≡ self.entry.pass }
         ensures stands { IsTurnAccess self.entry (length self.entry.pass.known.seen) }
     {

@@ -1,6 +1,7 @@
 -- What a desk keeps over an answer.
 use Rattle.std.proofs.Common.{◌≡◌, ◌≢◌, ◌∙◌, ap, ℕ, ◌+◌, ◌-◌, ◌^◌, ◌<◌, ◌≤◌, min, Bool, List, Option, Result, Ok, Err, refl, subst, arith}
 use Rattle.farm_base.proofs.Rises.{faults_are_added}
+use Rattle.farm_disk.proofs.Extending.{extends_more}
 use Rattle.farm_base.specs.Counts.{raised}
 use Rattle.farm_disk.specs.Images.{State}
 use Rattle.farm_disk.specs.Runs.{EachSince, Extends}
@@ -74,11 +75,14 @@ module _ {D : Type 0} (trace : D → Option (List State)) (moment faults : D →
   -- it stands on its journal as before
   pub asked_stands : (failed : ℕ) → faults left.disk ≡ raised failed view.opened.faults → moment view.disk ≤ moment left.disk →
       IsDesk trace moment faults limit
-      (record { disk = left.disk; history = history; doubt = doubt; failed = failed; opened = view.opened }) left
+      (record { disk = left.disk; history = history; doubt = doubt; failed = failed; opened = view.opened; found = view.found }) left
   asked_stands failed counted later = record {
     records = kept;
     since = since_made limit view.history history view.opened.entries (certain view.doubt view.history) view.opened.moment (trace view.disk)
         (trace left.disk) grown is.least extends is.since images;
+    extends = extends_more (trace view.found) (trace view.disk) (trace left.disk) is.extends extends;
+    moment_is = is.moment_is;
+    faults_is = is.faults_is;
     moment_on = omega (arith, is.moment_on, later);
     counted = counted;
     least = omega (arith, is.least, surer);

@@ -20,6 +20,9 @@ durable trace moment faults limit desk journal same is = record {
   since = is.since;
   now = subst (λ disk. EachNow (trace disk) (RecoversNow limit desk.doubt desk.history)) same (records_now trace limit desk.doubt desk.history journal is.records);
   begins = is_within desk.doubt desk.history desk.opened.entries is.least;
+  extends = is.extends;
+  moment_is = is.moment_is;
+  faults_is = is.faults_is;
   moment_on = is.moment_on;
   counted = is.counted;
 }

@@ -1,6 +1,7 @@
 -- What holds of the disk that a desk hands out.
 use Rattle.std.proofs.Common.{◌≡◌, ◌∙◌, ℕ, ◌+◌, Bool, true, false, List, Option, Result, Ok, Err, OnErr, OnOk, inl, is_err, refl, sym, ap, subst}
 use Rattle.farm_base.specs.Counts.{Rose, raised}
+use Rattle.farm_disk.proofs.Extending.{extends_more}
 use Rattle.farm_disk.specs.Images.{State}
 use Rattle.farm_disk.specs.Runs.{EachNow, EachSince, Extends}
 use Rattle.farm_history.specs.History.{History}
@@ -19,6 +20,13 @@ module _ {D : Type 0} (trace : D → Option (List State)) (limit : ℕ) (view de
   finished_extends extends =
       subst (λ (d : DeskState D). Extends (trace d.disk) (trace out)) same
       (subst (λ disk. Extends (trace view.disk) (trace disk)) (sym is) extends)
+
+  -- it continues the disk that the desk was made with
+  pub finished_continues : Extends (trace view.found) (trace view.disk) → Extends (trace view.disk) (trace settled) → Extends (trace desk.found) (trace out)
+  finished_continues before extends =
+      subst (λ (d : DeskState D). Extends (trace d.found) (trace out)) same
+      (subst (λ disk. Extends (trace view.found) (trace disk)) (sym is)
+      (extends_more (trace view.found) (trace view.disk) (trace settled) before extends))
 
   -- and each image since stands for a prefix of the history
   pub finished_images : EachSince (trace view.disk) (trace settled) (RecoversFront limit view.history (certain view.doubt view.history)) →

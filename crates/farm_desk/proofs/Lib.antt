@@ -6,3 +6,4 @@ pub mod Durable
 pub mod Counting
 pub mod Finishing
 pub mod Asked
+pub mod Crossing

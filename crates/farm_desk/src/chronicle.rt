@@ -12,7 +12,7 @@ use farm_turn::Chronicle;
 impl<D: Disk, const LIMIT: usize> Chronicle for Desk<D, LIMIT> {
     type Entry = Entry;
 
-    type Root = Found<LIMIT>;
+    type Root = Found<D, LIMIT>;
 
     ghost past = { λ desk. desk.history.entries };
 

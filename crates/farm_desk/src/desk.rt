@@ -20,6 +20,7 @@ use farm_history::Ask;
 use farm_journal::Journal;
 use journaled_book::{Records, answer_of};
 use std::marker::Model;
+use std::snapshot::Snapshot;
 
 /// A custody desk on a disk: a book of at most `LIMIT` entries, and Stops beyond them, and the journal that keeps it.
 ///
@@ -30,6 +31,8 @@ pub struct Desk<D: Disk, const LIMIT: usize> {
     records: Records<D, LIMIT>,
     opened: Opened,
     failed: u64,
+    // Its disk as the desk was made, for clauses alone.
+    found: Snapshot<D>,
 }
 
 impl<D: Disk, const LIMIT: usize> Model for Desk<D, LIMIT> {
@@ -37,10 +40,10 @@ impl<D: Disk, const LIMIT: usize> Model for Desk<D, LIMIT> {
 
     ghost Value = { DeskState D };
 
-    ghost view = { λ desk. record { disk = desk.records.journal.disk; history = desk.records.book.history; doubt = desk.records.doubt; failed = desk.failed; opened = desk.opened } };
+    ghost view = { λ desk. record { disk = desk.records.journal.disk; history = desk.records.book.history; doubt = desk.records.doubt; failed = desk.failed; opened = desk.opened; found = desk.found.value } };
 
     ghost invariant = { λ desk. IsDesk D.trace D.moment D.faults LIMIT
-        (record { disk = desk.records.journal.disk; history = desk.records.book.history; doubt = desk.records.doubt; failed = desk.failed; opened = desk.opened })
+        (record { disk = desk.records.journal.disk; history = desk.records.book.history; doubt = desk.records.doubt; failed = desk.failed; opened = desk.opened; found = desk.found.value })
         desk.records.journal };
 }
 
@@ -55,6 +58,7 @@ impl<D: Disk, const LIMIT: usize> Desk<D, LIMIT> {
         ensures durable { IsDurable D.trace D.moment D.faults LIMIT result }
     {
         let stand = journal.stand();
+        let found = Snapshot::of(journal.disk());
         let opened = Opened {
             entries: book.entries().len() as u32,
             moment: stand.moment,
@@ -69,6 +73,7 @@ impl<D: Disk, const LIMIT: usize> Desk<D, LIMIT> {
             },
             opened,
             failed: 0,
+            found,
         }
     }
 
@@ -144,6 +149,7 @@ impl<D: Disk, const LIMIT: usize> Desk<D, LIMIT> {
         ensures now { EachNow (D.trace result.0) (RecoversNow LIMIT result.1 self.history) }
         ensures acknowledged { KeepsAcknowledged D.trace LIMIT self result.0 }
         ensures extends { Extends (D.trace self.disk) (D.trace result.0) }
+        ensures continues { Extends (D.trace self.found) (D.trace result.0) }
         ensures moment { D.moment self.disk ≤ D.moment result.0 }
         ensures never_falls { D.faults self.disk ≤ D.faults result.0 }
         ensures cause { result.1 ≡ true → Rose (D.faults self.disk) (D.faults result.0) }

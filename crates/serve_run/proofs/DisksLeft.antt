@@ -1,5 +1,5 @@
 -- What a run of `serve` left on the disk, from what its desk keeps.
-use Rattle.std.proofs.Common.{◌≡◌, ℕ, ◌-◌, ◌^◌, ◌≤◌, zero, suc, min, List, arith}
+use Rattle.std.proofs.Common.{◌≡◌, ℕ, ◌-◌, ◌^◌, ◌≤◌, zero, suc, min, List, ap, arith}
 use Rattle.std.proofs.lemmas.List.Elements.{All-weaker}
 use Rattle.farm_base.specs.Counts.{Rose, raised}
 use Rattle.farm_desk.specs.States.{DeskState, IsJustMade}
@@ -29,15 +29,16 @@ still_acknowledged most more exchanges fewer each =
 
 -- a desk by the disk in its box
 abbrev pub unboxed : {D : Type 0} → DeskState (BoxedDisk D) → DeskState D
-unboxed desk = record { disk = desk.disk.disk.value; history = desk.history; doubt = desk.doubt; failed = desk.failed; opened = desk.opened }
+unboxed desk = record { disk = desk.disk.disk.value; history = desk.history; doubt = desk.doubt; failed = desk.failed; opened = desk.opened; found = desk.found.disk.value }
 
 -- a desk that was just made on a box was just made on the disk in it
 pub made_unboxed : {D : Type 0} (moment faults : D → ℕ) (desk : DeskState (BoxedDisk D)) (entries : ℕ) →
     IsJustMade (λ boxed. moment boxed.disk.value) (λ boxed. faults boxed.disk.value) desk entries → IsJustMade moment faults (unboxed desk) entries
-made_unboxed moment faults desk entries made = record {
+made_unboxed {D} moment faults desk entries made = record {
   certain = made.certain;
   unfailed = made.unfailed;
   entries_is = made.entries_is;
   moment_is = made.moment_is;
   faults_is = made.faults_is;
+  found_is = ap (λ (boxed : BoxedDisk D). boxed.disk.value) made.found_is;
 }

@@ -1,2 +1,3 @@
 -- The lemmas of `test_turns`, by topic.
 pub mod Keeping
+pub mod Crossing

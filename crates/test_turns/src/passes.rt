@@ -5,7 +5,7 @@ ghost use Rattle.desk_turns.specs.Closing.{IsUnused};
 ghost use Rattle.desk_turns.specs.Turns.{IsNewPass};
 ghost use Rattle.test_turns.specs.Passes.{AreAll};
 
-use crate::desks::RowDesk;
+use crate::desks::{RowDesk, RowDisk};
 use desk_turns::close_turn;
 use farm_base::NoMemory;
 use farm_desk::Found;
@@ -17,7 +17,7 @@ use std::alloc::Global;
 pub type RowTurn = Turn<RowDesk>;
 
 /// A pass of such a turn.
-pub type RowPass = Pass<Entry, Found<20>>;
+pub type RowPass = Pass<Entry, Found<RowDisk, 20>>;
 
 /// The number of the first caller, which takes the pass that is split off.
 pub const FIRST: u32 = 0;

@@ -1,5 +1,5 @@
 -- Answers to the open goals of `ask`.
-use Rattle.std.proofs.Common.{◌≡◌, ◌∙◌, ◌+◌, ◌-◌, ◌^◌, min, false, ap, refl, sym, subst, w64, ℤ}
+use Rattle.std.proofs.Common.{◌≡◌, ◌∙◌, ◌+◌, ◌-◌, ◌^◌, min, false, ap, ap₂, refl, sym, subst, w64, ℤ}
 use Rattle.std.proofs.lemmas.Int.{to_z-of_z}
 use Rattle.farm_base.specs.Counts.{Rose, raised}
 use Rattle.farm_history.specs.Desk.{desk_answer}
@@ -80,8 +80,9 @@ returns-clause-found g c =
     c.answer.new.self.book.history c.answer.new.self.doubt c.self.invariant c.answer.ensures.kept c.answer.ensures.grows c.answer.ensures.certain
     c.answer.ensures.extends c.answer.ensures.images in
     let opened : c.self.inside.opened ≡ c.args.self.now.opened = ap (λ (desk : DeskState _). desk.opened) c.self.view_is in
-    ap (λ (stand : Opened). record { history = front_of c.answer.new.self.book.history stand.entries; opened = stand }) opened
-    ∙ ap (λ (those : History). record { history = those; opened = c.args.self.now.opened }) history
+    let disk : c.self.inside.found.value ≡ c.args.self.now.found = ap (λ (desk : DeskState _). desk.found) c.self.view_is in
+    ap₂ (λ disk (stand : Opened). record { disk = disk; history = front_of c.answer.new.self.book.history stand.entries; opened = stand }) disk opened
+    ∙ ap (λ (those : History). record { disk = c.args.self.now.found; history = those; opened = c.args.self.now.opened }) history
 
 pub returns-clause-extends : goal.returns-clause-extends
 returns-clause-extends g c =

@@ -4,7 +4,7 @@ use Rattle.farm_book.specs.Kept.{Kept}
 use Rattle.farm_journal.specs.Standing.{JournalState}
 use Rattle.journaled_book.specs.Histories.{certain}
 use Rattle.farm_desk.specs.States.{DeskState}
-use Rattle.farm_desk.proofs.Finishing.{at_err, at_ok, finished_counted, finished_extends, finished_images, finished_now, finished_once, finished_once_more, finished_quiet, finished_rose, finished_since}
+use Rattle.farm_desk.proofs.Finishing.{at_err, at_ok, finished_continues, finished_counted, finished_extends, finished_images, finished_now, finished_once, finished_once_more, finished_quiet, finished_rose, finished_since}
 use Rattle.journaled_book.proofs.Keeping.{acknowledged_since}
 use Rattle.farm_desk.proofs.desk.Desk.finish.Goals as goal
 
@@ -37,6 +37,11 @@ returns-clause-acknowledged g c = λ moment count fewer each.
 pub returns-clause-extends : goal.returns-clause-extends
 returns-clause-extends g c =
     finished_extends g.D.Disk.trace g.row.LIMIT _ c.args.self c.self.view_is c.settle.new.self.journal.disk c.into_disk.result c.into_disk.ensures.disk c.settle.ensures.extends
+
+pub returns-clause-continues : goal.returns-clause-continues
+returns-clause-continues g c =
+    finished_continues g.D.Disk.trace g.row.LIMIT _ c.args.self c.self.view_is c.settle.new.self.journal.disk c.into_disk.result c.into_disk.ensures.disk
+    c.self.invariant.extends c.settle.ensures.extends
 
 pub returns-clause-cause : goal.returns-clause-cause
 returns-clause-cause g c = λ is.

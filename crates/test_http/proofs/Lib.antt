@@ -1,0 +1,2 @@
+-- The facts of `test_http`, by topic.
+pub mod Crossing

@@ -1,0 +1,2 @@
+-- The facts of `test_runs`, by topic.
+pub mod Crossing
