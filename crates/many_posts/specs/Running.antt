@@ -1,0 +1,51 @@
+-- What posts did side by side, each on what its own caller had seen.
+use Rattle.std.specs.Prelude.{◌≡◌, ℕ, ◌+◌, false, List, [], ◌∷◌, Option, Some, ℤ}
+use Rattle.farm_base.specs.Counts.{count_of}
+use Rattle.farm_listeners.specs.Listeners.{Event}
+use Rattle.farm_turn.specs.Sharing.{KeepsNumbers}
+use Rattle.farm_turn.specs.Views.{TurnView}
+use Rattle.farm_desk.specs.States.{Continues, DeskState}
+use Rattle.desk_access.specs.Access.{CallerState}
+use Rattle.desk_posts.specs.Conversations.{IsConversation}
+use Rattle.desk_posts.specs.declared.posts.PostEnd.{PostEnd}
+use Rattle.desk_turns.specs.Closing.{IsAccessOf}
+use Rattle.desk_turns.specs.Turns.{TurnState, turn_caller}
+use Rattle.boxed_disk.specs.declared.boxed.BoxedDisk.{BoxedDisk}
+use Rattle.many_posts.specs.Callers.{DeskCaller}
+use Rattle.many_posts.specs.declared.post.Post.{Post}
+
+-- the access of a caller that has taken no turn
+abbrev pub begun : {D : Type 0} → TurnView (DeskState (BoxedDisk D)) → DeskCaller D → TurnState (BoxedDisk D)
+begun turn caller = record { turn = turn; pass = caller.pass; caller = caller.number; faulted = 0; stopped = false }
+
+-- A post ran: its caller made requests from how its access began to how it ended, and the post has its pass again. What the post did is said
+-- of the object and of the caller, each before and after, and of how it ended.
+pub record HasRun {X W D : Type 0} (does : X → CallerState → X → CallerState → Option PostEnd → Type 0) (turn : TurnView (DeskState (BoxedDisk D)))
+    (old new : Post X W (DeskCaller D)) : Type 0 where
+  pub before : DeskCaller D
+  pub before_is : old.caller ≡ Some before
+  pub access : TurnState (BoxedDisk D)
+  pub stands : IsAccessOf turn access
+  pub same_caller : access.caller ≡ before.number
+  pub numbers : KeepsNumbers before.pass.known access.pass.known
+  pub after_is : new.caller ≡ Some (record { pass = access.pass; number = access.caller })
+  pub ran : does old.outside (turn_caller (begun turn before)) new.outside (turn_caller access) new.end
+
+-- each of these posts ran, numbered from this number on
+unfoldable pub EachHasRun : {X W D : Type 0} → (ℕ → X → CallerState → X → CallerState → Option PostEnd → Type 0) → TurnView (DeskState (BoxedDisk D)) → ℕ →
+    List (Post X W (DeskCaller D)) → List (Post X W (DeskCaller D)) → Type 0
+EachHasRun does turn number [] posts = posts ≡ []
+EachHasRun does turn number (old ∷ before) [] = ⊥
+EachHasRun does turn number (old ∷ before) (new ∷ posts) = HasRun (does number) turn old new × EachHasRun does turn (number + 1) before posts
+
+-- A desk post had a conversation on its port, and ended.
+pub record Converses {L : Type 0} (events : L → Option (List Event)) (faults : L → ℕ) (may_give : ℤ → Type 0) (limit port : ℕ)
+    (listener : L) (before : CallerState) (listener' : L) (after : CallerState) (ending : Option PostEnd) : Type 0 where
+  pub end : PostEnd
+  pub ended : ending ≡ Some end
+  pub conversation : IsConversation Continues may_give limit port (events listener) (events listener') (count_of faults listener listener') before after end
+
+-- a desk post, by its number from 0, had a conversation on its port: posts have ports from the first one on, in their order
+abbrev pub ConversesAs : {L : Type 0} → (L → Option (List Event)) → (L → ℕ) → (ℤ → Type 0) → ℕ → ℕ → ℕ → L → CallerState → L → CallerState →
+    Option PostEnd → Type 0
+ConversesAs events faults may_give limit first_port number = Converses events faults may_give limit (first_port + number)

@@ -1,0 +1,17 @@
+//! Many posts: one desk that desk posts and gauge lines serve side by side, each as a caller of its own.
+//!
+//! Callers hand in posts, each over an object of the outside, and get the desk back. docs/machine.md says what all posts together did, under
+//! "Many posts".
+#![tactic(auto)]
+
+mod callers;
+mod collecting;
+mod desk_side;
+mod post;
+mod rooms;
+mod serving;
+mod side_by_side;
+
+pub use desk_side::DeskPost;
+pub use post::{Caller, DeskCaller, DeskPass, Post};
+pub use serving::serve_all;
