@@ -13,7 +13,7 @@ in_hand_after piece start end count within =
     (ap (λ t. take (end - (start + count)) t) (sym (drop-drop count start piece))
     ∙ sym (drop-take count (end - (start + count)) (drop start piece)))
 
--- a front of the piece from its first byte in hand on is a front of what is in hand
+-- a prefix of the piece from its first byte in hand on is a prefix of what is in hand
 pub front_again : (piece : List ℕ) (start end count : ℕ) → count ≤ length (take (end - start) (drop start piece)) →
     take (start + count - start) (drop start piece) ≡ take count (take (end - start) (drop start piece))
 front_again piece start end count within =

@@ -1,4 +1,4 @@
--- The lines after a form: blank ones are due, and the first that isn't blank is refused.
+-- The lines after a form: blank ones are expected, and the first that isn't blank is refused.
 use Rattle.std.proofs.Common.{◌≡◌, ℕ, zero, suc, ◌+◌, ◌-◌, ◌<◌, Bool, true, false, cond, Some, None, List, [], ◌∷◌, drop, refl, sym, ap, subst, ◌∙◌, arith}
 use Rattle.std.proofs.lemmas.List.{get_or-drop}
 use Rattle.calc_input.specs.Lines.{is_blank_line, line_at}

@@ -1,4 +1,4 @@
--- The factor lines: each row that goes on with the blocks is due, and the row at which they break isn't.
+-- The factor lines: each row that continues the blocks is expected, and the row at which they break isn't.
 use Rattle.std.proofs.Common.{◌≡◌, inl, inr, ℕ, zero, suc, ◌+◌, ◌-◌, ◌<◌, ◌≤◌, Bool, true, false, cond, nat_lt, min, Option, Some, None, List, ◌∷◌, length, take, Result, Ok, Err, refl, sym, ap, subst, arith}
 use Rattle.std.proofs.lemmas.Bool.Decides.{nat_tests}
 use Rattle.std.specs.Option.{IsSome}
@@ -75,14 +75,14 @@ fewer_rows (suc count) n lines (suc few) within = by (listed_of (line_at lines n
     by None after inside = absurd (omega arith)
     by (Some row) after inside = ap (λ rows. row ∷ rows) (after (omega arith))
 
--- What reading many factor lines after the first `first` lines finds: each is due, or the first that isn't.
+-- What reading many factor lines after the first `first` lines finds: each is expected, or the first that isn't.
 abbrev pub FindsFactors : List (List ℕ) → ℕ → ℕ → Result Grid ℕ → Type 0
 FindsFactors lines first many (Ok grid) = (index : ℕ) → index < many → IsFactorLine lines first many index
 FindsFactors lines first many (Err number) =
     (index : ℕ) × (index < many) × (number ≡ first + index + 1) × ((earlier : ℕ) → earlier < index → IsFactorLine lines first many earlier)
     × ¬ (IsFactorLine lines first many index)
 
--- a row that goes on, and isn't the last of the lines, is due
+-- a row that continues the blocks, and isn't the last of the lines, is expected
 inner_line : (lines : List (List ℕ)) (first many width index : ℕ) → index < length (listed_front many first lines) → index + 1 < many →
     IsFirstBlock width (listed_front many first lines) → GoesOn width (listed_front many first lines) index → IsFactorLine lines first many index
 inner_line lines first many width index within inner block on =
@@ -94,7 +94,7 @@ inner_line lines first many width index within inner block on =
       whole = λ other last its_block. absurd (omega (arith, inner, last));
     }
 
--- the last row is due where the blocks are whole
+-- the last row is expected if the blocks are whole
 any_line : (lines : List (List ℕ)) (first many width index : ℕ) → index < length (listed_front many first lines) →
     IsFirstBlock width (listed_front many first lines) → GoesOn width (listed_front many first lines) index → AreWhole width (listed_front many first lines) → IsFactorLine lines first many index
 any_line lines first many width index within block on whole =
@@ -118,7 +118,7 @@ not_a_row lines first many short = λ line.
     no_some : IsSome {T = Listed} None → ⊥
     no_some is = cc
 
--- a grid: each line is due, or the first line that isn't a row is refused
+-- a grid: each line is expected, or the first line that isn't a row is refused
 found_grid : (lines : List (List ℕ)) (first many : ℕ) (grid : Grid) → IsGridOf (listed_front many first lines) grid →
     FindsFactors lines first many (grid_at many first (length (listed_front many first lines)) (Ok grid))
 found_grid lines first many grid is = by (nat_lt (length (listed_front many first lines)) many) refl
@@ -152,7 +152,7 @@ found_break_at_row lines first many width index number counted block before with
       λ line. broken (goes_on_in_all width (listed_front many first lines) index within block (subst P few line.goes_on)),
     )
 
--- rows whose last block is short: the line after them is refused where it is due as a row, else the last one
+-- rows whose last block is short: the line after them is refused if a row is expected there, else the last one
 found_short_block : (lines : List (List ℕ)) (first many width number : ℕ) → 1 ≤ many → number ≡ length (listed_front many first lines) + 1 → IsFirstBlock width (listed_front many first lines) →
     ((earlier : ℕ) → earlier < length (listed_front many first lines) → GoesOn width (listed_front many first lines) earlier) →
     ¬ (AreWhole width (listed_front many first lines)) → FindsFactors lines first many (Err (first + min number many))
@@ -187,7 +187,7 @@ found_break lines first many number some break = by break.breaks
         let P : ℕ → Type 0 = λ end. (earlier : ℕ) → earlier < end → GoesOn break.width (listed_front many first lines) earlier in
         found_short_block lines first many break.width number some (omega (arith, break.counted, at_end.0)) break.first_block (subst P at_end.0 break.before) at_end.1
 
--- the factors that are read are those that are due, or the fault is at the first line that is not due
+-- the factors that are read are the expected ones, or the fault is at the first line that isn't
 pub factors_found : (lines : List (List ℕ)) (first many : ℕ) → 1 ≤ many → FindsFactors lines first many (grid_from many first lines)
 unfolding grid_from
 factors_found lines first many some = by (grid_of_rows (listed_front many first lines)) (rows_mean (listed_front many first lines))

@@ -1,4 +1,4 @@
--- The volumes of the capacity table: each line that is read is due, and the one that is refused isn't.
+-- The volumes of the capacity table: each line that is read is expected, and the one that is refused isn't.
 use Rattle.std.proofs.Common.{◌≡◌, ℕ, zero, suc, ◌+◌, ◌-◌, ◌<◌, Bool, true, false, cond, option_and_then, Option, Some, None, List, Result, Ok, Err, ℤ, pos, refl, subst, arith}
 use Rattle.std.proofs.lemmas.Int.{ints}
 use Rattle.std.specs.Prelude.{◌≤ℤ◌}
@@ -131,7 +131,7 @@ volumes_more lines n least row count is (Err number) found =
     before zero within = at_first lines n least row is
     before (suc earlier) within = at_later lines n least row earlier (row_known least row (line_at lines n) is).0 (found.3 earlier (omega arith))
 
--- the first line isn't a volume that is due
+-- the first line isn't an expected volume
 volumes_stop : (lines : List (List ℕ)) (n : ℕ) (least : ℤ) (count : ℕ) → row_of least (line_at lines n) ≡ None → FindsVolumes lines n least (suc count) (Err (n + 1))
 volumes_stop lines n least count is = (
   zero,
@@ -144,7 +144,7 @@ volumes_stop lines n least count is = (
       no_row_known least (line_at lines n) is at.volume (subst P here at.one) (at.first refl),
 )
 
--- the volumes that are read are those that are due, or the fault is at the first line that is not due
+-- the volumes that are read are the expected ones, or the fault is at the first line that isn't
 pub volumes_found : (lines : List (List ℕ)) (count n : ℕ) (least : ℤ) → FindsVolumes lines n least count (rows_from count n least lines)
 unfolding rows_from
 volumes_found lines zero n least = λ index within. absurd (omega arith)

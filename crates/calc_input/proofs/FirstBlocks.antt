@@ -44,7 +44,7 @@ block_of_first width few rows some within block = record {
       subst P (sym least) (λ same. block.another (omega arith) (sym (density_of_first few rows width shorter) ∙ same ∙ density_of_first few rows 0 some));
 }
 
--- A row goes on with the blocks of all rows as it does with those of the rows up to it.
+-- A row continues the blocks of all rows as it does those of the rows up to it.
 same_going : (width other : ℕ) (rows others : List Listed) (index : ℕ) → 0 < width →
     ((k : ℕ) → k ≤ index → temperature_of others k ≡ temperature_of rows k) → ((k : ℕ) → k ≤ index → density_of others k ≡ density_of rows k) →
     (other ≡ width) ⊎ ((index < other) × (index < width)) → GoesOn width rows index → GoesOn other others index
@@ -75,7 +75,7 @@ width_up_to width index = by (nat_lt index width) refl
 swapped : (width index : ℕ) → (width ≡ min width (index + 1)) ⊎ ((index < width) × (index < min width (index + 1)))
 swapped width index = elim (width_up_to width index) [ inl same ↦ inl (sym same) | inr both ↦ inr (both.1, both.0) ]
 
--- a row that goes on with all rows goes on with those up to it, whatever their first block
+-- a row that continues all rows continues those up to it, whatever their first block
 pub goes_on_up_to : (width : ℕ) (rows : List Listed) (index : ℕ) → index < length rows → IsFirstBlock width rows → GoesOn width rows index →
     (other : ℕ) → IsFirstBlock other (take (index + 1) rows) → GoesOn other (take (index + 1) rows) index
 goes_on_up_to width rows index within block on other its_block =

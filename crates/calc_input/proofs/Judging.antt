@@ -31,7 +31,7 @@ pub record IsFirstFailing (P : ℕ → Type 0) (number : ℕ) : Type 0 where
   pub before : (earlier : ℕ) → 1 ≤ earlier → earlier < number → P earlier
   pub here : ¬ (P number)
 
--- what an answer says of the lines: each is due, or the first that isn't has this number
+-- what an answer says of the lines: each is expected, or the first that isn't has this number
 abbrev pub Judges : {A : Type 0} → (ℕ → Type 0) → Result A ℕ → Type 0
 Judges P (Ok form) = (number : ℕ) → 1 ≤ number → P number
 Judges P (Err number) = IsFirstFailing P number

@@ -44,7 +44,7 @@ in_form_within bytes number short due =
     let P : List ℕ → Type 0 = λ front. IsDueIn (begins_table (lines_of front)) (lines_of front) number in
     record { within = λ over. absurd (omega (arith, over, short)); due = subst P (sym whole) due }
 
--- a line of such an input that is in form is due there
+-- a well-formed line of such an input is the one expected there
 due_within : (bytes : List ℕ) (number : ℕ) → length bytes ≤ MOST_INPUT_BYTES → IsInForm bytes number → IsDueIn (begins_table (lines_of bytes)) (lines_of bytes) number
 due_within bytes number short line =
     let whole : take MOST_INPUT_BYTES bytes ≡ bytes = take_all MOST_INPUT_BYTES bytes short in

@@ -1,4 +1,4 @@
--- The form `table`: the lines that are read are due, and the first that is refused is not.
+-- The form `table`: the lines that are read are expected, and the first that is refused is not.
 use Rattle.std.proofs.Common.{◌≡◌, ℕ, ◌+◌, ◌-◌, ◌<◌, ◌≤◌, ◌&&◌, Bool, true, false, cond, nat_le, nat_lt, codes, option_and_then, Option, Some, None, List, [], ◌∷◌, drop, Result, Ok, Err, ℤ, pos, refl, subst, arith}
 use Rattle.std.specs.Str.{bytes_eq}
 use Rattle.std.proofs.lemmas.Bool.Decides.{nat_tests}
@@ -21,11 +21,11 @@ use Rattle.calc_input.proofs.DueFactors.{FindsFactors, factors_found}
 use Rattle.calc_input.proofs.Judging.{Judges, none_there, not_blank, some_there}
 use Rattle.calc_input.proofs.TableLines.{AreCounts, blank_due, factor_due, factors_due, first_due, levels_due, volume_due}
 
--- the first line gives a count, and so it is due
+-- the first line gives a count, and so is the expected one
 first_of_counts : (lines : List (List ℕ)) (count number : ℕ) → volume_count lines ≡ Some count → number ≡ 1 → IsDueInTable lines number
 first_of_counts lines count number is first = first_due lines number first (some_there (volume_count lines) count is)
 
--- the lines up to the last of the volumes that were read are due
+-- the lines up to the last of the volumes that were read are expected
 up_to_volumes : (lines : List (List ℕ)) (count index : ℕ) → volume_count lines ≡ Some count → index ≤ count →
     ((i : ℕ) → i < index → IsVolumeLine lines (i + 2)) → (number : ℕ) → 1 ≤ number → number < index + 2 → IsDueInTable lines number
 up_to_volumes lines count index is within due number from_one early = by (nat_lt 1 number) refl
@@ -38,7 +38,7 @@ up_to_volumes lines count index is within due number from_one early = by (nat_lt
         let P : ℕ → Type 0 = λ n. IsVolumeLine lines n in
         volume_due lines count number is late (omega arith) (subst P at (due (number - 2) (omega arith)))
 
--- the lines up to the count of factors are due
+-- the lines up to the count of factors are expected
 up_to_factors : (lines : List (List ℕ)) (count : ℕ) → volume_count lines ≡ Some count → ((i : ℕ) → i < count → IsVolumeLine lines (i + 2)) →
     IsSome (factor_count count lines) → (number : ℕ) → 1 ≤ number → number < count + 3 → IsDueInTable lines number
 up_to_factors lines count is due some number from_one early = by (nat_lt number (count + 2)) refl
@@ -47,7 +47,7 @@ up_to_factors lines count is due some number from_one early = by (nat_lt number 
     by true e = let before : number < count + 2 = grind (arith, nat_tests) in up_to_volumes lines count count is (omega arith) due number from_one before
     by false e = let after : count + 2 ≤ number = grind (arith, nat_tests) in factors_due lines count number is (omega arith) some
 
--- the lines up to the last of the factors that were read are due
+-- the lines up to the last of the factors that were read are expected
 up_to_factor_lines : (lines : List (List ℕ)) (count many index : ℕ) → AreCounts lines count many → ((i : ℕ) → i < count → IsVolumeLine lines (i + 2)) → index ≤ many →
     ((i : ℕ) → i < index → IsFactorLine lines (count + 2) many i) → (number : ℕ) → 1 ≤ number → number < count + index + 3 → IsDueInTable lines number
 up_to_factor_lines lines count many index counts volumes within due number from_one early = by (nat_lt number (count + 3)) refl

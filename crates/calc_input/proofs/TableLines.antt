@@ -1,4 +1,4 @@
--- The form `table`: a line is due by where it stands.
+-- The form `table`: a line is expected by its place.
 use Rattle.std.proofs.Common.{◌≡◌, ℕ, ◌+◌, ◌-◌, ◌<◌, ◌≤◌, true, Some, List, subst, arith}
 use Rattle.std.specs.Option.{IsSome}
 use Rattle.calc_input.specs.Lines.{is_blank_line, words_of}

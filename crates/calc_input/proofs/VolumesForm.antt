@@ -1,4 +1,4 @@
--- The form `volumes`: what is due on each line.
+-- The form `volumes`: what is expected on each line.
 use Rattle.std.proofs.Common.{◌≡◌, ℕ, ◌+◌, ◌<◌, true, Option, Some, None, List, drop, refl, arith}
 use Rattle.std.specs.Option.{IsSome}
 use Rattle.farm_base.specs.Steps.{◌>>=◌, or_fault}
@@ -10,12 +10,12 @@ use Rattle.calc_input.specs.RefusedLine.{IsDueInVolumes, line_numbered}
 use Rattle.calc_input.proofs.DueBlanks.{blank_after_form, used_after_form}
 use Rattle.calc_input.proofs.Judging.{Judges, none_there, not_blank, some_there}
 
--- a line is due: the first has the volumes, and one after it is blank
+-- a line is expected: the first has the volumes, and one after it is blank
 volumes_due : (lines : List (List ℕ)) (number : ℕ) → IsSome (volumes_of (words_of (line_at lines 0))) →
     (1 < number → is_blank_line (line_numbered lines number) ≡ true) → IsDueInVolumes lines number
 volumes_due lines number some blank = record { volumes = λ first. some; blank = blank }
 
--- where the first line has the volumes, what comes after it is judged as what is due there
+-- if the first line has the volumes, what follows it is judged by what is expected there
 volumes_ended : (lines : List (List ℕ)) (volumes : Volumes) → volumes_of (words_of (line_at lines 0)) ≡ Some volumes → Judges (IsDueInVolumes lines) (ended 1 lines volumes)
 volumes_ended lines volumes is = by (first_used (1 + 1) (drop 1 lines)) refl
   where

@@ -1,4 +1,4 @@
--- Which line of an input is refused, in the words of the rule: each line before it is what is due there, and it isn't.
+-- Which line of an input is refused, in the words of the rule: each line before it is what is expected there, and it isn't.
 -- Lines are numbered from 1.
 use Rattle.std.specs.Prelude.{◌≡◌, ℕ, ◌+◌, ◌-◌, ◌<◌, ◌≤◌, Bool, true, false, IsTrue, List, length, take, Option, Some, IsSome, ℤ, ◌≤ℤ◌}
 use Rattle.farm_vcf.specs.Blocks.{AreWhole, GoesOn, IsFirstBlock}
@@ -27,19 +27,19 @@ pub record IsVolumeLine (lines : List (List ℕ)) (number : ℕ) : Type 0 where
   pub one : volume_on lines number ≡ Some volume
   pub not_falling : (before : ℤ) → 2 < number → volume_on lines (number - 1) ≡ Some before → before ≤ℤ volume
 
--- A factor line, one of many from line first + 1 on, is a row and goes on with the blocks of the rows before it; the last one
+-- A factor line, one of many from line first + 1 on, is a row and continues the blocks of the rows before it; the last one
 -- completes its block. The index counts from 0.
 pub record IsFactorLine (lines : List (List ℕ)) (first many index : ℕ) : Type 0 where
   pub row : IsSome (listed_of (line_at lines (first + index)))
   pub goes_on : (width : ℕ) → IsFirstBlock width (listed_front (index + 1) first lines) → GoesOn width (listed_front (index + 1) first lines) index
   pub whole : (width : ℕ) → index + 1 ≡ many → IsFirstBlock width (listed_front many first lines) → AreWhole width (listed_front many first lines)
 
--- What is due in the form `volumes`: the volumes on the first line, and blank lines after it.
+-- What is expected in the form `volumes`: the volumes on the first line, and blank lines after it.
 pub record IsDueInVolumes (lines : List (List ℕ)) (number : ℕ) : Type 0 where
   pub volumes : number ≡ 1 → IsSome (volumes_of (words_of (line_numbered lines 1)))
   pub blank : 1 < number → IsTrue (is_blank_line (line_numbered lines number))
 
--- What is due in the form `table`: the count of volumes, the volumes, the count of factors, the factors, the levels, and blank
+-- What is expected in the form `table`: the count of volumes, the volumes, the count of factors, the factors, the levels, and blank
 -- lines after them.
 pub record IsDueInTable (lines : List (List ℕ)) (number : ℕ) : Type 0 where
   pub table : number ≡ 1 → IsSome (volume_count lines)
@@ -52,12 +52,12 @@ pub record IsDueInTable (lines : List (List ℕ)) (number : ℕ) : Type 0 where
   pub blank : (count many : ℕ) → volume_count lines ≡ Some count → factor_count count lines ≡ Some many →
       count + many + 3 < number → IsTrue (is_blank_line (line_numbered lines number))
 
--- the line with a number is what is due there, in the form that the first line begins
+-- the line with a number is what is expected there, in the form that the first line begins
 abbrev pub IsDueIn : Bool → List (List ℕ) → ℕ → Type 0
 IsDueIn true lines number = IsDueInTable lines number
 IsDueIn false lines number = IsDueInVolumes lines number
 
--- a line of an input is in form: it doesn't reach past the limit, and it is what is due there
+-- a line of an input is in form: it doesn't reach past the limit, and it is what is expected there
 pub record IsInForm (bytes : List ℕ) (number : ℕ) : Type 0 where
   pub within : most_input_bytes < length bytes → number < line_of_offset most_input_bytes bytes
   pub due : IsDueIn (begins_table (lines_of (take most_input_bytes bytes))) (lines_of (take most_input_bytes bytes)) number

@@ -55,7 +55,7 @@ impl From<NoMemory> for NoFigures {
 
 /// The figures of an input, or its refusal.
 ///
-/// An input over the limit is refused at the line of the first byte over it, or at an earlier line that is out of form. A front of
+/// An input over the limit is refused at the line of the first byte over it, or at an earlier line that is out of form. A prefix of
 /// an input that holds one byte more than the limit has the refusal of the whole input.
 pub fn figures_of_input(alloc: Global, bytes: &[u8]) -> Result<Quantities, NoFigures>
     ensures figures { IfOk result (λ figures. answer_of bytes.now ≡ Ok figures) }

@@ -42,7 +42,7 @@ pub(crate) fn grid_from(
     }
 }
 
-// Takes the row that a line is. False where it is none, or doesn't go on with the rows before.
+// Takes the row that a line is. False if it is no row, or doesn't continue the rows before.
 fn push_line(growing: &mut Growing, line: &[u8]) -> Result<bool, NoMemory>
     ensures on { result ≡ Ok true → grown_line growing.old (listed_of line.now) ≡ Some growing.new }
     ensures off { result ≡ Ok false → grown_line growing.old (listed_of line.now) ≡ None }

@@ -11,7 +11,7 @@ use std::alloc::{AllocError, AllocFailed};
 pub enum FormFault {
     /// There was no memory.
     NoMemory,
-    /// The line with this number, counted from 1, is the first that isn't what is due there.
+    /// The line with this number, counted from 1, is the first that isn't what is expected there.
     Line(usize),
 }
 

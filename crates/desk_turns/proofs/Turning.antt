@@ -41,7 +41,7 @@ sure_of old new doubt answered (Done given) is reply done = is.2
 sure_of old new doubt answered DiskFault is reply done = absurd cc
 sure_of old new doubt answered NoMemory is reply done = absurd cc
 
--- the number, or another one where there is none
+-- the number, or another one without it
 abbrev value_or : ℕ → Option ℕ → ℕ
 value_or other (Some value) = value
 value_or other _ = other

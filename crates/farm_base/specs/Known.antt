@@ -35,19 +35,19 @@ Takes old None bytes = Unit {0}
 Takes None (Some new) bytes = ⊥
 Takes (Some old) (Some new) bytes = Moved old new bytes
 
--- bytes are a front of the first text, then a front of the second, and so on
+-- bytes are a prefix of the first text, then a prefix of the second, and so on
 abbrev pub Fronts : List (List ℕ) → List ℕ → Type 0
 Fronts [] bytes = bytes ≡ []
 Fronts (text ∷ texts) bytes =
     (n : ℕ) × (n ≤ length text) × (rest : List ℕ) × (bytes ≡ take n text ++ rest) × Fronts texts rest
 
--- a front of each of these texts was added, in their order
+-- a prefix of each of these texts was added, in their order
 pub record AddsAll (old new : Option (List ℕ)) (texts : List (List ℕ)) : Type 0 where
   pub bytes : List ℕ
   pub added : Adds old new bytes
   pub fronts : Fronts texts bytes
 
--- a front of each of these texts was added, and then the last text whole
+-- a prefix of each of these texts was added, and then the last text whole
 pub record AddsWhole (old new : Option (List ℕ)) (texts : List (List ℕ)) (last : List ℕ) : Type 0 where
   pub bytes : List ℕ
   pub added : Adds old new (bytes ++ last)

@@ -26,7 +26,7 @@ taken_from s t before after y z p f unread more calm e is state rest =
     let first = first_of s y p calm e in
     rw (unread, more, is, ← state, ← rest) (first.0, first.1)
 
--- a record of the length that is due changes nothing of whether all are of one length
+-- a record of the expected length changes nothing of whether all are of one length
 even_on : (old new : Option ℕ) (f : List (List ℕ)) (more : List (List (List ℕ))) → IfSome old (λ e. new ≡ Some e) → new ≡ Some (length f) → have_length old (f ∷ more) ≡ have_length new more
 unfolding have_equal_lengths
 even_on None new f more kept is = rw is refl
@@ -83,7 +83,7 @@ next_of s y (Some ys) fields s2 h = by (next_record default_config s [] [] y) re
     by None e h = cc
     by (Some p) e h = (p, e, h.1)
 
--- records of which the first has another length than is due
+-- records of which the first hasn't the expected length
 uneven_from : (s : State) (before : Option (List ℕ)) (y : List ℕ) (p : Read) (due : Option ℕ) (size len : ℕ) (f : List (List ℕ)) → before ≡ Some y → ends_at_end s ≡ false → next_record default_config s [] [] y ≡ Some p → f ≡ p.0 →
     due ≡ Some size → size ≢ len → length f ≡ len → have_length due (left_from s before) ≡ false
 uneven_from s before y p due size len f unread calm e is expects other counted =

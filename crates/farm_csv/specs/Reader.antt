@@ -25,7 +25,7 @@ left_from state (Some bytes) = records_from default_config (length bytes + 1) st
 abbrev pub left_of : Reader (Bor (List ℕ)) → List (List (List ℕ))
 left_of reader = left_from (reader_state reader) (bytes_left reader)
 
--- records have the length that is due, that of the first where none is
+-- records have the expected length, or that of the first if no length is expected
 abbrev pub have_length : Option ℕ → List (List (List ℕ)) → Bool
 have_length None records = have_equal_lengths records
 have_length (Some size) records = have_this_length size records

@@ -63,7 +63,7 @@ none_with_rest (most ∷ mosts) (byte ∷ bytes) rest len none =
     (λ same. at_same most byte mosts (bytes ++ rest) same ∙ none_with_rest mosts bytes rest (omega (arith, len)) (sym (at_same most byte mosts bytes same) ∙ none))
     (λ higher. absurd (some_none _ _ none (at_higher most byte mosts bytes higher)))
 
--- nor for a front of bytes
+-- nor for a prefix of bytes
 pub none_of_front : (mosts bytes rest : List ℕ) → first_above mosts (bytes ++ rest) ≡ None → first_above mosts bytes ≡ None
 none_of_front [] bytes rest none = refl
 none_of_front (most ∷ mosts) [] rest none = refl

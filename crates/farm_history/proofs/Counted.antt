@@ -22,7 +22,7 @@ regroup : (front : List ℤ) (number : ℤ) (read : Result (List ℤ × List ℕ
 regroup front number (Ok x) = ap (λ (numbers : List ℤ). all_read (numbers, x.1)) (sym (append_assoc front (number ∷ []) x.0))
 regroup front number (Err left) = refl
 
--- reading goes on with one number more
+-- reading continues with one number more
 pub goes_on : (front : List ℤ) (count i : ℕ) (bytes : List ℕ) (number : ℤ) (after : List ℕ) (total : Result (List ℤ × List ℕ) ℕ) → i < count →
     signed_at bytes ≡ Ok (number, after) → with_front front (numbers_at (count - i) bytes) ≡ total →
     with_front (front ++ number ∷ []) (numbers_at (count - (i + 1)) after) ≡ total

@@ -85,7 +85,7 @@ entry_only bytes entry typed well_formed encoded =
 
 -- The place.
 
--- what has to hold for a front of bytes to end at the bad one
+-- what has to hold for a prefix of bytes to end at the bad one
 record IsBadAfter (front back : List ℕ) : Type 0 where
   begins : BeginsEncoding front
   bad : (byte : ℕ) (after : List ℕ) → back ≡ byte ∷ after → BeginsEncoding (front ++ byte ∷ []) → ⊥

@@ -14,7 +14,7 @@ length-flat_map-signed (number ∷ numbers) =
     let whole = ap length (flat_map-cons signed_bytes number numbers) in
     omega arith
 
--- the bytes of a front of numbers, and of one number more
+-- the bytes of a prefix of numbers, and of one number more
 pub flat_map-one_more : (numbers : List ℤ) (index : ℕ) (number : ℤ) → index < length numbers →
     flat_map signed_bytes (take (index + 1) numbers) ≡ flat_map signed_bytes (take index numbers) ++ signed_bytes (get_or numbers index number)
 flat_map-one_more numbers index number below =

@@ -83,7 +83,7 @@ with_zeros_fit : (numbers : List ℤ) (k : ℕ) → AllFit numbers → AllFit (n
 with_zeros_fit [] k fits = zeros_fit k
 with_zeros_fit (number ∷ numbers) k fits = (fits.0, with_zeros_fit numbers k fits.1)
 
--- a front of numbers that fit does
+-- a prefix of numbers that fit does
 front_fits : (k : ℕ) (numbers : List ℤ) → AllFit numbers → AllFit (take k numbers)
 front_fits zero numbers fits = tt
 front_fits (suc k) [] fits = tt

@@ -36,7 +36,7 @@ unfolding open_record
 record_rest body left begins =
     (begins_with_1 left (begins_first (1 ∷ []) (counted body) left begins), begins_second (1 ∷ []) (counted body) left begins)
 
--- where a record with an open gate stands, what is due isn't closed
+-- if a record with an open gate stands there, what is expected isn't closed
 pub closed_not_next : (body left : List ℕ) → BeginsWith (open_record body) left → IsClosed left → ⊥
 closed_not_next body left begins closed =
     subst (λ left. IsClosed left) (record_rest body left begins).0 closed refl

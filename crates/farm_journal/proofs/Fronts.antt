@@ -23,12 +23,12 @@ pub begins_front : (size : ℕ) (front bytes : List ℕ) → size ≤ length fro
 begins_front size front bytes within begins =
     sym (take-take size (length front) bytes within) ∙ ap (λ bytes. take size bytes) begins
 
--- bytes begin with the front of a front of them
+-- bytes begin with the beginning of a prefix of them
 pub begins_then : (first front bytes : List ℕ) → BeginsWith first front → BeginsWith front bytes → BeginsWith first bytes
 begins_then first front bytes begins then =
     begins_front (length first) front bytes (begins_size first front begins) then ∙ begins
 
--- bytes begin with two lists where they begin with the first, and go on with the second
+-- bytes begin with two lists if they begin with the first, and continue with the second
 pub begins_append : (first next bytes : List ℕ) → BeginsWith first bytes → BeginsWith next (drop (length first) bytes) →
     BeginsWith (first ++ next) bytes
 begins_append first next bytes begins goes_on =
@@ -47,7 +47,7 @@ pub begins_with_1 : (bytes : List ℕ) → BeginsWith (1 ∷ []) bytes → bytes
 begins_with_1 [] begins = cc
 begins_with_1 (first ∷ rest) begins = let is : first ≡ 1 = cc in ap (λ first. first ∷ rest) is
 
--- and after it they go on with the second
+-- and after it they continue with the second
 pub begins_second : (first next bytes : List ℕ) → BeginsWith (first ++ next) bytes → BeginsWith next (drop (length first) bytes)
 begins_second first next bytes begins =
     sym (drop-take (length first) (length next) bytes)

@@ -25,7 +25,7 @@ open_left offset gate seen is_open shows =
     begins_with_1 (drop offset seen) (begins_then (1 ∷ []) gate (drop offset seen) is_open shows)
     ∙ ap (λ rest. 1 ∷ rest) (drop-drop 1 offset seen)
 
--- the journal is damaged at a place, where what is due after what was taken is
+-- the journal is damaged at a place, if what is expected after what was taken is
 damaged_at : (accepts : Accepts) (taken : List (List ℕ)) (offset place at : ℕ) (seen : List ℕ) → taken ≢ [] →
     offset ≡ length (counting_of taken) → All IsShort taken → AreAccepted accepts taken → BeginsWith (counting_of taken) seen →
     length taken ≡ place → at ≡ place → IsRecordDamaged accepts taken (drop offset seen) → IsDamagedAt accepts taken seen at

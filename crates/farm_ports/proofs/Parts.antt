@@ -5,7 +5,7 @@ use Rattle.std.proofs.lemmas.List.{take_rest}
 use Rattle.farm_base.specs.Known.{Adds}
 use Rattle.farm_base.proofs.Additions.{additions_add_up}
 
--- a front of a text, and then a front of its rest, are a front of it
+-- a prefix of a text, and then a prefix of its rest, are a prefix of it
 pub fronts_join : (text : List ℕ) (done count : ℕ) →
     take done text ++ take count (take (length text - done) (drop done text)) ≡ take (done + count) text
 fronts_join text done count =

@@ -24,7 +24,7 @@ abbrev pub PutGives : {E : Type 0} → Option (List ℕ) → Option (List ℕ) �
 PutGives old new piece (Ok count) = PutsFront old new piece count
 PutGives old new piece (Err e) = Adds old new []
 
--- All of the text was added, or the call failed and a front of it was.
+-- All of the text was added, or the call failed and a prefix of it was.
 abbrev pub PutsAll : {E T : Type 0} → Option (List ℕ) → Option (List ℕ) → List ℕ → Result T E → Type 0
 PutsAll old new text (Ok done) = Adds old new text
 PutsAll old new text (Err e) = (n : ℕ) × (n ≤ length text) × Adds old new (take n text)

@@ -11,7 +11,7 @@ use std::alloc::Global;
 // How many bytes of stack a read uses: what it takes passes through them on its way to memory.
 const CHUNK: usize = 8_192;
 
-/// Puts all of a text into a sink, or fails with a front of it put.
+/// Puts all of a text into a sink, or fails with a prefix of it put.
 pub fn put_all<K: Sink>(sink: &mut K, text: &[u8]) -> Result<(), Failed>
     ensures bytes { PutsAll (K.held sink.old) (K.held sink.new) text.now result }
     ensures stream { K.stream sink.new ≡ K.stream sink.old }

@@ -58,7 +58,7 @@ impl Responses {
         self.offset = self.current.len();
     }
 
-    /// Drops what was left, and goes on to the next response.
+    /// Drops what was left, and turns to the next response.
     pub fn go_on(&mut self)
         ensures coming { self.new.coming ≡ responses_after self.old.coming }
         ensures left { self.new.left ≡ first_response self.old.coming }

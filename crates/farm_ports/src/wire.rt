@@ -162,7 +162,7 @@ impl Link for Wire {
         ensures quiet { OnOk result (⟦<Wire as Link>⟧.faults self.new ≡ ⟦<Wire as Link>⟧.faults self.old) }
 
         // A listed send fails, and one that finds no memory: with room a listed one alone. Any other takes the whole piece and
-        // goes on to the next response.
+        // turns to the next response.
         ensures listed { FailsNext self.old.counted → IsErr result }
         ensures listed_alone { HasRoomFor (length bytes.now) self.old → IsErr result → FailsNext self.old.counted }
         ensures counted { CountsCall self.old.counted self.new.counted }

@@ -170,7 +170,7 @@ pub read_means : (files : List File) (result : Result Site SiteReadFault) →
 read_means files (Ok site) is = files_mean files site is
 read_means files (Err fault) is = tt
 
--- no site is of files of which one that is due is missing
+-- there is no site of files of which an expected one is missing
 isnt_missing : (answer : Result Described Refusal) (site : Described) → answer ≡ Ok site → IsMissing answer → ⊥
 isnt_missing (Ok made) site is missing = missing
 isnt_missing (Err (Faulty fault)) site is missing = missing

@@ -46,7 +46,7 @@ top_of_files files = do
   bytes ← content files 0 (codes "site.toml")
   found (toml_of 0 bytes)
 
--- the site of the files of a folder: the site, or the first fault in them, or the name of the file that is due and missing
+-- the site of the files of a folder: the site, or the first fault in them, or the name of the expected file that is missing
 unfoldable pub site_of_files : List File → Result Described Refusal
 site_of_files files = do
   top ← top_of_files files

@@ -58,7 +58,7 @@ impl Site {
     ///
     /// `Bad` is the first fault, in the order in which the files are looked at: the text of `site.toml`, its top keys,
     /// products, parties, tanks and lines; each item whole in turn, its keys and then its file. `Folder` comes only where the
-    /// folder failed, as where a file that is due is missing, and `NoMemory` at any time.
+    /// folder failed, as if an expected file is missing, and `NoMemory` at any time.
     pub fn read<F: Folder>(alloc: Global, folder: &mut F) -> Result<Site, SiteReadFault>
         ensures site { WhereKnown (F.files folder.new) (λ files. MatchResult result
             (λ site. site_of_files files ≡ Ok (record {
@@ -82,7 +82,7 @@ impl Site {
         ensures keeps { KeepsKnown (F.files folder.old) (F.files folder.new) (F.faults folder.old) (F.faults folder.new)
             SiteReadFault.Folder result }
 
-        // Of a folder that lists no failure, `Folder` says that a file that is due is missing.
+        // Of a folder that lists no failure, `Folder` says that an expected file is missing.
         ensures missing_only { F.lists_no_failure folder.old → WhereKnown (F.files folder.new) (λ files.
             result ≡ Err SiteReadFault.Folder → IsMissing (site_of_files files)) }
         ensures lists { F.lists_no_failure folder.old → F.lists_no_failure folder.new }

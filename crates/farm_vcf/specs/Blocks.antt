@@ -24,7 +24,7 @@ pub record IsFirstBlock (width : ℕ) (rows : List Listed) : Type 0 where
   pub one_density : (index : ℕ) → index < width → density_of rows index ≡ density_of rows 0
   pub another : width < length rows → ¬ (density_of rows width ≡ density_of rows 0)
 
--- A row goes on with the blocks. In the first its temperature is above that of the row before. In a later one its temperature is
+-- A row continues the blocks. In the first its temperature is above that of the row before. In a later one its temperature is
 -- that of its column in the first; its density is above that of the row before where it begins the block, and else the same.
 pub record GoesOn (width : ℕ) (rows : List Listed) (index : ℕ) : Type 0 where
   pub risen : 0 < index → index < width → temperature_of rows (index - 1) <ℤ temperature_of rows index

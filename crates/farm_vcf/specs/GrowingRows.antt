@@ -59,7 +59,7 @@ with_block grown density = record {
   column = grown.column;
 }
 
--- with a row more of a later block, which goes on with the blocks
+-- with a row more of a later block, which continues the blocks
 abbrev pub later_grown : Grown → Listed → Option Grown
 later_grown grown row =
     if continues (listed_at grown.temperatures grown.column) grown.density grown.column row

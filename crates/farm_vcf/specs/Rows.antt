@@ -27,13 +27,13 @@ unrisen (row ∷ rows) = unrisen_from 2 row.temperature rows
 abbrev pub next_column : ℕ → ℕ → ℕ
 next_column width column = if column + 1 == width then 0 else column + 1
 
--- A row goes on with the blocks: its temperature is that of its column, and its density is above the block's before where
+-- A row continues the blocks: its temperature is that of its column, and its density is above the block's before where
 -- the row begins a block, and the same elsewhere.
 abbrev pub continues : ℤ → ℤ → ℕ → Listed → Bool
 continues temperature before column row =
     int_eq row.temperature temperature && (if column == 0 then int_lt before row.density else int_eq row.density before)
 
--- the first row, counted from a number, that doesn't go on with the blocks, or one more than the last row of a block too short
+-- the first row, counted from a number, that doesn't continue the blocks, or one more than the last row of a block too short
 abbrev pub discontinued_from : List ℤ → ℕ → ℤ → ℕ → List Listed → Option ℕ
 discontinued_from temperatures number before column [] = if column == 0 then None else Some number
 discontinued_from temperatures number before column (row ∷ rows) =
@@ -69,7 +69,7 @@ abbrev pub unless : {A : Type 0} → Option ℕ → Result A FactorFault → Res
 unless (Some number) answer = Err (NotGrid number)
 unless None answer = answer
 
--- the first block is the leading rows of one density: its temperatures rise, and the blocks after it go on with it
+-- the first block is the leading rows of one density: its temperatures rise, and the blocks after it continue it
 unfoldable pub grid_in_blocks : ℕ → ℤ → List Listed → Result Grid FactorFault
 grid_in_blocks width density rows =
     unless (unrisen (take width rows))

@@ -62,7 +62,7 @@ impl Growing {
         })
     }
 
-    /// Takes a row more, and says whether it goes on with those before.
+    /// Takes a row more, and says whether it continues those before.
     pub fn push(&mut self, row: Listed) -> Result<bool, NoMemory>
         ensures grown { result ≡ Ok true → grown_by self.old row ≡ Some self.new }
         ensures broken { result ≡ Ok false → grown_by self.old row ≡ None }
@@ -133,7 +133,7 @@ impl Growing {
     }
 }
 
-// Whether a row goes on with the blocks.
+// Whether a row continues the blocks.
 fn continues(temperature: Centi, before: Dens, column: usize, row: &Listed) -> bool
     ensures { result ≡ continues temperature before column row.now }
 {

@@ -23,7 +23,7 @@ enum Sought {
 }
 
 impl Past<'_> {
-    /// The place of the last gauge's reading or dip of a tank. `None` exactly where there is none.
+    /// The place of the last gauge's reading or dip of a tank. `None` if and only if there isn't one.
     #[tactic(auto, unfolding(farm_history::specs::Stocks::last_reading))]
     pub fn last_reading(&self, tank: u16) -> Option<u32>
         requires readable { IsReadable (history_of self.now.site.now self.now.entries.now) }
@@ -32,7 +32,7 @@ impl Past<'_> {
         self.last_sought(Sought::Gauging, tank)
     }
 
-    /// The place of the last sample of a tank. `None` exactly where there is none.
+    /// The place of the last sample of a tank. `None` if and only if there isn't one.
     #[tactic(auto, unfolding(farm_history::specs::Stocks::last_sample))]
     pub fn last_sample(&self, tank: u16) -> Option<u32>
         requires readable { IsReadable (history_of self.now.site.now self.now.entries.now) }
@@ -41,7 +41,7 @@ impl Past<'_> {
         self.last_sought(Sought::Sample, tank)
     }
 
-    /// The place of the last Settle of a tank. `None` exactly where there is none.
+    /// The place of the last Settle of a tank. `None` if and only if there isn't one.
     #[tactic(auto, unfolding(farm_history::specs::Movements::last_settlement))]
     pub fn last_settlement(&self, tank: u16) -> Option<u32>
         requires readable { IsReadable (history_of self.now.site.now self.now.entries.now) }

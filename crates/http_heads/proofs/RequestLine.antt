@@ -7,7 +7,7 @@ use Rattle.http_heads.specs.Lines.{after_request_line, field_lines, has_byte, li
 use Rattle.http_heads.specs.Laws.{AreFieldLines, FollowRequestLine}
 use Rattle.http_heads.proofs.Cuts.{after_empty}
 
--- lines are those before the first empty one, and a rest that begins with it or is none
+-- lines are those before the first empty one, and a rest that begins with it or is empty
 record IsCut (lines front : List (List ℕ)) : Type 0 where
   rest : List (List ℕ)
   split : lines ≡ front ++ rest

@@ -44,7 +44,7 @@ pub record IsContentLength (value : List ℕ) : Type 0 where
 abbrev pub HasBadLength : List ℕ → Type 0
 HasBadLength bytes = (1 < length (content_lengths bytes)) ⊎ Any (λ value. ¬ (IsContentLength value)) (content_lengths bytes)
 
--- the number that the first of these values states, and 0 if there is none
+-- the number that the first of these values states, and 0 without one
 abbrev pub stated_in : List (List ℕ) → ℕ
 stated_in [] = 0
 stated_in (value ∷ more) = digits_value 10 value

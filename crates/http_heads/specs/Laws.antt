@@ -23,7 +23,7 @@ pub record FollowRequestLine (lines fields : List (List ℕ)) : Type 0 where
   pub none_empty : All (λ line. line ≢ []) fields
   pub up_to : (rest ≡ []) ⊎ ((more : List (List ℕ)) × (rest ≡ [] ∷ more))
 
--- the field lines among lines; without a request line there is none
+-- the field lines among lines; without a request line there aren't any
 abbrev pub AreFieldLines : List (List ℕ) → List (List ℕ) → Type 0
 AreFieldLines lines fields = FollowRequestLine lines fields ⊎ (All (λ line. line ≡ []) lines × (fields ≡ []))
 

@@ -16,7 +16,7 @@ use farm_base::{is_all_digits, is_blank};
 /// What the Content-Length fields of a request state.
 #[derive(Clone, Copy)]
 pub(crate) enum Length {
-    /// There is none.
+    /// There isn't any.
     Absent,
     /// There is one, of this number of bytes.
     Bytes(u64),

@@ -30,7 +30,7 @@ pub enum Front<'a> {
 /// A whole request at the front of bytes: the first `head + body` of them.
 #[derive(Clone, Copy, Debug, PartialEq, Eq)]
 pub struct RequestFront<'a> {
-    /// The method, as the bytes have it: methods are told apart by the case of their letters.
+    /// The method, as the bytes have it: two methods whose letters differ in case alone are two.
     pub method: &'a [u8],
     /// The target, as the bytes have it.
     pub target: &'a [u8],

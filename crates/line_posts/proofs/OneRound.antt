@@ -43,7 +43,7 @@ one_at_most : (submitted : Option Submission) → submitted_in (cons_option (opt
 one_at_most None = omega arith
 one_at_most (Some submission) = omega arith
 
--- the index whose turn is next after so many polls of a round
+-- the index whose turn is next after a number of polls of a round
 abbrev pub next_after : ℕ → ℕ → ℕ
 next_after done count = if done == count then 0 else done
 
@@ -59,7 +59,7 @@ next_at_end count = grind (arith, nat_tests)
 next_at_start : (count : ℕ) → next_after 0 count ≡ 0
 next_at_start count = grind (arith, nat_tests)
 
--- what a line did since a round began, after so many polls
+-- what a line did since a round began, after a number of polls
 pub record IsPolling (may_follow : History → History → Type 0) (may_give : ℤ → Type 0) (limit : ℕ) (first now : Submitter) (old new : LineState) (done : ℕ) : Type 0 where
   pub polls : List Poll
   pub each : gauges_in polls ≡ range_with_len 0 done

@@ -91,7 +91,7 @@ none_on opened first next rounds continues within none =
     (λ (round : Round). sees_stop opened next round ≡ false) rounds
     (λ round there is. stop_on opened first next round continues there ∙ is) (looks_of (IsWithin span_of (last_place first)) rounds within) none
 
--- what a line did since its run began, after so many rounds
+-- what a line did since its run began, after a number of rounds
 pub record HasRun (may_follow : History → History → Type 0) (may_give : ℤ → Type 0) (limit : ℕ) (first now : Submitter) (old new : LineState)
     (rounds : List Round) : Type 0 where
   pub polled : AreRounds old.poller new.poller rounds

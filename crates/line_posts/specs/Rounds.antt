@@ -48,7 +48,7 @@ sees_stop opened history round = has_stop (drop opened (take round.seen history.
 abbrev pub SeeNoStop : ℕ → History → List Round → Type 0
 SeeNoStop opened history rounds = All (λ round. sees_stop opened history round ≡ false) rounds
 
--- A run ended after just so many rounds, and no look saw a Stop that was entered since the desk was opened; or it ended after the first
+-- A run ended after just that many rounds, and no look saw a Stop that was entered since the desk was opened; or it ended after the first
 -- look that saw one.
 pub data EndsAs (opened : ℕ) (history : History) (wanted : ℕ) (rounds : List Round) : Type 0 where
   whole : length rounds ≡ wanted → SeeNoStop opened history rounds → EndsAs opened history wanted rounds

@@ -8,7 +8,7 @@ use Rattle.line_posts.specs.Submissions.{ask_of}
 
 -- The run of a line, by its number from 1, from how it stood to how it stands: its polls are those of whole rounds, the link took just their
 -- calls and a pause between two rounds, each reading that is due is submitted once, under the account of the line and with the next key, and
--- the run ended after so many rounds or at a Stop.
+-- the run ended after its number of rounds or at a Stop.
 pub record IsLineRun (may_follow : History → History → Type 0) (may_give : ℤ → Type 0) (limit line wanted : ℕ) (old new : LineState) : Type 0 where
   pub rounds : List Round
   pub polled : AreRounds old.poller new.poller rounds

@@ -14,7 +14,7 @@ use crate::submitting::Submitter;
 use desk_access::DeskAccess;
 use farm_ports::{Clock, Link};
 
-/// Runs a line, by its number from 1, as one caller of a desk that was recovered with so many entries: whole rounds, with a pause of a
+/// Runs a line, by its number from 1, as one caller of a desk that was recovered with a number of entries: whole rounds, with a pause of a
 /// second between two.
 ///
 /// In a round each gauge is polled once, in the site's order. A reading that is due is submitted once, and counts as submitted whatever the

@@ -9,7 +9,7 @@ use crate::limits::{KEYS_APART, LINE_ACCOUNTS};
 use farm_history::{Ask, Command};
 use modbus_poll::Raw;
 
-/// Who submits: the line of a number, at a desk that was recovered with so many entries, after so many submissions.
+/// Who submits: the line of a number, at a desk that was recovered with a number of entries, after a number of submissions.
 #[derive(Drop)]
 pub(crate) struct Submitter {
     pub line: u16,

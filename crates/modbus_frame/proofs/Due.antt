@@ -1,11 +1,11 @@
--- What it says of a field that it agrees, and that the fields of the good responses are due.
+-- What it says of a field that it agrees, and that the fields of the good responses are the expected ones.
 use Rattle.std.proofs.Common.{◌≡◌, ℕ, ◌+◌, ◌*◌, false, arith, ◌⊎◌}
 use Rattle.std.specs.Prelude.{◌==◌, not}
 use Rattle.std.proofs.lemmas.Bool.Decides.{nat_tests}
 use Rattle.modbus_frame.specs.declared.expect.Expect.{Expect}
 use Rattle.modbus_frame.specs.Fields.{is_wrong_count, is_wrong_function, is_wrong_length}
 
--- a number is the one that is due
+-- a number is the expected one
 pub number_agrees : (number due : ℕ) → not (number == due) ≡ false → number ≡ due
 number_agrees number due test = grind (arith, nat_tests)
 
@@ -22,7 +22,7 @@ function_agrees expect size function test = grind (arith, nat_tests)
 pub count_agrees : (expect : Expect) (function count : ℕ) → is_wrong_count expect function count ≡ false → function ≡ expect.function → count ≡ 2 * expect.quantity
 count_agrees expect function count test same = grind (arith, nat_tests)
 
--- the length of registers is due
+-- the length of registers is the expected one
 pub words_length : (expect : Expect) → is_wrong_length expect (3 + 2 * expect.quantity) ≡ false
 words_length expect = grind (arith, nat_tests)
 
@@ -34,7 +34,7 @@ words_function expect = grind (arith, nat_tests)
 pub words_count : (expect : Expect) → is_wrong_count expect expect.function (2 * expect.quantity) ≡ false
 words_count expect = grind (arith, nat_tests)
 
--- the function of an exception is due with the length of one
+-- the function of an exception is expected with the length of one
 pub exception_function : (expect : Expect) → is_wrong_function expect 3 (expect.function + 128) ≡ false
 exception_function expect = grind (arith, nat_tests)
 

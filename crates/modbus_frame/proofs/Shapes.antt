@@ -32,11 +32,11 @@ exception_response-is expect code = refl
 pub length-response_of : (expect : Expect) (size function ninth : ℕ) (rest : List ℕ) → size < 2 ^ 16 → number_at 4 (response_of expect size function ninth rest) ≡ size
 length-response_of expect size function ninth rest fits = from_be_bytes-to_be_bytes_2 size fits
 
--- a number is due by itself
+-- a number is expected by itself
 due : (number : ℕ) → not (number == number) ≡ false
 due number = ap not (eq-eqb number number refl)
 
--- each field of such a response agrees, where its length, its function and its ninth byte are due
+-- each field of such a response agrees, if its length, its function and its ninth byte are the expected ones
 response_of-agrees : (expect : Expect) (size function ninth : ℕ) (rest : List ℕ) → expect.transaction < 2 ^ 16 → size < 2 ^ 16 →
     is_wrong_length expect size ≡ false → is_wrong_function expect size function ≡ false → is_wrong_count expect function ninth ≡ false →
     (field : ℕ) → field ≤ 6 → disagrees field expect (response_of expect size function ninth rest) ≡ false

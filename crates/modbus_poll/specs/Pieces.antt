@@ -23,7 +23,7 @@ pub record IsSent (request : List ℕ) (pieces : List (List ℕ)) : Type 0 where
   pub some : All (λ piece. 1 ≤ length piece) pieces
   pub whole : concat pieces ≡ request
 
--- a front of a request was sent, and not all of it, in pieces with at least one byte
+-- a prefix of a request was sent, and not all of it, in pieces with at least one byte
 pub record IsPartlySent (request : List ℕ) (pieces : List (List ℕ)) : Type 0 where
   pub some : All (λ piece. 1 ≤ length piece) pieces
   pub rest : List ℕ
@@ -41,7 +41,7 @@ pub record SendsWhole (old new : Option (List LinkCall)) (request : List ℕ) : 
   pub whole : IsSent request pieces
   pub made : AddsCalls old new (sent pieces)
 
--- a front of a request was sent, and then a send failed
+-- a prefix of a request was sent, and then a send failed
 pub record StopsSending (old new : Option (List LinkCall)) (request : List ℕ) : Type 0 where
   pub pieces : List (List ℕ)
   pub front : IsPartlySent request pieces
@@ -74,7 +74,7 @@ pub record ReceivesWhole (old new : Option (List LinkCall)) (expect : Expect) (f
   pub decided : IsDecided frame
   pub made : AddsCalls old new (received came)
 
--- a front of a response came, and then a receive failed
+-- a prefix of a response came, and then a receive failed
 pub record StopsReceiving (old new : Option (List LinkCall)) (expect : Expect) : Type 0 where
   pub came : List (List ℕ)
   pub as_needed : ReceivesAsNeeded expect came

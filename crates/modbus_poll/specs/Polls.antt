@@ -121,7 +121,7 @@ pub record FailsToConnect (old : PollerState) (number : ℕ) (calls : List LinkC
   pub answer_is : answer ≡ LinkFault old.next
   pub number_is : number ≡ old.number
 
--- a send failed: a front of the request went out, and the number is spent
+-- a send failed: a prefix of the request went out, and the number is spent
 pub record FailsToSend (old : PollerState) (expect : Expect) (number : ℕ) (calls : List LinkCall) (answer : Polled) : Type 0 where
   pub pieces : List (List ℕ)
   pub front : IsPartlySent (request_frame expect) pieces

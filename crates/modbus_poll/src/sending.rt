@@ -6,7 +6,7 @@ ghost use Rattle.modbus_poll.specs.Pieces.{SendsRequest};
 
 use farm_ports::{Failed, Link};
 
-/// Sends a request whole, or fails with a front of it sent.
+/// Sends a request whole, or fails with a prefix of it sent.
 pub fn send_whole<L: Link>(link: &mut L, request: &[u8]) -> Result<(), Failed>
     ensures calls { SendsRequest (L.calls link.old) (L.calls link.new) request.now result }
     ensures cause { HasCause (L.faults link.old) (L.faults link.new) result }

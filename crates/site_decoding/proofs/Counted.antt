@@ -27,7 +27,7 @@ regroup : {A : Type 0} (front : List A) (item : A) (read : Listed A) → with_fr
 regroup {A} front item (Ok x) = ap (λ (items : List A). all_read (items, x.1)) (sym (append_assoc front (item ∷ []) x.0))
 regroup front item (Err fault) = refl
 
--- reading goes on with one thing more
+-- reading continues with one thing more
 pub goes_on : {A : Type 0} (read : Reader A) (front : List A) (count i : ℕ) (bytes : List ℕ) (item : A) (after : List ℕ) (total : Listed A) → i < count →
     read bytes ≡ Ok (item, after) → with_front front (counted_at read (count - i) bytes) ≡ total →
     with_front (front ++ item ∷ []) (counted_at read (count - (i + 1)) after) ≡ total

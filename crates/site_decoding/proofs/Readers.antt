@@ -12,7 +12,7 @@ use Rattle.site_decoding.specs.Readers.{IsBytes, IsReader, Takes}
 pub IsBytes-drop : (n : ℕ) (bytes : List ℕ) → IsBytes bytes → IsBytes (drop n bytes)
 IsBytes-drop n bytes h i = rw get_or-drop (h (n + i))
 
--- a front of bytes is bytes
+-- a prefix of bytes is bytes
 pub IsBytes-take : (n : ℕ) (bytes : List ℕ) → IsBytes bytes → IsBytes (take n bytes)
 IsBytes-take n bytes h i =
     elim (cases_lt i n) [

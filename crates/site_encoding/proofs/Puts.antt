@@ -1,4 +1,4 @@
--- Bytes that are put one after another: two of them, and those of a front of items and of one more.
+-- Bytes that are put one after another: two of them, and those of a prefix of items and of one more.
 use Rattle.std.proofs.Common.{◌≡◌, ℕ, ◌+◌, ◌<◌, List, [], ◌∷◌, ◌++◌, length, take, get_or, ap, ◌∙◌, sym, append_assoc, arith, length-append, append-nil}
 use Rattle.std.specs.Prelude.{Vec}
 use Rattle.std.specs.declared.alloc.Global.{Global}
@@ -22,7 +22,7 @@ two_put old now new first second before after =
       capacity = omega arith;
     }
 
--- the bytes of a front of items and of one more
+-- the bytes of a prefix of items and of one more
 pub flat_map-one_more : {A : Type 0} (item : A → List ℕ) (items : List A) (i : ℕ) (d : A) → i < length items →
     flat_map item (take (i + 1) items) ≡ flat_map item (take i items) ++ item (get_or items i d)
 flat_map-one_more item items i d below =
@@ -31,7 +31,7 @@ flat_map-one_more item items i d below =
     ∙ flat_map-append item (take i items) (one ∷ [])
     ∙ ap (λ bytes. flat_map item (take i items) ++ bytes) (flat_map-cons item one [] ∙ append-nil (item one))
 
--- after the bytes of a front of items there is room for those of the next
+-- after the bytes of a prefix of items there is room for those of the next
 pub room_for_next : {A : Type 0} (item : A → List ℕ) (items : List A) (i : ℕ) (one d : A) (old now : Vec ℕ Global) → i < length items →
     one ≡ get_or items i d → HasRoom old (flat_map item items) → IsPut old now (flat_map item (take i items)) → HasRoom now (item one)
 room_for_next item items i one d old now below is room so_far =
@@ -42,7 +42,7 @@ room_for_next item items i one d old now below is room so_far =
     let had = room.room in
     record { room = omega arith }
 
--- the bytes of a front of items and those of the next are those of one item more
+-- the bytes of a prefix of items and those of the next are those of one item more
 pub one_more_put : {A : Type 0} (item : A → List ℕ) (items : List A) (i : ℕ) (one d : A) (old now new : Vec ℕ Global) → i < length items →
     one ≡ get_or items i d → IsPut old now (flat_map item (take i items)) → IsPut now new (item one) → IsPut old new (flat_map item (take (i + 1) items))
 one_more_put item items i one d old now new below is so_far put =
@@ -59,7 +59,7 @@ one_more_put item items i one d old now new below is so_far put =
       capacity = omega arith;
     }
 
--- the length of the bytes of a front of items, and of one more
+-- the length of the bytes of a prefix of items, and of one more
 pub length-one_more : {A : Type 0} (item : A → List ℕ) (items : List A) (i : ℕ) (one d : A) → i < length items → one ≡ get_or items i d →
     length (flat_map item (take (i + 1) items)) ≡ length (flat_map item (take i items)) + length (item one)
 length-one_more item items i one d below is =

@@ -8,7 +8,7 @@ use Rattle.site_keys.specs.declared.fault.SiteFault.{SiteFault}
 use Rattle.site_keys.specs.declared.fault.SiteReadFault.{SiteReadFault}
 use Rattle.site_keys.specs.declared.fault.SiteReadFault.TheVariants.{NoMemory, Folder, Bad}
 
--- why the files of a folder are no site: the first fault that is found in them, or a file that is due and isn't there
+-- why the files of a folder are no site: the first fault that is found in them, or an expected file that is missing
 pub data Refusal : Type 0 where
   Faulty : (fault : SiteFault) → Refusal
   Missing : (name : List ℕ) → Refusal
@@ -56,7 +56,7 @@ refusal_of NoMemory = None
 refusal_of Folder = None
 refusal_of (Bad fault) = Some (Faulty fault)
 
--- a file that is due is missing
+-- an expected file is missing
 abbrev pub IsMissing : {A : Type 0} → Result A Refusal → Type 0
 IsMissing (Ok value) = ⊥
 IsMissing (Err (Faulty fault)) = ⊥

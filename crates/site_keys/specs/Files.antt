@@ -20,7 +20,7 @@ within_limit item name (Some bytes) = if nat_lt longest_file (length bytes) then
 abbrev pub content : List File → ℕ → List ℕ → Result (List ℕ) Refusal
 content files item name = within_limit item name (file_named name files)
 
--- a call reports that the folder failed only where, by what a definition answers of the files, one that is due is missing
+-- a call reports that the folder failed only if, by what a definition answers of the files, an expected one is missing
 abbrev pub FailsAsMissing : {T A : Type 0} → Option (List File) → Result T SiteReadFault → (List File → Result A Refusal) → Type 0
 FailsAsMissing known result answer = result ≡ Err Folder → (files : List File) → known ≡ Some files → IsMissing (answer files)
 

@@ -25,7 +25,7 @@ pub enum SiteReadFault {
     /// Out of memory.
     #[error("no memory")]
     NoMemory,
-    /// The folder failed, and counted the fault. A file that is due and missing is such a fault.
+    /// The folder failed, and counted the fault. An expected file that is missing is such a fault.
     #[error("the folder failed")]
     Folder,
     /// The files describe no site.

@@ -17,7 +17,7 @@ use Rattle.site_keys.specs.declared.fault.SiteReadFault.{SiteReadFault}
 use Rattle.site_keys.specs.declared.fault.SiteReadFault.TheVariants as read
 use Rattle.site_keys.specs.Faults.{bad, detail, fault_at}
 
--- the litres of a record, where its level is the one that is due
+-- the litres of a record, if its level is the expected one
 abbrev pub litres_at : ℕ → Option ℤ → Option ℤ → Option ℤ
 litres_at due None litres = None
 litres_at due (Some level) litres = if int_eq level (pos due) then litres else None
@@ -31,7 +31,7 @@ number_of (Some field) = whole_number (without_blanks field)
 unfoldable pub number_in : List (List ℕ) → ℕ → Option ℤ
 number_in fields n = number_of (field_at fields n)
 
--- the litres of a record of a level, the one that is due, and litres
+-- the litres of a record of a level, the expected one, and litres
 unfoldable pub litres_of : ℕ → List (List ℕ) → Option ℤ
 litres_of due fields = if length fields == 2 then litres_at due (number_in fields 0) (number_in fields 1) else None
 
@@ -40,14 +40,14 @@ abbrev pub litres_read : ℕ → ℕ → Option ℤ → Result ℤ SiteFault
 litres_read item n None = bad code_of_field item (detail n)
 litres_read item n (Some litres) = Ok litres
 
--- the litres of the records from record n on, after others; their levels are 10 mm apart, and record 1 is due at 0
+-- the litres of the records from record n on, after others; their levels are 10 mm apart, and record 1 is expected at 0
 abbrev pub litres_after : ℕ → ℕ → List ℤ → List (List (List ℕ)) → Result (List ℤ) SiteFault
 litres_after item n done [] = Ok done
 litres_after item n done (fields ∷ records) = do
   litres ← litres_read item n (litres_of (10 * (n - 1)) fields)
   litres_after item (n + 1) (done ++ litres ∷ []) records
 
--- the litres of records, of which the first is due at 0
+-- the litres of records, of which the first is expected at 0
 abbrev pub litres_from : ℕ → List (List (List ℕ)) → Result (List ℤ) SiteFault
 litres_from item records = litres_after item 1 [] records
 

@@ -50,7 +50,7 @@ pub fn table_of_rows(item: u32, rows: Vec<i64>) -> Result<CapTable, SiteFault>
     }
 }
 
-// A record of a table file is read as the litres at the level that is due.
+// A record of a table file is read as the litres at the expected level.
 struct Litres;
 
 impl RowOf for Litres {

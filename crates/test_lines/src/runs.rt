@@ -63,7 +63,7 @@ struct Run {
     faults: u64,
 }
 
-// The desk that so many rounds of line 1 at a link leave, without an entry before.
+// The desk that a number of rounds of line 1 at a link leave, without an entry before.
 fn desk_after(alloc: Global, wire: &mut Wire, rounds: u32) -> Result<RowDesk, Fail>
     requires rounds { rounds ≤ most_rounds }
 {

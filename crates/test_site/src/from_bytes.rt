@@ -91,7 +91,7 @@ const TWO_TANKS: [(&str, u8, u8, Option<SiteBytesFault>); 3] = [
     ("tanks in falling order", 7, 6, BAD),
 ];
 
-// Why the site with its tank under two numbers is none.
+// Why the site with its tank under two numbers is no site.
 fn fault_of_tanks(alloc: Global, first: u8, second: u8) -> Result<Option<SiteBytesFault>, Fail> {
     let front = bytes_from(0, TANKS);
     let tank = bytes_from(TANK + 2, LINES);
@@ -102,7 +102,7 @@ fn fault_of_tanks(alloc: Global, first: u8, second: u8) -> Result<Option<SiteByt
     )
 }
 
-// Why the site with its gauge twice is none.
+// Why the site with its gauge twice is no site.
 fn fault_of_gauges(alloc: Global) -> Result<Option<SiteBytesFault>, Fail> {
     let gauge = bytes_from(GAUGE, BYTES.len());
     fault_of(alloc, &[bytes_from(0, GAUGES), &[2], gauge, gauge])

@@ -22,7 +22,7 @@ const NOW: i64 = 1_700_000_000;
 // A level outside its range.
 const OUT: Expected = Refused(Rule::OutOfRange(1));
 
-// A job of a caller that has looked at so many entries; then how many stand, and whether a Stop is past those that it had looked at.
+// A job of a caller that has looked at a number of entries; then how many stand, and whether a Stop is past those that it had looked at.
 #[derive(Clone, Copy)]
 enum Step {
     // A request, and its answer.
@@ -70,7 +70,7 @@ fn looked_on<R: Wait>(rt: &R, turn: &RowTurn, pass: &mut RowPass, look: LookJob)
     job
 }
 
-// A job tells what its row says. A request has no answer before its turn, and what a look has of Stops is none of its turn's matter.
+// A job tells what its row says. A request has no answer before its turn, and what a look has of Stops isn't of its turn.
 fn check_step<R: Print + Wait>(
     checks: &mut Checks<'_, R>,
     rt: &R,

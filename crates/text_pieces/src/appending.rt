@@ -20,7 +20,7 @@ pub fn append(out: &mut Vec<u8>, pieces: &[Piece<'_>]) -> Result<(), NoMemory>
     written
 }
 
-// Appends the texts of pieces, or a front of them. What is inlined is small, so that the compiler unrolls the loop over
+// Appends the texts of pieces, or a prefix of them. What is inlined is small, so that the compiler unrolls the loop over
 // pieces that it knows and makes of each the one call that it needs.
 #[inline(always)]
 fn write_pieces(out: &mut Vec<u8>, pieces: &[Piece<'_>]) -> Result<(), NoMemory>
@@ -32,7 +32,7 @@ fn write_pieces(out: &mut Vec<u8>, pieces: &[Piece<'_>]) -> Result<(), NoMemory>
     Ok(())
 }
 
-// Appends the text of a piece, or a front of it.
+// Appends the text of a piece, or a prefix of it.
 #[inline(always)]
 fn write_piece(out: &mut Vec<u8>, piece: &Piece<'_>) -> Result<(), NoMemory>
     ensures piece { Lengthens out.old.items out.new.items (piece_text piece.now) result }

@@ -1,4 +1,4 @@
-//! The texts of numbers and quantities at the end of a buffer. Each call appends its text, or fails after a front of it.
+//! The texts of numbers and quantities at the end of a buffer. Each call appends its text, or fails after a prefix of it.
 
 ghost use Rattle.std.specs.Prelude.{◌≡◌, ◌≤◌, ◌/◌, ◌%◌, ◌^◌, ◌==◌, ◌∷◌, [], decimal, replicate, if◌then◌else◌};
 ghost use Rattle.std.specs.Fmt.{signed_decimal};

@@ -8,7 +8,7 @@ use Rattle.calc_input.proofs.LinesTaken.{line_due, taken_more}
 use Rattle.calc_input.proofs.VolumeRows.{onto, one_row_more, no_row_here, rows_done}
 use Rattle.calc_input.proofs.table_rows.rows_of.Goals as goal
 
--- the line that is due in the loop, by its number
+-- the line that is expected in the loop, by its number
 due_at : (all taken lines : List (List ℕ)) (index : ℕ) → taken ≡ drop 1 all → lines ≡ drop index taken → line_at lines 0 ≡ line_at all (index + 1)
 due_at all taken lines index first left = line_due all lines (index + 1) (left ∙ taken_more all taken 1 index (index + 1) first (omega arith))
 
