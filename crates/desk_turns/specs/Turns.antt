@@ -34,8 +34,8 @@ pub record IsNewPass {D : Type 0} (turn : TurnView (DeskState D)) (pass : PassVi
   pub tally : pass.known.tally ≡ 0
   pub found : turn.opening.opened.entries ≡ last_place turn.opening.history
 
--- What holds of every such access, which has looked at that many entries: its pass is of its turn, and has the number of its caller; what it
--- has seen continues what the desk was made with; and its faults are counted.
+-- What holds of every such access, which has looked at that many entries: its pass is of its turn, and has the number of its caller; what
+-- it has seen continues what the desk was made with; and its faults are counted.
 pub record IsTurnAccess {D : Type 0} (access : TurnState D) (looked : ℕ) : Type 0 where
   pub of_this_turn : access.pass.turn ≡ access.turn.turn
   pub enrolled : access.pass.known.number ≡ Some access.caller

@@ -227,6 +227,7 @@ impl<const LIMIT: usize> Book<LIMIT> {
         ensures entries { result.now ≡ self.now.history.entries }
         ensures legal { IsLegal LIMIT self.now.history }
         ensures few { last_place self.now.history ≤ LIMIT + STOPS_BEYOND_LIMIT }
+        ensures limit { LIMIT ≤ GREATEST_LIMIT }
     {
         &self.entries
     }
