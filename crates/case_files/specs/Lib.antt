@@ -1,2 +1,3 @@
 -- The definitions of `case_files`, by subject.
+pub mod Digits
 pub mod Texts

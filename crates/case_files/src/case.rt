@@ -62,6 +62,7 @@ impl<'a> Case<'a> {
             "clock",
             "fails",
             "listeners",
+            "links",
             "disk",
             "output",
         ];
@@ -95,6 +96,8 @@ pub struct Run<'a> {
     pub fails: FailingCalls<'a>,
     /// The listeners that it is handed, with what comes to them and what is wanted of them.
     pub listeners: &'a [Value],
+    /// The links that it is handed, with what they answer and what is wanted of them.
+    pub links: &'a [Value],
     /// The status that is wanted; 0 where it isn't given.
     pub status: u64,
     /// The output that is wanted; nothing where it isn't given.
@@ -110,6 +113,7 @@ impl<'a> Run<'a> {
             "clock",
             "fails",
             "listeners",
+            "links",
             "status",
             "output",
         ];
@@ -125,6 +129,7 @@ impl<'a> Run<'a> {
             clock: keys.integer("clock")?.unwrap_or(0),
             fails: FailingCalls::read(keys)?,
             listeners: keys.list("listeners")?,
+            links: keys.list("links")?,
             status: keys.natural("status")?.unwrap_or(0),
             output: text_at(keys, "output")?,
         })

@@ -34,6 +34,12 @@ pub enum CaseFault {
     /// A text to be replaced doesn't stand once in its file.
     #[error("the text to be replaced doesn't stand once in its file: {0:?}")]
     NotOnce(String),
+    /// A text that has to be bytes isn't hexadecimal digits, two a byte.
+    #[error("the text isn't hexadecimal digits, two a byte: {0:?}")]
+    NotDigits(String),
+    /// A text is no call of a link.
+    #[error("there is no call {0:?}")]
+    NoCall(String),
     /// The call is out of memory.
     #[error("no memory")]
     NoMemory,

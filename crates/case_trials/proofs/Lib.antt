@@ -1,2 +1,4 @@
 -- The lemmas of `case_trials`, by topic.
+mod Calls
+mod Lists
 mod Visits

@@ -1,2 +1,3 @@
 -- The definitions of `case_trials`, by subject.
+pub mod Calls
 pub mod Visits

@@ -4,18 +4,21 @@ ghost use Rattle.std.specs.Prelude.{IsSome};
 
 use crate::disk::read_disk;
 use crate::fault::TrialFault;
+use crate::links::taken_calls;
 use crate::stage::Stage;
 use crate::visited::{Visited, all_visited};
-use case_files::{Ports, Run, texts_of};
+use case_files::{Call, Ports, Run, texts_of};
 use command_line::asks_to_serve;
 use farm_disk::MemDisk;
 use farm_listeners::Visits;
-use farm_run::{Done, run, run_alone};
-use farm_serve::Post;
+use farm_ports::Wire;
+use farm_run::{Done, RunLine, RunPost, run, run_alone};
 use std::alloc::Global;
 use std::sync::Wait;
+use std::thread::Threads;
 
-/// What a run ends with: its status, what it printed, the bytes of its disk if the case gives them, and what its listeners have.
+/// What a run ends with: its status, what it printed, the bytes of its disk if the case gives them, what its listeners have, and what its
+/// links took.
 #[derive(Debug, Drop)]
 pub struct Answer {
     /// The status that the program ends with.
@@ -26,6 +29,8 @@ pub struct Answer {
     pub disk: Vec<u8>,
     /// What its listeners have, in their order.
     pub listeners: Vec<Visited>,
+    /// The calls that each of its links took, in their order; none of a link that the case doesn't look at.
+    pub links: Vec<Vec<Call>>,
 }
 
 /// What a run ended with, before its disk is looked at, and the disk that it left.
@@ -37,22 +42,25 @@ pub struct Ended {
 
 impl Ended {
     /// What the program answers to the words of a run over ports, posts and a disk.
-    pub fn of<R: Wait>(
+    pub fn of<R: Threads + Wait + Sync>(
         stage: &Stage<'_, R>,
         run: &Run<'_>,
         ports: Ports,
-        posts: Vec<Post<Visits>>,
+        posts: Vec<RunPost<Visits, MemDisk>>,
+        lines: Vec<RunLine<Wire, MemDisk>>,
         disk: MemDisk,
     ) -> Result<Self, TrialFault> {
         let mut ports = ports;
         let mut posts = posts;
+        let mut lines = lines;
         let words = texts_of(stage.alloc, "words", run.words)?;
-        let done = done_of(stage, &words, &mut ports, &mut posts, disk);
+        let done = done_of(stage, &words, &mut ports, &mut posts, &mut lines, disk);
         let answer = Answer {
             status: u64::from(done.status),
             output: Vec::from_slice(stage.alloc, ports.output.bytes())?,
             disk: Vec::new(stage.alloc),
             listeners: all_visited(stage.alloc, &posts, run.listeners)?,
+            links: taken_calls(stage.alloc, &lines, run.links)?,
         };
         Ok(Ended {
             answer,
@@ -73,12 +81,13 @@ impl Ended {
     }
 }
 
-// How the program ends on words: posts are handed to it only if they ask to serve.
-fn done_of<R: Wait>(
+// How the program ends on words: posts and lines are handed to it only if they ask to serve.
+fn done_of<R: Threads + Wait + Sync>(
     stage: &Stage<'_, R>,
     words: &[String],
     ports: &mut Ports,
-    posts: &mut [Post<Visits>],
+    posts: &mut [RunPost<Visits, MemDisk>],
+    lines: &mut [RunLine<Wire, MemDisk>],
     disk: MemDisk,
 ) -> Done<MemDisk>
     ensures handed_back { IsSome result.disk }
@@ -99,6 +108,7 @@ fn done_of<R: Wait>(
             folder,
             disk,
             posts,
+            lines,
             clock,
         )
     } else {

@@ -1,6 +1,7 @@
 //! Where an answer differs from the one that is wanted.
 
 use crate::visited::Visited;
+use case_files::Call;
 use std::fmt;
 
 /// Writes the first line in which two outputs differ, and nothing if they are the same.
@@ -111,6 +112,46 @@ fn write_connections<W: fmt::Write>(
         }
     }
     Ok(())
+}
+
+/// Writes of each link whose calls differ from those that are wanted the first call that does, and nothing if they are the same.
+pub fn write_links<W: fmt::Write>(
+    wanted: &[Vec<Call>],
+    came: &[Vec<Call>],
+    f: &mut fmt::Formatter<W>,
+) -> fmt::Result {
+    let mut number: u64 = 0;
+    for (wanted, came) in wanted.iter().zip(came) {
+        number = number.saturating_add(1);
+        write_calls(number, wanted, came, f)?;
+    }
+    Ok(())
+}
+
+// Writes the first call of a link that differs.
+fn write_calls<W: fmt::Write>(
+    link: u64,
+    wanted: &[Call],
+    came: &[Call],
+    f: &mut fmt::Formatter<W>,
+) -> fmt::Result {
+    if wanted == came {
+        return Ok(());
+    }
+    let calls = wanted.iter().zip(came);
+    let same = calls.take_while(|(call, other)| call == other).count();
+    write!(f, "; link {link}, call {} wanted ", same.saturating_add(1))?;
+    write_call(wanted.get(same), f)?;
+    write!(f, ", came ")?;
+    write_call(came.get(same), f)
+}
+
+// Writes a call, or that there is none.
+fn write_call<W: fmt::Write>(call: Option<&Call>, f: &mut fmt::Formatter<W>) -> fmt::Result {
+    match call {
+        Some(call) => write!(f, "`{call}`"),
+        None => write!(f, "none"),
+    }
 }
 
 // How many lines two texts have in common, from the first on.

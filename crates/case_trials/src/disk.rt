@@ -12,13 +12,14 @@ use farm_disk::{Disk, Fill, MemDisk};
 use farm_ports::Folder;
 use std::alloc::Global;
 use std::sync::Wait;
+use std::thread::Threads;
 use toml::{Table, Value};
 
 // The words of the run that makes the journal of a site.
 const MAKING: &str = "words = ['init', '--site=s', '--journal=j']";
 
 /// The disk of a case, before the case runs.
-pub fn disk_of<R: Wait, F: Folder>(
+pub fn disk_of<R: Threads + Wait + Sync, F: Folder>(
     stage: &Stage<'_, R>,
     data: &mut F,
     case: &Case<'_>,
@@ -44,7 +45,7 @@ fn disk_with(alloc: Global, bytes: Vec<u8>, run: &Run<'_>) -> Result<MemDisk, Tr
 }
 
 // The disk before the runs: with the bytes that the case gives, or the journal of its site.
-fn first_disk<R: Wait, F: Folder>(
+fn first_disk<R: Threads + Wait + Sync, F: Folder>(
     stage: &Stage<'_, R>,
     data: &mut F,
     given: &CaseDisk<'_>,
@@ -58,7 +59,7 @@ fn first_disk<R: Wait, F: Folder>(
 }
 
 // A disk on which the journal of a site was made.
-fn journal_of<R: Wait, F: Folder>(
+fn journal_of<R: Threads + Wait + Sync, F: Folder>(
     stage: &Stage<'_, R>,
     data: &mut F,
     site: &str,
@@ -79,7 +80,7 @@ fn making_of<'a>(alloc: Global, table: &'a Table, site: &'a str) -> Result<Run<'
 }
 
 // The disk after runs on it, one after another.
-fn disk_after<R: Wait, F: Folder>(
+fn disk_after<R: Threads + Wait + Sync, F: Folder>(
     stage: &Stage<'_, R>,
     data: &mut F,
     runs: &[Value],
@@ -95,7 +96,7 @@ fn disk_after<R: Wait, F: Folder>(
 }
 
 // The disk after a run on it, which has to agree.
-fn disk_after_run<R: Wait, F: Folder>(
+fn disk_after_run<R: Threads + Wait + Sync, F: Folder>(
     stage: &Stage<'_, R>,
     data: &mut F,
     number: u64,

@@ -1,4 +1,4 @@
-//! Trials of cases: a case run over ports, a disk and listeners in memory, with what came of it beside what is wanted.
+//! Trials of cases: a case run over ports, a disk, listeners and links in memory, with what came of it beside what is wanted.
 //!
 //! A case is what `case_files` reads. Before it runs, its disk is made: the bytes or the journal that it gives, the runs before it,
 //! each of which has to agree, a crash and a cut. A trial that differs prints the first line and the first byte that do.
@@ -8,6 +8,7 @@ mod answer;
 mod difference;
 mod disk;
 mod fault;
+mod links;
 mod stage;
 mod trial;
 mod visited;

@@ -1,20 +1,23 @@
 //! Runs, with what came of them beside what is wanted.
 
 ghost use Rattle.std.specs.Prelude.{◌≡◌, ◌↔◌, IsTrue, map};
+ghost use Rattle.case_trials.specs.Calls.{taken};
 ghost use Rattle.case_trials.specs.Visits.{seen};
 
 use crate::answer::{Answer, Ended};
-use crate::difference::{write_disk, write_listeners, write_output};
+use crate::difference::{write_disk, write_links, write_listeners, write_output};
 use crate::disk::disk_of;
 use crate::fault::TrialFault;
+use crate::links::{lines_of, wanted_calls};
 use crate::stage::Stage;
 use crate::visited::{Visited, posts_of, wanted_visited};
-use case_files::{Case, Changes, Run, Text, folder_of, given_bytes, ports_of};
+use case_files::{Call, Case, Changes, Run, Text, folder_of, given_bytes, ports_of};
 use farm_disk::MemDisk;
 use farm_ports::Folder;
 use std::alloc::Global;
 use std::fmt;
 use std::sync::Wait;
+use std::thread::Threads;
 
 /// A run: the answer that is wanted and the one that came.
 #[derive(Debug, Drop)]
@@ -27,7 +30,7 @@ pub struct Trial {
 
 impl Trial {
     /// Runs a case.
-    pub fn of_case<R: Wait, F: Folder>(
+    pub fn of_case<R: Threads + Wait + Sync, F: Folder>(
         stage: &Stage<'_, R>,
         data: &mut F,
         case: &Case<'_>,
@@ -38,7 +41,7 @@ impl Trial {
     }
 
     /// The disk that a run on a disk before a case leaves. It is refused by its number if it differs.
-    pub fn disk_after<R: Wait, F: Folder>(
+    pub fn disk_after<R: Threads + Wait + Sync, F: Folder>(
         stage: &Stage<'_, R>,
         data: &mut F,
         number: u64,
@@ -63,16 +66,19 @@ impl Trial {
         }
     }
 
-    /// Whether what came is what is wanted: the same status, the same output, the same disk and the same of each listener.
+    /// Whether what came is what is wanted: the same status, the same output, the same disk and the same of each listener
+    /// and each link.
     pub fn agrees(&self) -> bool
         ensures agrees { IsTrue result ↔ ((self.now.came.status ≡ self.now.wanted.status) × (self.now.came.output.items ≡ self.now.wanted.output.items)
             × (self.now.came.disk.items ≡ self.now.wanted.disk.items)
-            × (map seen self.now.came.listeners.items ≡ map seen self.now.wanted.listeners.items)) }
+            × (map seen self.now.came.listeners.items ≡ map seen self.now.wanted.listeners.items)
+            × (map taken self.now.came.links.items ≡ map taken self.now.wanted.links.items)) }
     {
         self.came.status == self.wanted.status
             && self.came.output == self.wanted.output
             && self.came.disk == self.wanted.disk
             && same_visits(&self.came.listeners, &self.wanted.listeners)
+            && same_calls(&self.came.links, &self.wanted.links)
     }
 }
 
@@ -82,13 +88,21 @@ impl fmt::Display for Trial {
         write!(f, "wanted status {}, came {}", wanted.status, came.status)?;
         write_output(&wanted.output, &came.output, f)?;
         write_disk(&wanted.disk, &came.disk, f)?;
-        write_listeners(&wanted.listeners, &came.listeners, f)
+        write_listeners(&wanted.listeners, &came.listeners, f)?;
+        write_links(&wanted.links, &came.links, f)
     }
 }
 
 // Whether listeners have the same.
 fn same_visits(came: &[Visited], wanted: &[Visited]) -> bool
     ensures same { IsTrue result ↔ (map seen came.now ≡ map seen wanted.now) }
+{
+    came == wanted
+}
+
+// Whether links took the same calls.
+fn same_calls(came: &[Vec<Call>], wanted: &[Vec<Call>]) -> bool
+    ensures same { IsTrue result ↔ (map taken came.now ≡ map taken wanted.now) }
 {
     came == wanted
 }
@@ -106,11 +120,12 @@ fn wanted_of<F: Folder>(
         output,
         disk: given_bytes(alloc, data, after)?,
         listeners: wanted_visited(alloc, data, run.listeners)?,
+        links: wanted_calls(alloc, run.links)?,
     })
 }
 
 // What comes of a case.
-fn came_of<R: Wait, F: Folder>(
+fn came_of<R: Threads + Wait + Sync, F: Folder>(
     stage: &Stage<'_, R>,
     data: &mut F,
     case: &Case<'_>,
@@ -124,7 +139,7 @@ fn came_of<R: Wait, F: Folder>(
 }
 
 // What a run over a disk ends with.
-fn ended_over<R: Wait, F: Folder>(
+fn ended_over<R: Threads + Wait + Sync, F: Folder>(
     stage: &Stage<'_, R>,
     data: &mut F,
     run: &Run<'_>,
@@ -135,5 +150,6 @@ fn ended_over<R: Wait, F: Folder>(
     let folder = folder_of(stage.alloc, data, stage.sites, run, changes)?;
     let ports = ports_of(stage.alloc, data, run, piece_bytes, folder)?;
     let posts = posts_of(stage.alloc, data, run.listeners)?;
-    Ended::of(stage, run, ports, posts, disk)
+    let lines = lines_of(stage.alloc, run.links)?;
+    Ended::of(stage, run, ports, posts, lines, disk)
 }

@@ -1,8 +1,10 @@
 //! What the listeners of a run have after it, or are wanted to have.
 
 use case_files::{CaseFault, RunListener, listeners_of, numbers_of, written_of};
+use farm_disk::MemDisk;
 use farm_listeners::{Talk, Visits};
 use farm_ports::Folder;
+use farm_run::RunPost;
 use farm_serve::Post;
 use std::alloc::Global;
 use toml::Value;
@@ -21,7 +23,7 @@ pub fn posts_of<F: Folder>(
     alloc: Global,
     data: &mut F,
     listeners: &[Value],
-) -> Result<Vec<Post<Visits>>, CaseFault> {
+) -> Result<Vec<RunPost<Visits, MemDisk>>, CaseFault> {
     let mut posts = Vec::new(alloc);
     for visits in listeners_of(alloc, data, listeners)? {
         posts.push(Post::new(visits))?;
@@ -50,7 +52,7 @@ pub fn wanted_visited<F: Folder>(
 /// What the listeners of posts have.
 pub fn all_visited(
     alloc: Global,
-    posts: &[Post<Visits>],
+    posts: &[RunPost<Visits, MemDisk>],
     listeners: &[Value],
 ) -> Result<Vec<Visited>, CaseFault> {
     let mut all = Vec::new(alloc);

@@ -1,5 +1,5 @@
 -- The command of arguments, and what they name, by their form.
-use Rattle.std.proofs.Common.{◌≡◌, ◌≢◌, ℕ, ◌≤◌, List, [], ◌∷◌, Bool, true, false, cond, length, map, IfSome, Option, Some, None, codes, refl, sym, ap, subst, ◌∙◌, arith, ◌⊎◌, inl, inr}
+use Rattle.std.proofs.Common.{◌≡◌, ◌≢◌, ℕ, List, [], ◌∷◌, Bool, true, false, cond, length, map, IfSome, Option, Some, None, codes, refl, sym, ap, subst, ◌∙◌, arith, ◌⊎◌, inl, inr}
 use Rattle.std.specs.List.{All, flat_map}
 use Rattle.std.specs.Option.{option_map}
 use Rattle.std.specs.Str.{bytes_eq}
@@ -10,7 +10,7 @@ use Rattle.command_line.specs.declared.commands.Subcommand.{Subcommand}
 use Rattle.command_line.specs.declared.commands.Subcommand.TheVariants.{Batch, Calc, Init, Serve, Table}
 use Rattle.command_line.specs.declared.serve.ServeOptions.{ServeOptions}
 use Rattle.command_line.specs.Commands.{asks_to_serve, command_named, command_of, file_of, folder_of, is_serve, journal_file, option_names, site_folder, value_of, with_options}
-use Rattle.command_line.specs.Forms.{AreOptions, IsForm, Written, command_name, spelling, value_among}
+use Rattle.command_line.specs.Forms.{AreOptions, AreServeNumbers, IsForm, Written, command_name, spelling, value_among}
 use Rattle.command_line.specs.Options.{are_options, is_number, value_in, words_taken}
 use Rattle.command_line.specs.Serve.{serve_options}
 use Rattle.command_line.proofs.Forms.{AreNames, form_of, names_moved}
@@ -184,6 +184,8 @@ serve_of_result words (Some command) is =
     let form = form_from_command command words (sym is) in
     serve_is command ∙ ap asks_to_serve (sym form.1.spelled)
 
--- the port of `serve` isn't 0
-pub port_of_result : (words : List (List ℕ)) (options : ServeOptions) → Some (Serve options) ≡ command_of words → 1 ≤ options.port
-port_of_result words options is = (form_from_command (Serve options) words (sym is)).1.numbers.port.not_less
+-- the numbers of `serve` are those of a form
+pub numbers_of_result : (words : List (List ℕ)) (serve : ServeOptions) → Some (Serve serve) ≡ command_of words → (options : List Written) × AreServeNumbers serve options
+numbers_of_result words serve is =
+    let form = form_from_command (Serve serve) words (sym is) in
+    (form.0, form.1.numbers)

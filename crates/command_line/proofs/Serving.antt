@@ -1,6 +1,7 @@
 -- The numbers that a command has among words are those of its form.
-use Rattle.std.proofs.Common.{◌≡◌, ℕ, List, true, Some, codes, refl, sym, ap, subst, ◌∙◌}
+use Rattle.std.proofs.Common.{◌≡◌, ℕ, ◌+◌, ◌≤◌, Bool, true, false, if◌then◌else◌, List, leb, Some, None, codes, refl, sym, ap, subst, ◌∙◌}
 use Rattle.std.proofs.lemmas.Option.{option_and_then_some}
+use Rattle.farm_base.proofs.BoolTests.{le-leb, leb-true}
 use Rattle.command_line.specs.declared.commands.Subcommand.{Subcommand}
 use Rattle.command_line.specs.declared.serve.ServeOptions.{ServeOptions}
 use Rattle.command_line.specs.declared.commands.Subcommand.TheVariants.{Batch, Calc, Init, Serve, Table}
@@ -9,7 +10,7 @@ use Rattle.command_line.specs.Forms.{AreNumbers, AreServeNumbers, Written, value
 use Rattle.command_line.specs.Limits.{greatest_port, least_port, least_workers, most_rounds, most_workers}
 use Rattle.command_line.specs.Numbers.{number_between, number_in}
 use Rattle.command_line.specs.Options.{value_in}
-use Rattle.command_line.specs.Serve.{serve_options}
+use Rattle.command_line.specs.Serve.{serve_options, with_ports}
 use Rattle.command_line.proofs.Names.{is_one}
 use Rattle.command_line.proofs.Parsing.{between_is, is_number}
 
@@ -26,20 +27,32 @@ record HaveServeNumbers (words : List (List ℕ)) (serve : ServeOptions) : Type 
   port : number_in (codes "port") least_port greatest_port words ≡ Some serve.port
   workers : number_in (codes "workers") least_workers most_workers words ≡ Some serve.workers
   rounds : number_in (codes "rounds") 0 most_rounds words ≡ Some serve.rounds
+  ports : serve.port + serve.workers ≤ greatest_port + 1
 
--- the options of `serve` are those three numbers
+-- options that are given as they are have a port for each post
+all_have_ports : (options serve : ServeOptions) → with_ports options ≡ Some serve → (options ≡ serve) × (options.port + options.workers ≤ greatest_port + 1)
+all_have_ports options serve is = by (leb (options.port + options.workers) (greatest_port + 1)) refl is
+  where
+    by : (b : Bool) → leb (options.port + options.workers) (greatest_port + 1) ≡ b → (if b then Some options else None) ≡ Some serve →
+        (options ≡ serve) × (options.port + options.workers ≤ greatest_port + 1)
+    by false test e = absurd (cc)
+    by true test e = (cc, leb-true (options.port + options.workers) (greatest_port + 1) test)
+
+-- the options of `serve` are those three numbers, and each post has a port
 have_numbers : (words : List (List ℕ)) (serve : ServeOptions) → serve_options words ≡ Some serve → HaveServeNumbers words serve
 unfolding serve_options
 have_numbers words serve is =
-    option_and_then_some _ (number_in (codes "port") least_port greatest_port words) serve is (λ port port_is then.
-    option_and_then_some _ (number_in (codes "workers") least_workers most_workers words) serve then (λ workers workers_is last.
+    option_and_then_some _ (number_in (codes "port") least_port greatest_port words) serve is (λ port port_is further.
+    option_and_then_some _ (number_in (codes "workers") least_workers most_workers words) serve further (λ workers workers_is last.
     option_and_then_some _ (number_in (codes "rounds") 0 most_rounds words) serve last (λ rounds rounds_is whole.
-    let same : record { port = port; workers = workers; rounds = rounds } ≡ serve = cc in
-    subst (HaveServeNumbers words) same (record { port = port_is; workers = workers_is; rounds = rounds_is }))))
+    let kept = all_have_ports (record { port = port; workers = workers; rounds = rounds }) serve whole in
+    subst (HaveServeNumbers words) kept.0 (record { port = port_is; workers = workers_is; rounds = rounds_is; ports = kept.1 }))))
 
 options_from : (words : List (List ℕ)) (serve : ServeOptions) → HaveServeNumbers words serve → serve_options words ≡ Some serve
 unfolding serve_options
-options_from words serve has = rw has.port (rw has.workers (rw has.rounds refl))
+options_from words serve has =
+    let test : leb (serve.port + serve.workers) (greatest_port + 1) ≡ true = le-leb (serve.port + serve.workers) (greatest_port + 1) has.ports in
+    rw has.port (rw has.workers (rw has.rounds (rw test refl)))
 
 -- those that words have are those of the form, and the other way
 serve_numbers_written : (words : List (List ℕ)) (options : List Written) (serve : ServeOptions) →
@@ -54,6 +67,7 @@ serve_numbers_written words options serve values is =
           (ap (number_between least_workers most_workers) (sym (values (codes "workers") refl)) ∙ has.workers);
       rounds = between_is 0 most_rounds (value_among (codes "rounds") options) serve.rounds
           (ap (number_between 0 most_rounds) (sym (values (codes "rounds") refl)) ∙ has.rounds);
+      ports = has.ports;
     }
 
 serve_numbers_found : (words : List (List ℕ)) (options : List Written) (serve : ServeOptions) →
@@ -66,6 +80,7 @@ serve_numbers_found words options serve values are = options_from words serve (r
       ∙ is_number least_workers most_workers (value_among (codes "workers") options) serve.workers are.workers;
   rounds = ap (number_between 0 most_rounds) (values (codes "rounds") refl)
       ∙ is_number 0 most_rounds (value_among (codes "rounds") options) serve.rounds are.rounds;
+  ports = are.ports;
 })
 
 -- words have the numbers of a command

@@ -1,5 +1,5 @@
 -- The form of arguments: the name of a command, and after it each of its options once, in any order, with its numbers.
-use Rattle.std.specs.Prelude.{◌≡◌, ◌≢◌, ℕ, Bool, if◌then◌else◌, List, [], ◌∷◌, ◌++◌, codes, map, IsPermutation}
+use Rattle.std.specs.Prelude.{◌≡◌, ◌≢◌, ℕ, ◌+◌, ◌≤◌, Bool, if◌then◌else◌, List, [], ◌∷◌, ◌++◌, codes, map, IsPermutation}
 use Rattle.std.specs.List.{All, flat_map}
 use Rattle.std.specs.Str.{bytes_eq}
 use Rattle.command_line.specs.Commands.{option_names}
@@ -44,11 +44,12 @@ abbrev pub value_among : List ℕ → List Written → List ℕ
 value_among name [] = []
 value_among name (option ∷ options) = if bytes_eq option.name name then option.value else value_among name options
 
--- the numbers of `serve` are those of the options that have their names
+-- the numbers of `serve` are those of the options that have their names, and its last post has a port
 pub record AreServeNumbers (serve : ServeOptions) (options : List Written) : Type 0 where
   pub port : IsNumberBetween least_port greatest_port (value_among (codes "port") options) serve.port
   pub workers : IsNumberBetween least_workers most_workers (value_among (codes "workers") options) serve.workers
   pub rounds : IsNumberBetween 0 most_rounds (value_among (codes "rounds") options) serve.rounds
+  pub ports : serve.port + serve.workers ≤ greatest_port + 1
 
 -- the numbers of a command are those of the options that have their names; only `serve` has numbers
 abbrev pub AreNumbers : Subcommand → List Written → Type 0

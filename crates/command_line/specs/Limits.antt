@@ -19,8 +19,8 @@ least_workers = 1
 
 -- the greatest number of workers
 abbrev pub most_workers : ℕ
-most_workers = 1
+most_workers = 8
 
 -- the greatest number of rounds
 abbrev pub most_rounds : ℕ
-most_rounds = 0
+most_rounds = 100000000

@@ -1,6 +1,6 @@
 //! The arguments as a command.
 
-ghost use Rattle.std.specs.Prelude.{◌≡◌, ◌≤◌, List, Some, IfSome, length, map, string_bytes};
+ghost use Rattle.std.specs.Prelude.{◌≡◌, ◌+◌, ◌≤◌, List, Some, IfSome, length, map, string_bytes};
 ghost use Rattle.command_line.specs.Commands.{asks_to_serve, command_named, command_of, is_serve, option_names};
 ghost use Rattle.command_line.specs.Forms.{IsForm, Written};
 ghost use Rattle.command_line.specs.declared.commands.Subcommand.{Subcommand};
@@ -33,6 +33,9 @@ impl Subcommand {
         ensures form { IfSome result (λ command. (options : List Written) × IsForm command options (map string_bytes words.now)) }
         ensures every_form { (command : Subcommand) (options : List Written) → IsForm command options (map string_bytes words.now) → result ≡ Some command }
         ensures port { (options : ServeOptions) → result ≡ Some (Serve options) → 1 ≤ options.port }
+        ensures ports { (options : ServeOptions) → result ≡ Some (Serve options) → options.port + options.workers ≤ 65536 }
+        ensures workers { (options : ServeOptions) → result ≡ Some (Serve options) → (1 ≤ options.workers) × (options.workers ≤ 8) }
+        ensures rounds { (options : ServeOptions) → result ≡ Some (Serve options) → options.rounds ≤ 100000000 }
         ensures serve { IfSome result (λ command. is_serve command ≡ asks_to_serve (map string_bytes words.now)) }
     {
         let [word, options @ ..] = words else {

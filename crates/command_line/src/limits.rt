@@ -13,7 +13,7 @@ pub const GREATEST_PORT: u64 = 65_535;
 pub const LEAST_WORKERS: u64 = 1;
 
 /// The greatest number of workers.
-pub const MOST_WORKERS: u64 = 1;
+pub const MOST_WORKERS: u64 = 8;
 
 /// The greatest number of rounds.
-pub const MOST_ROUNDS: u64 = 0;
+pub const MOST_ROUNDS: u64 = 100_000_000;

@@ -12,13 +12,19 @@ ghost use Rattle.command_line.specs.declared.serve.ServeOptions.{ServeOptions};
 use command_line::places;
 use farm_disk::FileDisk;
 use farm_listeners::TcpPost;
-use farm_ports::{DirFolder, StdSink, StdSource, SystemClock};
+use farm_ports::{DirFolder, StdSink, StdSource, SystemClock, TcpLink};
 use farm_run::{report_no_memory, run};
 use farm_serve::Post;
 use std::process::ExitCode;
 use std::rt::Env;
 use std::sync::Wait;
-use std::{env, io};
+use std::thread::Threads;
+use std::{array, env, io};
+
+// The most desk posts and gauge lines of a run.
+const MOST_WORKERS: usize = 8;
+
+const MOST_LINES: usize = 16;
 
 // The arguments: the words after the program's name.
 fn arguments(rt: &(impl Env + AllocGlobal)) -> io::Result<Vec<String>> {
@@ -26,8 +32,8 @@ fn arguments(rt: &(impl Env + AllocGlobal)) -> io::Result<Vec<String>> {
 }
 
 // Runs the arguments over the real ports and the real disk, and answers a status of their command. A folder or a file that they don't
-// name is opened by no command, and a port by `serve` alone, which may wait.
-fn run_arguments<W: Wait>(rt: &HostRuntime, waiting: &W, words: &[String]) -> u8
+// name is opened by no command, and a port or a link by `serve` alone, which may wait.
+fn run_arguments<W: Threads + Wait + Sync>(rt: &HostRuntime, waiting: &W, words: &[String]) -> u8
     ensures calc { command_of (map string_bytes words.now) ≡ Some Calc → (result ≡ 0) ⊎ (result ≡ 4) ⊎ (result ≡ 6) ⊎ (result ≡ 7) }
     ensures table { command_of (map string_bytes words.now) ≡ Some Table → (result ≡ 0) ⊎ (result ≡ 2) ⊎ (result ≡ 6) ⊎ (result ≡ 7) }
     ensures init { command_of (map string_bytes words.now) ≡ Some Init →
@@ -44,7 +50,8 @@ fn run_arguments<W: Wait>(rt: &HostRuntime, waiting: &W, words: &[String]) -> u8
         return report_no_memory(&mut output);
     };
     let clock = SystemClock::new(rt);
-    let mut desks = [Post::new(TcpPost::new(rt))];
+    let mut desks = desk_posts(rt);
+    let mut links = gauge_lines(rt);
     run(
         waiting,
         rt.alloc(),
@@ -54,9 +61,20 @@ fn run_arguments<W: Wait>(rt: &HostRuntime, waiting: &W, words: &[String]) -> u8
         &mut folder,
         disk,
         &mut desks,
+        &mut links,
         &clock,
     )
     .status
+}
+
+// The desk posts that a run may have, each over a port of the system.
+fn desk_posts<W, C>(rt: &HostRuntime) -> [Post<TcpPost<&HostRuntime>, W, C>; MOST_WORKERS] {
+    array::from_fn(|_| Post::new(TcpPost::new(rt)))
+}
+
+// The gauge lines that a site may have, each over the system's network.
+fn gauge_lines<W, C>(rt: &HostRuntime) -> [Post<TcpLink<&HostRuntime>, W, C>; MOST_LINES] {
+    array::from_fn(|_| Post::new(TcpLink::new(rt)))
 }
 
 // The folder and the disk that the arguments name, each of an empty path if they name none. `None` is out of memory alone.

@@ -1,8 +1,8 @@
-//! Runs the cases of a folder through the program's runs, over ports and listeners in memory, and prints how many each file has.
+//! Runs the cases of a folder through the program's runs, over ports, listeners and links in memory, and prints how many each file has.
 //!
-//! A case is a table of a TOML file: a name, the words, the input, the files of the folder, who comes to a listener, the calls that
-//! fail, and the status and the output that are wanted. A case that differs is printed with what was wanted and what came. README.md
-//! says how to read and add one.
+//! A case is a table of a TOML file: a name, the words, the input, the files of the folder, who comes to a listener, what a link answers,
+//! the calls that fail, and the status and the output that are wanted. A case that differs is printed with what was wanted and what came.
+//! README.md says how to read and add one.
 #![tactic(auto)]
 
 mod row;
@@ -14,6 +14,7 @@ use farm_ports::{DirFolder, Folder};
 use std::alloc::Global;
 use std::rt::Env;
 use std::sync::Wait;
+use std::thread::Threads;
 use std::{env, io};
 use toml::{Table, Value};
 
@@ -36,7 +37,7 @@ fn main(rt: HostRuntime) -> anyhow::Result<()> {
 }
 
 // Runs the files that words name, or all that are listed if there are none.
-fn run_words<R: Wait + Print, F: Folder>(
+fn run_words<R: Threads + Wait + Print + Sync, F: Folder>(
     stage: &Stage<'_, R>,
     data: &mut F,
     words: Option<&[String]>,
@@ -50,7 +51,7 @@ fn run_words<R: Wait + Print, F: Folder>(
 }
 
 // Runs all files that are listed, and compares the site of the worked rows.
-fn run_listed<R: Wait + Print, F: Folder>(
+fn run_listed<R: Threads + Wait + Print + Sync, F: Folder>(
     stage: &Stage<'_, R>,
     data: &mut F,
     listed: &[Value],
@@ -67,7 +68,7 @@ fn arguments(rt: &(impl Env + AllocGlobal)) -> io::Result<Vec<String>> {
 }
 
 // Runs files of cases one after another.
-fn run_files<R: Wait + Print, F: Folder>(
+fn run_files<R: Threads + Wait + Print + Sync, F: Folder>(
     stage: &Stage<'_, R>,
     data: &mut F,
     names: &[String],
@@ -79,7 +80,7 @@ fn run_files<R: Wait + Print, F: Folder>(
 }
 
 // Runs the cases of a file one after another, and prints their number.
-fn run_file<R: Wait + Print, F: Folder>(
+fn run_file<R: Threads + Wait + Print + Sync, F: Folder>(
     stage: &Stage<'_, R>,
     data: &mut F,
     name: &str,
@@ -91,7 +92,7 @@ fn run_file<R: Wait + Print, F: Folder>(
 }
 
 // Runs the cases of the table that a file is.
-fn run_table<R: Wait + Print, F: Folder>(
+fn run_table<R: Threads + Wait + Print + Sync, F: Folder>(
     stage: &Stage<'_, R>,
     data: &mut F,
     name: &str,
@@ -109,7 +110,7 @@ fn cases_of(alloc: Global, table: &Table) -> Result<&[Value], CaseFault> {
 }
 
 // Runs the cases of a file, and prints each that differs, and then how many there are.
-fn run_cases<R: Wait + Print, F: Folder>(
+fn run_cases<R: Threads + Wait + Print + Sync, F: Folder>(
     stage: &Stage<'_, R>,
     data: &mut F,
     name: &str,
@@ -131,7 +132,7 @@ fn run_cases<R: Wait + Print, F: Folder>(
 }
 
 // Runs a case, prints it if it differs or can't be run, and says whether it agrees.
-fn run_case<R: Wait + Print, F: Folder>(
+fn run_case<R: Threads + Wait + Print + Sync, F: Folder>(
     stage: &Stage<'_, R>,
     data: &mut F,
     file: &str,
@@ -146,7 +147,7 @@ fn run_case<R: Wait + Print, F: Folder>(
 }
 
 // Runs a case that has its form, prints it if it differs or can't be run, and says whether it agrees.
-fn run_trial<R: Wait + Print, F: Folder>(
+fn run_trial<R: Threads + Wait + Print + Sync, F: Folder>(
     stage: &Stage<'_, R>,
     data: &mut F,
     file: &str,

@@ -41,14 +41,14 @@ uses_disk (Some Table) = false
 uses_disk (Some Batch) = true
 uses_disk (Some (Serve options)) = true
 
--- whether a command makes calls on a listener
-abbrev pub uses_listeners : Option Subcommand → Bool
-uses_listeners None = false
-uses_listeners (Some Calc) = false
-uses_listeners (Some Init) = false
-uses_listeners (Some Table) = false
-uses_listeners (Some Batch) = false
-uses_listeners (Some (Serve options)) = true
+-- whether a command makes calls on listeners and links
+abbrev pub uses_posts : Option Subcommand → Bool
+uses_posts None = false
+uses_posts (Some Calc) = false
+uses_posts (Some Init) = false
+uses_posts (Some Table) = false
+uses_posts (Some Batch) = false
+uses_posts (Some (Serve options)) = true
 
 -- what was left of an input as the run began, if it is still known at the end
 abbrev pub given : Option Stream → Option Stream → Option (List ℕ)

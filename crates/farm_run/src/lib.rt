@@ -15,3 +15,4 @@ mod texts;
 pub use alone::run_alone;
 pub use program::run;
 pub use run_reports::{BOOK_LIMIT, Done, defined_numbers, report_no_memory};
+pub use serve_run::{RunLine, RunPost};

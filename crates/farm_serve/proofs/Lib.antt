@@ -1,8 +1,9 @@
--- The lemmas of `farm_serve`, by subject.
-pub mod Raising
-pub mod Lists
-pub mod Sizes
-pub mod Growing
-pub mod Turns
-pub mod Callers
-pub mod Serves
+-- The lemmas of `farm_serve`, by topic.
+pub mod Idle
+pub mod Giving
+pub mod Taking
+pub mod Running
+pub mod Ran
+pub mod Standing
+pub mod Closed
+pub mod Crossing

@@ -1,3 +1,6 @@
 -- The definitions of `farm_serve`, by subject.
-pub mod Posts
-pub mod Serving
+pub mod Callers
+pub mod Running
+pub mod Sides
+pub mod Sharing
+pub mod Ends

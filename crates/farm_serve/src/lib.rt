@@ -1,13 +1,24 @@
-//! A desk that is served: a post answers who connects, as the only caller of the desk, until it ends.
+//! Many posts: one desk that desk posts and gauge lines serve side by side, each as a caller of its own.
 //!
-//! Callers hand in posts, each over an object of the outside, and get the desk back. docs/machine.md says when a post ends, under "Desk
-//! posts".
+//! Callers hand in posts, each over an object of the outside, and get the desk back. docs/machine.md says what all posts together did, under
+//! "Many posts".
 #![tactic(auto)]
 
+mod all_posts;
+mod callers;
+mod closing;
+mod collecting;
+mod desk_side;
+mod ends;
+mod line_side;
+mod lines;
 mod post;
-mod served;
+mod rooms;
 mod serving;
+mod side_by_side;
 
-pub use post::Post;
-pub use served::Served;
+pub use desk_side::DeskPost;
+pub use ends::any_failed;
+pub use line_side::LinePost;
+pub use post::{Caller, DeskCaller, DeskPass, Post};
 pub use serving::serve;

@@ -1,31 +1,51 @@
 //! A post.
 
-ghost use Rattle.std.specs.Prelude.{◌≡◌};
+ghost use Rattle.std.specs.Prelude.{◌≡◌, None};
 
-use std::marker::Model;
+use boxed_disk::BoxedDisk;
+use desk_posts::PostEnd;
+use farm_desk::Found;
+use farm_history::Entry;
+use farm_turn::Pass;
 
-/// A post, which works with an object of the outside: a desk post with a listener.
-///
-/// Contracts see the object alone.
+/// A caller of a desk that is shared by turns: its pass, and its number.
 #[derive(Drop)]
-pub struct Post<X> {
+pub struct Caller<P> {
+    pub(crate) pass: P,
+    pub(crate) number: u32,
+}
+
+/// A pass of a desk on a boxed disk.
+pub type DeskPass<D, const LIMIT: usize> = Pass<Entry, Found<BoxedDisk<D>, LIMIT>>;
+
+/// A caller of a desk on a boxed disk.
+pub type DeskCaller<D, const LIMIT: usize> = Caller<DeskPass<D, LIMIT>>;
+
+/// A post, which works with an object of the outside: a desk post with a listener, a line with a link.
+///
+/// While a desk is served it has what it works with beside, and its caller; afterwards a desk post has how it ended.
+#[derive(Drop)]
+pub struct Post<X, W, C> {
     pub(crate) outside: X,
+    pub(crate) work: Option<W>,
+    pub(crate) end: Option<PostEnd>,
+    pub(crate) caller: Option<C>,
 }
 
-impl<X> Model for Post<X> {
-    ghost use Rattle.farm_serve.specs.Posts.{PostState};
-
-    ghost Value = { PostState X };
-
-    ghost view = { λ post. record { outside = post.outside } };
-}
-
-impl<X> Post<X> {
+impl<X, W, C> Post<X, W, C> {
     /// A post over this object. Takes no memory.
     pub fn new(outside: X) -> Self
         ensures outside { result.outside ≡ outside }
+        ensures no_work { result.work ≡ None }
+        ensures no_end { result.end ≡ None }
+        ensures no_caller { result.caller ≡ None }
     {
-        Post { outside }
+        Post {
+            outside,
+            work: None,
+            end: None,
+            caller: None,
+        }
     }
 
     /// The object.
@@ -33,5 +53,12 @@ impl<X> Post<X> {
         ensures outside { result.now ≡ self.now.outside }
     {
         &self.outside
+    }
+
+    /// How a desk post ended. `None` if it didn't run.
+    pub fn end(&self) -> Option<PostEnd>
+        ensures end { result ≡ self.now.end }
+    {
+        self.end
     }
 }

@@ -1,77 +1,121 @@
-//! Serving a desk.
+//! A desk that many posts serve.
 
-ghost use Rattle.std.specs.Prelude.{◌≡◌, ◌+◌, ◌≤◌, length, IfErr, IfOk, OnErr, Some};
-ghost use Rattle.farm_desk.specs.States.{IsJustMade};
+ghost use Rattle.std.specs.Prelude.{◌≡◌, ◌+◌, ◌≤◌, [], length, vec_capacity, IfErr, IfOk, IsSome, OnErr};
+ghost use Rattle.farm_desk.specs.States.{IsDurable, IsJustMade};
 ghost use Rattle.farm_history.specs.History.{last_place};
-ghost use Rattle.farm_history.specs.Verdicts.{IsLegal};
-ghost use Rattle.farm_serve.specs.Serving.{ServesDesk};
+ghost use Rattle.line_posts.specs.Limits.{most_rounds};
+ghost use Rattle.farm_serve.specs.Callers.{HaveWork, IsOpened, outsides_of};
+ghost use Rattle.farm_serve.specs.Running.{HasLine};
+ghost use Rattle.farm_serve.specs.Sharing.{ServesAll, ServesFrom};
 
-use crate::{Post, Served};
-use desk_access::SoleAccess;
-use desk_posts::{PostEnd, PostRoom, run_post};
+use crate::all_posts::run_all;
+use crate::callers::give_callers;
+use crate::closing::close_posts;
+use crate::desk_side::DeskPost;
+use crate::line_side::LinePost;
+use crate::lines::{lines_of, make_lines};
+use crate::post::DeskPass;
+use crate::rooms::make_rooms;
+use boxed_disk::BoxedDisk;
 use farm_desk::Desk;
 use farm_disk::Disk;
 use farm_listeners::Listener;
-use farm_ports::Clock;
+use farm_ports::{Clock, Link};
+use farm_turn::Turn;
 use std::alloc::Global;
 use std::sync::Wait;
+use std::thread::Threads;
 
-// The number of the only caller.
-const SOLE_CALLER: u32 = 0;
-
-/// Serves a desk that was just made or recovered: the first of the posts, if there is one, answers who connects to this port, as caller 0,
-/// and no other does anything.
+/// Serves a desk that was just made or recovered: desk posts answer who connects, and gauge lines of its site are polled, side by side, each
+/// as a caller of its own.
 ///
-/// It ends as soon as the post has seen a Stop that was entered since, its listener answers that no more connections will come, or a call on
-/// its listener fails. It may wait, and need not return. Without memory for a connection's bytes and the routes it refuses before the first
-/// call on a listener, and hands the desk back as it was; that is the only refusal.
-pub fn serve<R: Wait, D: Disk, L: Listener, C: Clock, const LIMIT: usize>(
+/// Desk posts have ports from this one on, and gauge lines are those of the site, from the first one on. Callers are numbered from 0, first
+/// the desk posts and then the lines, each in their order. A desk post ends as soon as it has seen a Stop of any caller that was entered
+/// since, its listener answers that no more connections will come, or a call on its listener fails; a line ends after these rounds, or after
+/// the first round with such a Stop. It may wait, and need not return. If the machine gives no thread for a post, it runs after another.
+/// Without memory for what posts work with it refuses before the first call on a listener or a link, and hands the desk back as it was; that
+/// is the only refusal.
+pub fn serve<
+    R: Threads + Wait + Sync,
+    D: Disk + Send + Drop,
+    L: Listener<Conn: Send> + Send + Drop,
+    M: Link + Send + Drop,
+    C: Clock + Sync,
+    const LIMIT: usize,
+>(
     rt: &R,
     alloc: Global,
-    desk: Desk<D, LIMIT>,
-    desks: &mut [Post<L>],
+    desk: Desk<BoxedDisk<D>, LIMIT>,
+    desks: &mut [DeskPost<L, D, LIMIT>],
+    lines: &mut [LinePost<M, D, LIMIT>],
     clock: &C,
     port: u16,
-) -> Result<Served<D, LIMIT>, Option<Desk<D, LIMIT>>>
-    requires just_made { IsJustMade D.moment D.faults desk (last_place desk.history) }
-    requires port { 1 ≤ port }
+    rounds: u32,
+) -> Result<Desk<BoxedDisk<D>, LIMIT>, Desk<BoxedDisk<D>, LIMIT>>
+    requires just_made { IsJustMade (λ boxed. D.moment boxed.disk.value) (λ boxed. D.faults boxed.disk.value) desk (last_place desk.history) }
     requires ports { port + length desks.old ≤ 65536 }
-    ensures served { IfOk result (λ served. ServesDesk D.trace D.moment D.faults L.events L.faults (C.may_give clock.now) LIMIT port desks.old desks.new
-        desk served.desk served.listener_failed) }
-    ensures refused { IfErr result (λ left. left ≡ Some desk) }
-    ensures desks_kept { OnErr result (desks.new ≡ desks.old) }
+    requires lines { length lines.old ≤ length desk.history.site.lines }
+    requires rounds { rounds ≤ most_rounds }
+    ensures served { IfOk result (λ left. ServesAll L.events L.faults M.calls M.faults (C.may_give clock.now) LIMIT port rounds desk left desks.old desks.new lines.old lines.new) }
+    ensures durable { IfOk result (λ left. IsDurable (λ boxed. D.trace boxed.disk.value) (λ boxed. D.moment boxed.disk.value) (λ boxed. D.faults boxed.disk.value) LIMIT left) }
+    ensures refused { IfErr result (λ left. left ≡ desk) }
+    ensures desks_kept { OnErr result (outsides_of desks.new ≡ outsides_of desks.old) }
+    ensures lines_kept { OnErr result (outsides_of lines.new ≡ outsides_of lines.old) }
 {
-    let Some(post) = desks.first_mut() else {
-        return Ok(served(desk, false));
+    if make_rooms(alloc, desks).is_err() {
+        return Err(desk);
+    }
+    if make_lines(alloc, lines, lines_of(&desk)).is_err() {
+        return Err(desk);
+    }
+    let Ok(passes) = Vec::with_capacity(alloc, desks.len() + lines.len() + 1) else {
+        return Err(desk);
     };
-    let Ok(mut room) = PostRoom::new(alloc) else {
-        return Err(Some(desk));
+    let opened = desk.book().entries().len() as u32;
+    let (turn, left) = match Turn::new(alloc, desk) {
+        Ok(opened) => opened,
+        Err((desk, _)) => return Err(desk),
     };
-    let mut access = SoleAccess::new(desk, SOLE_CALLER);
-    let end = run_post(
-        rt,
-        alloc,
-        &mut room,
-        &mut post.outside,
-        &mut access,
-        clock,
-        port,
-    );
-    Ok(served(access.into_desk(), matches!(end, PostEnd::ListenerFailed)))
+    Ok(serve_turn(
+        rt, alloc, turn, left, passes, desks, lines, clock, port, rounds, opened,
+    ))
 }
 
-// A desk that was served, whose history is legal, as that of every desk.
-fn served<D: Disk, const LIMIT: usize>(
-    desk: Desk<D, LIMIT>,
-    listener_failed: bool,
-) -> Served<D, LIMIT>
-    ensures desk { result.desk ≡ desk }
-    ensures listener_failed { result.listener_failed ≡ listener_failed }
-    ensures legal { IsLegal LIMIT desk.history }
+// Serves the desk of a turn that was just opened: posts that have what they work with get their callers, and run until all have ended.
+fn serve_turn<
+    R: Threads + Wait + Sync,
+    D: Disk + Send + Drop,
+    L: Listener<Conn: Send> + Send + Drop,
+    M: Link + Send + Drop,
+    C: Clock + Sync,
+    const LIMIT: usize,
+>(
+    rt: &R,
+    alloc: Global,
+    turn: Turn<Desk<BoxedDisk<D>, LIMIT>>,
+    mut left: DeskPass<D, LIMIT>,
+    passes: Vec<DeskPass<D, LIMIT>>,
+    desks: &mut [DeskPost<L, D, LIMIT>],
+    lines: &mut [LinePost<M, D, LIMIT>],
+    clock: &C,
+    port: u16,
+    rounds: u32,
+    opened: u32,
+) -> Desk<BoxedDisk<D>, LIMIT>
+    requires opened_turn { IsOpened turn left }
+    requires none_taken { passes.items ≡ [] }
+    requires room { length desks.old + length lines.old + 1 ≤ vec_capacity passes }
+    requires desks { HaveWork (λ index. IsSome) 0 desks.old }
+    requires lines { HaveWork (HasLine turn.opening.history.site.lines) 0 lines.old }
+    requires ports { port + length desks.old ≤ 65536 }
+    requires few { length lines.old ≤ 16 }
+    requires rounds { rounds ≤ most_rounds }
+    requires opened { opened ≡ last_place turn.opening.history }
+    ensures served { ServesFrom L.events L.faults M.calls M.faults (C.may_give clock.now) LIMIT port rounds turn.opening result desks.old desks.new lines.old lines.new }
+    ensures durable { IsDurable (λ boxed. D.trace boxed.disk.value) (λ boxed. D.moment boxed.disk.value) (λ boxed. D.faults boxed.disk.value) LIMIT result }
 {
-    let _ = desk.book().entries();
-    Served {
-        desk,
-        listener_failed,
-    }
+    give_callers(&turn, &mut left, desks);
+    give_callers(&turn, &mut left, lines);
+    run_all(rt, alloc, &turn, clock, port, rounds, opened, desks, lines);
+    close_posts(turn, left, passes, desks, lines)
 }

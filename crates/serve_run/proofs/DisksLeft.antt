@@ -1,9 +1,7 @@
 -- What a run of `serve` left on the disk, from what its desk keeps.
-use Rattle.std.proofs.Common.{◌≡◌, ℕ, ◌-◌, ◌^◌, ◌≤◌, zero, suc, min, List, ap, arith}
-use Rattle.std.proofs.lemmas.List.Elements.{All-weaker}
+use Rattle.std.proofs.Common.{◌≡◌, ℕ, ◌+◌, ◌-◌, ◌^◌, ◌<◌, ◌≤◌, zero, suc, min, refl, ap, arith}
 use Rattle.farm_base.specs.Counts.{Rose, raised}
 use Rattle.farm_desk.specs.States.{DeskState, IsJustMade}
-use Rattle.desk_posts.specs.Exchanges.{AreAcknowledged, Exchange, IsReply}
 use Rattle.boxed_disk.specs.declared.boxed.BoxedDisk.{BoxedDisk}
 
 -- a count of at most the last u64 doesn't fall
@@ -20,12 +18,18 @@ not_far_below (suc n) before = omega (arith, not_far_below n before)
 pub raised_more : (n before between now : ℕ) → between ≡ raised n before → now ≡ raised 1 between → Rose before now
 raised_more n before between now first second = omega (arith, first, second, not_far_below n before)
 
--- replies rest on no more entries if there may be more
-pub still_acknowledged : (most more : ℕ) (exchanges : List Exchange) → most ≤ more → AreAcknowledged most exchanges → AreAcknowledged more exchanges
-still_acknowledged most more exchanges fewer each =
-    All-weaker (λ (exchange : Exchange). IsReply exchange.answer → exchange.after ≤ most)
-    (λ (exchange : Exchange). IsReply exchange.answer → exchange.after ≤ more)
-    (λ exchange holds reply. omega (arith, holds reply, fewer)) exchanges each
+-- n faults, of which there is one, are as many added, up to the last u64
+raised_some : (n before : ℕ) → 0 < n → raised n before ≡ min (before + n) (2 ^ 64 - 1)
+raised_some zero before some = absurd (omega (arith, some))
+raised_some (suc zero) before some = refl
+raised_some (suc (suc n)) before some = omega (arith, raised_some (suc n) before (omega arith))
+
+-- what raised a count of none raises another as the faults do
+pub raised_again : (n before : ℕ) → raised (raised n 0) before ≡ raised n before
+raised_again zero before = refl
+raised_again (suc n) before =
+    let count : raised (suc n) 0 ≡ min (suc n) (2 ^ 64 - 1) = omega (arith, raised_some (suc n) 0 (omega arith)) in
+    omega (arith, count, raised_some (raised (suc n) 0) before (omega (arith, count)), raised_some (suc n) before (omega arith))
 
 -- a desk by the disk in its box
 abbrev pub unboxed : {D : Type 0} → DeskState (BoxedDisk D) → DeskState D

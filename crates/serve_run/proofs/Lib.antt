@@ -1,5 +1,6 @@
 -- The lemmas of `serve_run`, by subject.
 pub mod SummariesPut
-pub mod FirstPosts
+pub mod Cuts
+pub mod Failing
 pub mod DisksLeft
 pub mod PostsServed

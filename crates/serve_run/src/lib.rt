@@ -7,4 +7,4 @@
 mod serve_runs;
 mod summaries;
 
-pub use serve_runs::serve;
+pub use serve_runs::{RunLine, RunPost, serve};

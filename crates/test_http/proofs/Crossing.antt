@@ -8,21 +8,12 @@ use Rattle.farm_disk.specs.contracts.mem_disk.MemDiskDisk.TheImpl.{ghosts}
 use Rattle.farm_desk.proofs.Crossing.{desk_send, desk_sync}
 use Rattle.desk_access.specs.contracts.sole.SoleAccess as Access
 use Rattle.desk_access.specs.contracts.sole.SoleAccess.TheInside.{the_type}
-use Rattle.farm_serve.specs.contracts.served.Served as Served
 
 disk_send : IsSend MemDisk.the_row
 disk_send = search (sendable, crosses) depth 40
 
 disk_sync : IsSync MemDisk.the_row
 disk_sync = search (sendable, crosses) depth 40
-
--- a desk that was served may go to another thread
-pub served_send : (LIMIT : RattleType) → IsSend (Served.the_row MemDisk.the_row LIMIT ghosts)
-served_send LIMIT = declared_send (Served.the_type MemDisk.the_row LIMIT ghosts) (desk_send MemDisk.the_row LIMIT ghosts disk_send, (search sendable, tt))
-
--- and may be seen by several
-pub served_sync : (LIMIT : RattleType) → IsSync (Served.the_row MemDisk.the_row LIMIT ghosts)
-served_sync LIMIT = declared_sync (Served.the_type MemDisk.the_row LIMIT ghosts) (desk_sync MemDisk.the_row LIMIT ghosts disk_sync, (search sendable, tt))
 
 -- the access of the only caller of a desk may go to another thread
 pub access_send : (LIMIT : RattleType) → IsSend (Access.the_row MemDisk.the_row LIMIT ghosts)

@@ -22,8 +22,6 @@ mod pages;
 #[cfg(test)]
 mod requests;
 #[cfg(test)]
-mod serving;
-#[cfg(test)]
 mod summaries;
 #[cfg(test)]
 mod tcp;

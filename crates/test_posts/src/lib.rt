@@ -1,7 +1,16 @@
-//! Tests of a desk that posts serve side by side, over listeners in memory: what no clause of `many_posts` says.
+//! Tests of a desk that desk posts and gauge lines serve side by side, over listeners and links in memory: what no clause of `farm_serve`
+//! says.
 #![tactic(auto)]
 
 #[cfg(test)]
+mod days;
+#[cfg(test)]
 mod desks;
 #[cfg(test)]
-mod serving;
+mod late;
+#[cfg(test)]
+mod lines;
+#[cfg(test)]
+mod making;
+#[cfg(test)]
+mod posts;

@@ -1,6 +1,6 @@
 //! `calc` on observed volumes and from levels.
 
-use crate::running::{calc_answer, check_answer};
+use crate::running::{answer, check_answer, no_folder};
 use std::alloc::{AllocError, Global};
 use std::test::Fail;
 use test_checks::Checks;
@@ -29,7 +29,7 @@ fn check_calc<R: Print>(
     input: &str,
     (status, text): (u8, &str),
 ) -> Result<(), Fail> {
-    let answer = calc_answer(alloc, input)?;
+    let answer = answer(alloc, &["calc"], input, no_folder(alloc)?)?;
     check_answer(checks, name, answer, status, text);
     Ok(())
 }

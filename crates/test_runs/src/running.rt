@@ -80,8 +80,8 @@ pub fn source_of(alloc: Global, pieces: &[&[u8]], fails: Vec<u64>) -> Result<Scr
     Script::new(alloc, copies, fails)
 }
 
-// A folder without a file.
-fn no_folder(alloc: Global) -> Result<Files, NoMemory> {
+/// A folder without a file.
+pub fn no_folder(alloc: Global) -> Result<Files, NoMemory> {
     Files::new(alloc, Vec::new(alloc), Vec::new(alloc))
 }
 
@@ -292,10 +292,4 @@ pub fn check_batch<R: Print>(
     let checked = check_rows(checks, alloc, rows, lines.as_str());
     drop(lines);
     checked
-}
-
-/// What `calc` answers to an input.
-pub fn calc_answer(alloc: Global, input: &str) -> Result<Answer, Fail> {
-    let folder = no_folder(alloc)?;
-    answer(alloc, &["calc"], input, folder)
 }

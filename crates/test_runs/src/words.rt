@@ -1,7 +1,7 @@
 //! The words after the program's name.
 
 use crate::running::{Answer, answer, check_answer, words_of};
-use command_line::places;
+use command_line::{ServeOptions, Subcommand, places};
 use farm_ports::Gather;
 use farm_run::report_no_memory;
 use std::alloc::Global;
@@ -73,6 +73,88 @@ fn places_of_words(rt: HostRuntime) -> Result<(), Fail> {
     let mut checks = Checks::new(&rt);
     for (name, words, want) in PLACES {
         check_places(&mut checks, rt.alloc(), name, words, *want)?;
+    }
+    Ok(checks.end()?)
+}
+
+// The command of `serve` with a port, workers and rounds as they are written.
+fn served(alloc: Global, written: (&str, &str, &str)) -> Result<Option<Subcommand>, Fail> {
+    let (port, workers, rounds) = written;
+    let words = [
+        "serve",
+        "--journal",
+        "j",
+        "--port",
+        port,
+        "--workers",
+        workers,
+        "--rounds",
+        rounds,
+    ];
+    let owned = words_of(alloc, &words)?;
+    let command = Subcommand::of_words(&owned);
+    drop(owned);
+    Ok(command)
+}
+
+// The port, the workers and the rounds of `serve` as they are written, and as numbers; `None` if the words are no command.
+const NUMBERS: &[(&str, (&str, &str, &str), Option<(u16, u8, u32)>)] = &[
+    ("no workers", ("8080", "0", "0"), None),
+    ("nine workers", ("8080", "9", "0"), None),
+    ("eight workers", ("8080", "8", "0"), Some((8080, 8, 0))),
+    (
+        "one worker on the greatest port",
+        ("65535", "1", "0"),
+        Some((65_535, 1, 0)),
+    ),
+    (
+        "two workers from the greatest port on",
+        ("65535", "2", "0"),
+        None,
+    ),
+    (
+        "eight workers up to the greatest port",
+        ("65528", "8", "0"),
+        Some((65_528, 8, 0)),
+    ),
+    (
+        "eight workers beyond the greatest port",
+        ("65529", "8", "0"),
+        None,
+    ),
+    (
+        "the most rounds",
+        ("8080", "1", "100000000"),
+        Some((8080, 1, 100_000_000)),
+    ),
+    ("a round too many", ("8080", "1", "100000001"), None),
+];
+
+// `serve` has these numbers, or is no command.
+fn check_numbers<R: Print>(
+    checks: &mut Checks<'_, R>,
+    alloc: Global,
+    name: &str,
+    written: (&str, &str, &str),
+    want: Option<(u16, u8, u32)>,
+) -> Result<(), Fail> {
+    let command = served(alloc, written)?;
+    let want = want.map(|(port, workers, rounds)| {
+        Subcommand::Serve(ServeOptions {
+            port,
+            workers,
+            rounds,
+        })
+    });
+    checks.same_at(name, command, want);
+    Ok(())
+}
+
+#[test]
+fn numbers_of_serve(rt: HostRuntime) -> Result<(), Fail> {
+    let mut checks = Checks::new(&rt);
+    for (name, written, want) in NUMBERS {
+        check_numbers(&mut checks, rt.alloc(), name, *written, *want)?;
     }
     Ok(checks.end()?)
 }

@@ -1,60 +1,72 @@
 -- Answers to the open goals of `serve`.
-use Rattle.std.proofs.Common.{rules, ◌≡◌, ◌∙◌, ◌<◌, Bool, length, sym, ap, subst}
-use Rattle.std.specs.Prelude.{slice_set}
-use Rattle.farm_desk.specs.States.{DeskState, IsJustMade}
+use Rattle.std.proofs.Common.{◌≡◌, ◌∙◌, List, length, sym, ap, subst, arith}
+use Rattle.farm_turn.specs.declared.views.Known.{Known}
+use Rattle.farm_desk.proofs.Finishing.{at_ok}
+use Rattle.farm_desk.specs.States.{DeskState}
 use Rattle.farm_history.specs.History.{last_place}
-use Rattle.farm_history.specs.Verdicts.{IsLegal}
-use Rattle.farm_serve.specs.Serving.{ServesDesk, is_failed}
-use Rattle.farm_serve.proofs.Serves.{not_failed, serves_desk, serves_nobody}
-use Rattle.farm_serve.proofs.Sizes.{access_fits}
+use Rattle.modbus_poll.specs.declared.map.LineMap.{LineMap}
+use Rattle.desk_turns.specs.Closing.{IsUnused}
+use Rattle.farm_serve.specs.Callers.{HaveWork}
+use Rattle.farm_serve.specs.Running.{HasLine}
+use Rattle.farm_serve.specs.Sharing.{ServesAll}
 use Rattle.farm_serve.proofs.serving.serve.Goals as goal
-use Rattle.farm_serve.proofs.serving.serve.Goals.{in-ListenerFailed, in_default-matches}
 
-pub returns-in_default-clause-served : goal.returns-in_default-clause-served
-returns-in_default-clause-served g c =
-    let none : length c.args.desks.now < 1 = search rules in
-    let legal = c.served.ensures.legal in
-    subst (λ (left : DeskState g.row.D.Denot). ServesDesk g.D.Disk.trace g.D.Disk.moment g.D.Disk.faults g.L.Listener.events g.L.Listener.faults
-    (g.C.Clock.may_give c.args.clock.now) g.row.LIMIT c.args.port c.args.desks.now c.args.desks.now c.args.desk left c.served.result.listener_failed)
-    (sym c.served.ensures.desk)
-    (subst (λ (failed : Bool). ServesDesk g.D.Disk.trace g.D.Disk.moment g.D.Disk.faults g.L.Listener.events g.L.Listener.faults
-    (g.C.Clock.may_give c.args.clock.now) g.row.LIMIT c.args.port c.args.desks.now c.args.desks.now c.args.desk c.args.desk failed)
-    (sym c.served.ensures.listener_failed)
-    (serves_nobody g.D.Disk.trace g.D.Disk.moment g.D.Disk.faults g.L.Listener.events g.L.Listener.faults (g.C.Clock.may_give c.args.clock.now)
-    g.row.LIMIT c.args.port c.args.desks.now c.args.desk none legal))
-
-pub new-access-requires : goal.new-access-requires
-new-access-requires g c = (search rules, (access_fits _ _ _ (search rules), c.requires.just_made))
-
-pub run_post-end-requires-room-A-DeskAccess : goal.run_post-end-requires-room-A-DeskAccess
-run_post-end-requires-room-A-DeskAccess g c κs within = access_fits _ _ _ (search rules)
-
-pub into_desk-requires : goal.into_desk-requires
-into_desk-requires g c = (access_fits _ _ _ (search rules), search rules)
+pub serve_turn-requires-after_bounds : goal.serve_turn-requires-after_bounds
+serve_turn-requires-after_bounds g c κs within =
+    let turn = c.in-Ok-new.opened.0 in
+    let left = c.in-Ok-new.opened.1 in
+    let opening : turn.opening ≡ c.args.desk = c.in-Ok-new.ensures.opening in
+    let known = c.in-Ok-new.ensures.known in
+    let rooms = at_ok c.make_rooms.result _ (sym c.is_err.ensures.value ∙ c.if-is_err.false) c.make_rooms.ensures.rooms in
+    let maps = at_ok c.make_lines.result _ (sym c.is_err-2.ensures.value ∙ c.if-is_err-2.false) c.make_lines.ensures.lines in
+    let lines_are = c.lines_of.ensures.lines ∙ sym (ap (λ (desk : DeskState _). desk.history.site.lines) opening) in (
+      omega arith,
+      (
+        omega arith,
+        (
+          record {
+            is_left = record {
+              of_this_turn = c.in-Ok-new.ensures.of_the_turn;
+              unenrolled = ap (λ (k : Known _ _). k.number) known;
+              seen = ap (λ (k : Known _ _). k.seen) known ∙ sym (ap (λ (desk : DeskState _). desk.history.entries) opening);
+              own = ap (λ (k : Known _ _). k.own) known;
+              tally = ap (λ (k : Known _ _). k.tally) known;
+              next_is = ap (λ (k : Known _ _). k.next) known;
+              found = subst (λ (desk : DeskState _). desk.opened.entries ≡ last_place desk.history) (sym opening) c.requires.just_made.entries_is;
+            };
+            all_numbers = c.in-Ok-new.ensures.numbers_in_all;
+            unused = subst IsUnused (sym opening) (record { entries = c.requires.just_made.entries_is; failed = c.requires.just_made.unfailed });
+          },
+          (
+            c.in-Ok.ensures.items,
+            (
+              omega (arith, c.in-Ok.ensures.len, c.in-Ok.ensures.capacity, c.make_rooms.auto.posts, c.make_lines.auto.posts),
+              (
+                rooms,
+                (
+                  subst (λ (lines : List LineMap). HaveWork (HasLine lines) 0 c.make_lines.new.posts) lines_are maps,
+                  (
+                    omega (arith, c.requires.ports, c.make_rooms.auto.posts),
+                    (
+                      omega (arith, c.requires.lines, c.lines_of.ensures.few, ap length c.lines_of.ensures.lines, c.make_lines.auto.posts),
+                      (
+                        c.requires.rounds,
+                        ap length c.entries.ensures.entries ∙ ap last_place c.book.ensures.history
+                            ∙ sym (ap (λ (desk : DeskState _). last_place desk.history) opening),
+                      ),
+                    ),
+                  ),
+                ),
+              ),
+            ),
+          ),
+        ),
+      ),
+    )
 
 pub returns-clause-served : goal.returns-clause-served
 returns-clause-served g c =
-    let item = c.in-Some.ensures.item in
-    let found = c.new-access.result in
-    let left = c.run_post-end.new.access in
-    let made : IsJustMade g.D.Disk.moment g.D.Disk.faults found.desk (last_place found.desk.history) =
-    subst (λ (desk : DeskState g.row.D.Denot). IsJustMade g.D.Disk.moment g.D.Disk.faults desk (last_place desk.history)) (sym c.new-access.ensures.desk)
-    c.requires.just_made in
-    let legal : IsLegal g.row.LIMIT left.desk.history =
-    subst (λ (desk : DeskState g.row.D.Denot). IsLegal g.row.LIMIT desk.history) c.into_desk.ensures.desk c.served-2.ensures.legal in
-    let told : c.match-matches.matches ≡ is_failed c.run_post-end.result =
-    elim c.match-matches.branch [
-      | in-ListenerFailed w ↦ w.matches-is ∙ sym (ap is_failed w.in-ListenerFailed.is)
-      | in_default-matches w ↦ w.matches-is ∙ sym (not_failed c.run_post-end.result w.in_default-matches.not-ListenerFailed)
-    ] in
-    let after = slice_set c.args.desks.now 0 (record { outside = c.run_post-end.new.listener }) in
-    subst (λ (desk : DeskState g.row.D.Denot). ServesDesk g.D.Disk.trace g.D.Disk.moment g.D.Disk.faults g.L.Listener.events g.L.Listener.faults
-    (g.C.Clock.may_give c.args.clock.now) g.row.LIMIT c.args.port c.args.desks.now after desk c.served-2.result.desk c.served-2.result.listener_failed)
-    c.new-access.ensures.desk
-    (subst (λ (desk : DeskState g.row.D.Denot). ServesDesk g.D.Disk.trace g.D.Disk.moment g.D.Disk.faults g.L.Listener.events g.L.Listener.faults
-    (g.C.Clock.may_give c.args.clock.now) g.row.LIMIT c.args.port c.args.desks.now after found.desk desk c.served-2.result.listener_failed)
-    (sym (c.served-2.ensures.desk ∙ c.into_desk.ensures.desk))
-    (serves_desk g.D.Disk.trace g.D.Disk.moment g.D.Disk.faults g.L.Listener.events g.L.Listener.faults (g.C.Clock.may_give c.args.clock.now)
-    g.row.LIMIT c.args.port c.args.desks.now c.in-Some.post.now c.post.inside.outside c.run_post-end.new.listener found left c.run_post-end.result
-    c.served-2.result.listener_failed item.3.0 (c.post.view_is ∙ item.1) c.new-access.ensures.caller made (c.served-2.ensures.listener_failed ∙ told)
-    c.run_post-end.ensures.never_falls legal c.run_post-end.ensures.keeps c.run_post-end.ensures.conversation))
+    subst (λ (desk : DeskState _). ServesAll g.L.Listener.events g.L.Listener.faults g.M.Link.calls g.M.Link.faults (g.C.Clock.may_give c.args.clock.now)
+    g.row.LIMIT c.args.port c.args.rounds desk c.serve_turn.result c.args.desks.now c.serve_turn.new.desks c.args.lines.now c.serve_turn.new.lines)
+    c.in-Ok-new.ensures.opening
+    (c.serve_turn.ensures.served c.args.desks.now c.args.lines.now (sym c.make_rooms.ensures.outsides) (sym c.make_lines.ensures.outsides))

@@ -2,13 +2,15 @@
 use Rattle.std.proofs.Common.{subst}
 use Rattle.book_texts.specs.Summaries.{IsSummary, summary_text}
 use Rattle.farm_history.specs.History.{History}
+use Rattle.farm_history.specs.Verdicts.{IsLegal}
+use Rattle.run_reports.specs.declared.limits.TheConstants.{BOOK_LIMIT}
 use Rattle.serve_run.proofs.SummariesPut.{reports_made}
 use Rattle.serve_run.proofs.serve_runs.end.Goals as goal
 
 pub returns-clause-ended : goal.returns-clause-ended
 returns-clause-ended g c =
     let finish = c.finish-disk.ensures in
-    let history = c.book.ensures.history in
+    let history = c.book-2.ensures.history in
     let made = c.summary_of-text.ensures in
     rw c.into_inner.ensures.disk (record {
       doubt = c.finish-disk.result.1;
@@ -21,3 +23,6 @@ returns-clause-ended g c =
       summary = subst (λ (h : History). IsSummary h (summary_text h)) history made.summary;
       reports = reports_made _ _ _ _ _ _ c.summary_of-text.result (rw (← history) made.text) c.report_summary.ensures.reports;
     })
+
+pub returns-clause-legal : goal.returns-clause-legal
+returns-clause-legal g c = subst (IsLegal BOOK_LIMIT) c.book.ensures.history c.entries.ensures.legal

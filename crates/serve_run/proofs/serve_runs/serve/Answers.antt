@@ -9,7 +9,7 @@ use Rattle.serve_run.proofs.serve_runs.serve.Goals as goal
 pub returns-in-Err-clause-serve_run : goal.returns-in-Err-clause-serve_run
 returns-in-Err-clause-serve_run g c =
     rw c.in-Err.ensures.given_back
-    (inl (record { nothing_recovered = not_asked _ _ _ _ c.in-Err.ensures.lacks_memory; posts_kept = refl }))
+    (inl (record { nothing_recovered = not_asked _ _ _ _ c.in-Err.ensures.lacks_memory; desks_kept = refl; links_kept = refl }))
 
 pub returns-in-Ok-recover-clause-disk_later : goal.returns-in-Ok-recover-clause-disk_later
 returns-in-Ok-recover-clause-disk_later g c =
@@ -27,5 +27,6 @@ returns-in-Err-recover-clause-serve_run g c =
     (inl (record {
       nothing_recovered = not_recovered _ _ _ _ _ said.wrote_nothing c.in-Err-recover.fault c.laws.ensures.recovered_is_not_refused said.refused said.cause said.quiet
           c.report_recover.ensures.reports;
-      posts_kept = refl;
+      desks_kept = refl;
+      links_kept = refl;
     }))

@@ -1,9 +1,0 @@
--- The lemmas of `many_posts`, by topic.
-pub mod Idle
-pub mod Giving
-pub mod Taking
-pub mod Running
-pub mod Ran
-pub mod Standing
-pub mod Closed
-pub mod Crossing
