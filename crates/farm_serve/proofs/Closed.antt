@@ -4,7 +4,7 @@ use Rattle.std.specs.Prelude.{All, IsSome, sum_by}
 use Rattle.std.proofs.lemmas.List.{map-append}
 use Rattle.std.proofs.lemmas.List.Elements.{All-append, All-map}
 use Rattle.std.proofs.lemmas.List.Sums.{sum_by-append, sum_by-cons}
-use Rattle.farm_history.specs.History.{History, last_place}
+use Rattle.farm_history.specs.History.{last_place}
 use Rattle.farm_history.specs.declared.entry.Entry.{Entry}
 use Rattle.farm_listeners.specs.Listeners.{Event}
 use Rattle.farm_ports.specs.declared.links.LinkCall.{LinkCall}

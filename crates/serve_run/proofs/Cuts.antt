@@ -1,5 +1,5 @@
 -- A slice whose first elements were handed on.
-use Rattle.std.proofs.Common.{◌≡◌, ◌∙◌, ⊎_elim, ℕ, ◌<◌, ◌≤◌, List, [], ◌++◌, append-nil, drop, length, min, take, sym, ap, arith}
+use Rattle.std.proofs.Common.{◌≡◌, ◌∙◌, ⊎_elim, ℕ, List, ◌++◌, append-nil, drop, length, min, take, sym, ap, arith}
 use Rattle.std.proofs.Math.Seq.{drop-append_seam}
 use Rattle.std.proofs.lemmas.Bool.{cases_lt}
 use Rattle.std.proofs.lemmas.List.{drop_all, length-take-le, map-append, take-append-drop, take-append-le, take_all}

@@ -1,8 +1,8 @@
 -- A run of `serve` on a desk, from what serving it did and how the run ended.
 use Rattle.std.proofs.Common.{◌≡◌, ◌∙◌, inl, inr, ℕ, ◌-◌, ◌^◌, ◌≤◌, Bool, true, false, List, ◌++◌, length, take, drop, min, Option, refl, sym, ap, subst, ℤ, arith}
-use Rattle.std.specs.Prelude.{All, sum_by}
+use Rattle.std.specs.Prelude.{sum_by}
 use Rattle.std.proofs.lemmas.List.Elements.{All-weaker}
-use Rattle.farm_base.specs.Counts.{HasRisen, count_of, raised}
+use Rattle.farm_base.specs.Counts.{count_of, raised}
 use Rattle.journaled_book.specs.Histories.{RecoversFront, RecoversNow, certain}
 use Rattle.journaled_book.specs.Moments.{EachFrom}
 use Rattle.farm_desk.specs.States.{DeskState, FoundState, IsDurable, IsJustMade}

@@ -1,5 +1,5 @@
 -- Answers to the open goals of `serve_desk`.
-use Rattle.std.proofs.Common.{◌≡◌, ◌∙◌, inl, inr, List, length, min, ap, subst, arith}
+use Rattle.std.proofs.Common.{◌∙◌, inl, inr, List, length, min, ap, subst, arith}
 use Rattle.farm_history.specs.History.{History}
 use Rattle.modbus_poll.specs.declared.map.LineMap.{LineMap}
 use Rattle.run_reports.proofs.DisksLeft.{handed_back}
