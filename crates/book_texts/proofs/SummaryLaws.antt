@@ -6,8 +6,8 @@ use Rattle.std.proofs.lemmas.List.Elements.{All-nil, All-cons, All-head, All-map
 use Rattle.farm_fixed.specs.declared.records.Amount.{Amount}
 use Rattle.farm_stock.specs.Books.{tanks_of}
 use Rattle.farm_stock.specs.declared.book.TankBook.{TankBook}
-use Rattle.site_items.specs.Tanks.{tank_number}
-use Rattle.site_items.specs.declared.records.Tank.{Tank}
+use Rattle.farm_site.specs.Tanks.{tank_number}
+use Rattle.farm_site.specs.declared.items.Tank.{Tank}
 use Rattle.farm_site.specs.Described.{tank_numbered}
 use Rattle.farm_history.specs.declared.reply.Reply.TheVariants as replies
 use Rattle.farm_history.specs.Desk.{looked_up, place_or_zero, stock_or_none}

@@ -5,8 +5,8 @@ use Rattle.std.specs.Fmt.{signed_decimal}
 use Rattle.farm_fixed.specs.declared.records.Amount.{Amount}
 use Rattle.farm_stock.specs.Books.{IsRising, tanks_of}
 use Rattle.farm_stock.specs.declared.book.TankBook.{TankBook}
-use Rattle.site_items.specs.Tanks.{tank_number}
-use Rattle.site_items.specs.declared.records.Tank.{Tank}
+use Rattle.farm_site.specs.Tanks.{tank_number}
+use Rattle.farm_site.specs.declared.items.Tank.{Tank}
 use Rattle.farm_history.specs.declared.query.Query.TheVariants as queries
 use Rattle.farm_history.specs.declared.reply.Reply.TheVariants as replies
 use Rattle.farm_history.specs.Desk.{looked_up}

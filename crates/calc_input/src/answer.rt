@@ -3,7 +3,8 @@
 ghost use Rattle.std.specs.Prelude.{◌≡◌, ◌≤◌, length, pos, Ok, Err, IfOk, IfSome, MatchResult};
 ghost use Rattle.farm_fixed.specs.Range.{IsWithin};
 ghost use Rattle.farm_rounding.specs.Table.{usual_rows};
-ghost use Rattle.farm_chain.specs.Reading.{IsFloatingRoof, calculated_quantities};
+ghost use Rattle.strap_table.specs.Roofs.{IsFloatingRoof};
+ghost use Rattle.farm_chain.specs.Reading.{calculated_quantities};
 ghost use Rattle.calc_input.specs.declared.refusal.Refused.{Refused};
 ghost use Rattle.calc_input.specs.declared.answer.NoFigures.TheVariants as variants;
 ghost use Rattle.calc_input.specs.VolumesLine.{IsCalculable};

@@ -7,8 +7,8 @@ use Rattle.std.proofs.lemmas.Option.{slice_get-map}
 use Rattle.farm_base.specs.Steps.{or_else}
 use Rattle.farm_chain.specs.Reading.{calculated_quantities}
 use Rattle.farm_site.specs.Described.{product_numbered}
-use Rattle.site_items.specs.declared.records.Product.{Product}
-use Rattle.site_items.specs.declared.records.Tank.{Tank}
+use Rattle.farm_site.specs.declared.items.Product.{Product}
+use Rattle.farm_site.specs.declared.items.Tank.{Tank}
 use Rattle.farm_history.specs.declared.command.Command.{Command}
 use Rattle.farm_history.specs.declared.command.Command.TheVariants.{Gauge, Dip, Sample, Opening, Closing, Cancel, Reverse, Settle, Stop}
 use Rattle.farm_history.specs.declared.entry.Entry.{Entry}

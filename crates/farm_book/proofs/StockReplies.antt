@@ -1,7 +1,7 @@
 -- What is answered to a look-up of a stock or of the total.
 use Rattle.std.proofs.Common.{◌≡◌, inl, inr, ℕ, Bool, IsNone, IsSome, Option, Some, None, option_map, unwrap_or, refl, ap}
 use Rattle.farm_fixed.specs.declared.records.Amount.{Amount}
-use Rattle.site_items.specs.declared.records.Tank.{Tank}
+use Rattle.farm_site.specs.declared.items.Tank.{Tank}
 use Rattle.farm_history.specs.declared.entry.Entry.{Entry}
 use Rattle.farm_history.specs.declared.reply.Reply.TheVariants as replies
 use Rattle.farm_history.specs.Commands.{is_gauging_of, is_sample_of}

@@ -9,13 +9,13 @@ use Rattle.std.proofs.lemmas.List.Sums.{AllPass-from_list_all}
 use Rattle.std.proofs.lemmas.Option.{slice_get-get_or}
 use Rattle.farm_fixed.specs.Range.{is_between}
 use Rattle.strap_table.specs.Capacity.{IsCapTable}
-use Rattle.site_keys.specs.Lists.{are_numbered, rises, rises_from}
-use Rattle.site_items.proofs.TankParts.{product_there}
-use Rattle.site_items.specs.declared.records.Tank.{Tank}
-use Rattle.site_items.specs.declared.tanks.TheConstants.{MOST_TANKS}
-use Rattle.site_items.specs.Facts.{are_tanks}
-use Rattle.site_items.specs.Products.{product_number}
-use Rattle.site_items.specs.Tanks.{is_tank, tank_number}
+use Rattle.farm_site.specs.Numbers.{are_numbered, rises, rises_from}
+use Rattle.farm_site.proofs.TankParts.{product_there}
+use Rattle.farm_site.specs.declared.items.Tank.{Tank}
+use Rattle.farm_site.specs.declared.limits.TheConstants.{MOST_TANKS}
+use Rattle.farm_site.specs.Facts.{are_tanks}
+use Rattle.farm_site.specs.Products.{product_number}
+use Rattle.farm_site.specs.Tanks.{is_tank, tank_number}
 use Rattle.farm_site.specs.declared.site.Site.{Site}
 use Rattle.farm_site.specs.Sites.{described}
 use Rattle.farm_history.specs.Sites.{AreComputable, AreRising}

@@ -11,9 +11,9 @@ ghost use Rattle.farm_history.specs.Rules.{broken_by_movement, broken_by_names, 
 
 use crate::named_rules::broken_by_names;
 use farm_history::{Command, Plan, Rule};
+use farm_site::item_numbered;
 use farm_ticket::Ticket;
 use history_lookups::Past;
-use site_keys::item_numbered;
 
 /// The first rule on movements and tickets that a command breaks.
 #[tactic(auto, unfolding(farm_history::specs::Rules::broken_by_movement))]

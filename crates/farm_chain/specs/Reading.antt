@@ -1,9 +1,7 @@
 -- The custody calculation of a reading: the figures of what stands in a tank, with the first refusal.
-use Rattle.std.specs.Prelude.{if◌then◌else◌, List, Option, Some, None, Result, Ok, Err, ℤ, pos, ◌≤ℤ◌}
+use Rattle.std.specs.Prelude.{if◌then◌else◌, List, Option, Some, None, Result, Ok, Err, ℤ, pos}
 use Rattle.std.specs.Int.RustNames.{int_lt}
 use Rattle.farm_base.specs.Steps.{◌>>=◌, or_fault}
-use Rattle.farm_fixed.specs.Range.{IsWithin}
-use Rattle.farm_fixed.specs.Limits.{most_roof_mass}
 use Rattle.farm_fixed.specs.declared.records.Reading.{Reading}
 use Rattle.farm_fixed.specs.declared.records.Sample.{Sample}
 use Rattle.farm_fixed.specs.declared.records.Quantities.{Quantities}
@@ -16,11 +14,6 @@ use Rattle.strap_table.specs.declared.tank.Roof.{Roof}
 use Rattle.strap_table.specs.declared.tank.TankSpec.{TankSpec}
 use Rattle.strap_table.specs.Capacity.{table_volume}
 use Rattle.farm_chain.specs.Volumes.{calculated_figures}
-
--- a roof's mass is from 0 to 10^7 kg, and its zone doesn't end below where it begins
-pub record IsFloatingRoof (roof : Roof) : Type 0 where
-  pub weight : IsWithin (pos 0) most_roof_mass roof.mass
-  pub zone : roof.low ≤ℤ roof.high
 
 -- the table's volume at a height, by the rounding of table volumes
 abbrev pub volume_at : List Row → List ℤ → ℤ → Option ℤ

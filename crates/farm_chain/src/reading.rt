@@ -4,7 +4,8 @@ ghost use Rattle.std.specs.Prelude.{◌≡◌, IfOk, IfSome, pos};
 ghost use Rattle.farm_fixed.specs.Range.{IsWithin};
 ghost use Rattle.farm_fixed.specs.declared.limits.TheConstants.{MOST_COEFFICIENT, MOST_LITRES, MOST_ROOF_MASS};
 ghost use Rattle.farm_chain.specs.Volumes.{AreInRange};
-ghost use Rattle.farm_chain.specs.Reading.{IsFloatingRoof, calculated_quantities, carried, correction_factor, floating_mass, free_water, total_observed, volume_at};
+ghost use Rattle.strap_table.specs.Roofs.{IsFloatingRoof};
+ghost use Rattle.farm_chain.specs.Reading.{calculated_quantities, carried, correction_factor, floating_mass, free_water, total_observed, volume_at};
 
 use crate::figures;
 use farm_fixed::{ChainRule, Fac5, Kg, Litres, Mm, Quantities, Reading, Sample};

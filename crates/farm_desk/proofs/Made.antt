@@ -13,8 +13,8 @@ use Rattle.farm_journal.specs.declared.faults.RecoverFault.{RecoverFault}
 use Rattle.farm_journal.specs.Recovery.{IsRecovered, IsRefusal}
 use Rattle.farm_journal.specs.Standing.{IsAnImage, JournalState, Stands, StandsOf}
 use Rattle.farm_journal.proofs.Gates.{stands_on_each}
-use Rattle.farm_site.specs.Described.{Described}
-use Rattle.farm_site.specs.Encoding.{IsSite, site_encoding}
+use Rattle.farm_site.specs.Described.{Described, IsSite}
+use Rattle.site_encoding.specs.Encoding.{site_encoding}
 use Rattle.farm_recovery.specs.Accepting.{accepted_next, taken_of}
 use Rattle.farm_recovery.specs.Recovery.{IsRefused}
 use Rattle.farm_desk.specs.Asking.{IsCrashSafe, IsNoneOrEmpty}

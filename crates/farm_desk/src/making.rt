@@ -8,7 +8,8 @@ ghost use Rattle.farm_disk.specs.Runs.{Extends, WritesNothing};
 ghost use Rattle.farm_history.specs.History.{empty_history, last_place};
 ghost use Rattle.farm_history.specs.declared.limits.TheConstants.{GREATEST_LIMIT};
 ghost use Rattle.farm_journal.specs.Creating.{IsCreateRefusal, WasEmpty};
-ghost use Rattle.farm_site.specs.Encoding.{IsSite, site_encoding};
+ghost use Rattle.farm_site.specs.Described.{IsSite};
+ghost use Rattle.site_encoding.specs.Encoding.{site_encoding};
 ghost use Rattle.farm_site.specs.Sites.{described};
 ghost use Rattle.farm_desk.specs.Asking.{IsCrashSafe};
 ghost use Rattle.journaled_book.specs.Histories.{Recovers};
@@ -24,6 +25,7 @@ use farm_history::MOST_ENTRY_BYTES;
 use farm_journal::{CreateFault, Journal, RecoverFault};
 use farm_recovery::Recovering;
 use farm_site::Site;
+use site_encoding::SiteToBytes;
 use std::alloc::Global;
 
 impl<D: Disk, const LIMIT: usize> Desk<D, LIMIT> {

@@ -8,7 +8,7 @@ use Rattle.farm_stock.specs.Books.{plus}
 use Rattle.farm_stock.specs.Postings.{amount_of, at_tank}
 use Rattle.farm_stock.specs.declared.posting.Posting.{Posting}
 use Rattle.farm_stock.proofs.Amounts.{plus_assoc}
-use Rattle.site_items.specs.declared.records.Tank.{Tank}
+use Rattle.farm_site.specs.declared.items.Tank.{Tank}
 use Rattle.farm_history.specs.declared.entry.Entry.{Entry}
 use Rattle.farm_history.specs.Conservation.{IsBook, MakesUp}
 use Rattle.farm_history.specs.History.{History, last_place, tank_after, with_entry}

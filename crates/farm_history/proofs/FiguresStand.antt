@@ -9,11 +9,11 @@ use Rattle.farm_fixed.specs.declared.records.Quantities.{Quantities}
 use Rattle.farm_fixed.specs.declared.records.Reading.{Reading}
 use Rattle.farm_fixed.specs.declared.records.Sample.{Sample}
 use Rattle.farm_site.specs.Described.{product_numbered, tank_numbered}
-use Rattle.site_items.specs.Products.{product_number}
-use Rattle.site_items.specs.Tanks.{tank_number}
-use Rattle.site_items.specs.declared.records.Product.{Product}
-use Rattle.site_items.specs.declared.records.Tank.{Tank}
-use Rattle.site_keys.specs.Lists.{is_among}
+use Rattle.farm_site.specs.Products.{product_number}
+use Rattle.farm_site.specs.Tanks.{tank_number}
+use Rattle.farm_site.specs.declared.items.Product.{Product}
+use Rattle.farm_site.specs.declared.items.Tank.{Tank}
+use Rattle.farm_site.specs.Numbers.{is_among}
 use Rattle.farm_history.specs.declared.command.Command.{Command}
 use Rattle.farm_history.specs.declared.command.Command.TheVariants as commands
 use Rattle.farm_history.specs.declared.entry.Entry.{Entry}

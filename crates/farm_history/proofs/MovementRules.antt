@@ -2,9 +2,9 @@
 use Rattle.std.proofs.Common.{◌≡◌, ℕ, Bool, true, not, List, map, Option, Some, None, option_and_then, refl, ap, ap₂, ◌∙◌, subst, arith}
 use Rattle.std.specs.Prelude.{◌==◌, Contains}
 use Rattle.std.proofs.lemmas.Bool.{both_ways, eq-eqb, eqb-false, eqb-true, false_from_ne_true, ne_eqb, not-true, not_from_false}
-use Rattle.site_items.specs.Parties.{party_number}
-use Rattle.site_items.specs.declared.records.Tank.{Tank}
-use Rattle.site_keys.specs.Lists.{is_among}
+use Rattle.farm_site.specs.Parties.{party_number}
+use Rattle.farm_site.specs.declared.items.Tank.{Tank}
+use Rattle.farm_site.specs.Numbers.{is_among}
 use Rattle.farm_history.specs.declared.command.Command.{Command}
 use Rattle.farm_history.specs.declared.command.Command.TheVariants.{Opening}
 use Rattle.farm_history.specs.declared.entry.Entry.{Entry}

@@ -12,8 +12,8 @@ use Rattle.farm_fixed.specs.declared.records.Sample.{Sample}
 use Rattle.farm_fixed.specs.declared.records.Shell.{Shell}
 use Rattle.farm_rounding.specs.Table.{Row, row_at}
 use Rattle.farm_rounding.specs.declared.table.TheConstants.{TABLE_VOLUME}
-use Rattle.site_items.specs.declared.records.Product.{Product}
-use Rattle.site_items.specs.declared.records.Tank.{Tank}
+use Rattle.farm_site.specs.declared.items.Product.{Product}
+use Rattle.farm_site.specs.declared.items.Tank.{Tank}
 use Rattle.strap_table.specs.Capacity.{IsCapTable}
 use Rattle.strap_table.specs.declared.tank.Roof.{Roof}
 use Rattle.farm_history.proofs.RecordedReadings.{Covers}

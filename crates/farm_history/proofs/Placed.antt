@@ -10,7 +10,7 @@ use Rattle.farm_ticket.specs.Tickets.{Ticket}
 use Rattle.farm_ticket.specs.declared.side.Side.{Side}
 use Rattle.farm_ticket.specs.declared.side.Way.{Way}
 use Rattle.farm_ticket.specs.declared.side.Way.TheVariants.{Inward, Outward}
-use Rattle.site_items.specs.declared.records.Tank.{Tank}
+use Rattle.farm_site.specs.declared.items.Tank.{Tank}
 use Rattle.farm_history.specs.declared.command.Command.{Command}
 use Rattle.farm_history.specs.declared.command.Command.TheVariants.{Closing, Reverse, Settle}
 use Rattle.farm_history.specs.declared.entry.Entry.{Entry}

@@ -16,7 +16,7 @@ use Rattle.farm_rounding.specs.Multiple.{nearest_multiple}
 use Rattle.farm_rounding.specs.Table.{Row, rounded, row_at}
 use Rattle.farm_rounding.specs.declared.mode.Mode.{Mode}
 use Rattle.farm_rounding.specs.declared.table.TheConstants.{TAPE_MEAN}
-use Rattle.site_items.specs.declared.records.Tank.{Tank}
+use Rattle.farm_site.specs.declared.items.Tank.{Tank}
 use Rattle.strap_table.specs.Capacity.{top_of}
 use Rattle.farm_history.specs.declared.command.Command.{Command}
 use Rattle.farm_history.specs.declared.command.Command.TheVariants.{Gauge, Dip}

@@ -10,7 +10,7 @@ use Rattle.farm_stock.specs.Postings.{added, all_posted, amount_of, at_tank, pos
 use Rattle.farm_stock.specs.declared.book.TankBook.{TankBook}
 use Rattle.farm_stock.specs.declared.posting.Posting.{Posting}
 use Rattle.farm_stock.proofs.AddUp.{books_add_up, totals_add_up}
-use Rattle.site_items.specs.declared.records.Tank.{Tank}
+use Rattle.farm_site.specs.declared.items.Tank.{Tank}
 use Rattle.farm_history.specs.Conservation.{openings_of}
 use Rattle.farm_history.specs.History.{History, last_place, tank_after}
 use Rattle.farm_history.specs.Postings.{book_with, postings_of}

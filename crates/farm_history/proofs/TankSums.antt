@@ -11,8 +11,8 @@ use Rattle.farm_stock.specs.Books.{plus, sum_of}
 use Rattle.farm_stock.specs.Postings.{amount_of, at_tank}
 use Rattle.farm_stock.specs.declared.posting.Posting.{Posting}
 use Rattle.farm_stock.proofs.Amounts.{plus_no_more, same_amount}
-use Rattle.site_items.specs.Tanks.{tank_number}
-use Rattle.site_items.specs.declared.records.Tank.{Tank}
+use Rattle.farm_site.specs.Tanks.{tank_number}
+use Rattle.farm_site.specs.declared.items.Tank.{Tank}
 use Rattle.farm_history.specs.Sites.{AreRising}
 use Rattle.farm_history.proofs.PostingSums.{nothing, nothing_more, passing_more, where_passed}
 

@@ -8,8 +8,8 @@ use Rattle.farm_ticket.specs.Amounts.{IsWrongWay}
 use Rattle.farm_ticket.specs.Tickets.{Ticket}
 use Rattle.farm_ticket.specs.declared.side.Way.{Way}
 use Rattle.farm_ticket.specs.declared.side.Way.TheVariants.{Inward, Outward}
-use Rattle.site_items.specs.Parties.{party_number}
-use Rattle.site_items.specs.declared.records.Tank.{Tank}
+use Rattle.farm_site.specs.Parties.{party_number}
+use Rattle.farm_site.specs.declared.items.Tank.{Tank}
 use Rattle.strap_table.specs.Capacity.{top_of}
 use Rattle.farm_history.specs.declared.command.Command.{Command}
 use Rattle.farm_history.specs.declared.command.Command.TheVariants.{Opening, Closing, Reverse, Settle, Stop}

@@ -10,8 +10,8 @@ use Rattle.farm_stock.specs.Postings.{amount_of, at_tank}
 use Rattle.farm_stock.specs.declared.posting.Kind.{Kind}
 use Rattle.farm_stock.specs.declared.posting.Kind.TheVariants.{Receipt, Delivery, TransferOut, TransferIn, Gain}
 use Rattle.farm_stock.specs.declared.posting.Posting.{Posting}
-use Rattle.site_items.specs.declared.records.Tank.{Tank}
-use Rattle.site_items.specs.Limits.{most_stock}
+use Rattle.farm_site.specs.declared.items.Tank.{Tank}
+use Rattle.farm_site.specs.Limits.{most_stock}
 use Rattle.farm_history.specs.History.{History, tank_after}
 use Rattle.farm_history.specs.Postings.{opposite, postings_of}
 

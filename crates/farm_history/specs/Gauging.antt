@@ -7,7 +7,7 @@ use Rattle.farm_readings.specs.declared.tapes.TapeFault.TheVariants.{Count, Spre
 use Rattle.farm_readings.specs.declared.datum.BelowDatum.{BelowDatum}
 use Rattle.farm_readings.specs.Readings.{innage_of, mean_temperature, tape_reading}
 use Rattle.farm_rounding.specs.Table.{Row}
-use Rattle.site_items.specs.declared.records.Tank.{Tank}
+use Rattle.farm_site.specs.declared.items.Tank.{Tank}
 use Rattle.farm_history.specs.declared.command.Command.{Command}
 use Rattle.farm_history.specs.declared.command.Command.TheVariants.{Gauge, Dip}
 use Rattle.farm_history.specs.TapeFaults.{fault_of_below_datum, fault_of_tape_count, fault_of_tape_spread, fault_of_water_tape_count, fault_of_water_tape_spread}

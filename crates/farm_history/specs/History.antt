@@ -2,7 +2,7 @@
 use Rattle.std.specs.Prelude.{ℕ, ◌-◌, ◌==◌, if◌then◌else◌, List, [], ◌∷◌, ◌++◌, length, take, Option, None, ℤ, pos, slice_get}
 use Rattle.farm_fixed.specs.Range.{IsWithin}
 use Rattle.farm_site.specs.Described.{Described, tank_numbered}
-use Rattle.site_items.specs.declared.records.Tank.{Tank}
+use Rattle.farm_site.specs.declared.items.Tank.{Tank}
 use Rattle.farm_history.specs.declared.entry.Entry.{Entry}
 use Rattle.farm_history.specs.Limits.{latest_moment}
 use Rattle.farm_history.specs.Commands.{IsWellFormedCommand}

@@ -4,9 +4,9 @@ use Rattle.std.specs.List.{list_any}
 use Rattle.farm_fixed.specs.declared.records.ChainRule.{ChainRule}
 use Rattle.farm_fixed.specs.declared.records.ChainRule.TheVariants as refusals
 use Rattle.farm_fixed.specs.declared.records.Quantities.{Quantities}
-use Rattle.site_items.specs.Parties.{party_number}
-use Rattle.site_items.specs.declared.records.Tank.{Tank}
-use Rattle.site_keys.specs.Lists.{is_among}
+use Rattle.farm_site.specs.Parties.{party_number}
+use Rattle.farm_site.specs.declared.items.Tank.{Tank}
+use Rattle.farm_site.specs.Numbers.{is_among}
 use Rattle.farm_history.specs.declared.command.Command.{Command}
 use Rattle.farm_history.specs.declared.command.Command.TheVariants.{Opening, Closing, Cancel, Reverse, Settle}
 use Rattle.farm_history.specs.declared.entry.Entry.{Entry}

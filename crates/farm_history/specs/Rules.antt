@@ -5,7 +5,7 @@ use Rattle.std.specs.Int.RustNames.{int_lt}
 use Rattle.std.specs.List.{list_any}
 use Rattle.farm_base.specs.Steps.{or_else}
 use Rattle.farm_fixed.specs.declared.records.Reading.{Reading}
-use Rattle.site_items.specs.declared.records.Tank.{Tank}
+use Rattle.farm_site.specs.declared.items.Tank.{Tank}
 use Rattle.strap_table.specs.Capacity.{top_of}
 use Rattle.farm_history.specs.declared.command.Command.{Command}
 use Rattle.farm_history.specs.declared.entry.Entry.{Entry}

@@ -2,10 +2,10 @@
 use Rattle.std.specs.Prelude.{All, IsTrue, map}
 use Rattle.std.specs.List.Sorted.{IsStrictlyIncreasing}
 use Rattle.farm_site.specs.Described.{Described}
-use Rattle.site_items.specs.Products.{product_number}
-use Rattle.site_items.specs.Tanks.{tank_number}
-use Rattle.site_items.specs.declared.records.Tank.{Tank}
-use Rattle.site_keys.specs.Lists.{is_among}
+use Rattle.farm_site.specs.Products.{product_number}
+use Rattle.farm_site.specs.Tanks.{tank_number}
+use Rattle.farm_site.specs.declared.items.Tank.{Tank}
+use Rattle.farm_site.specs.Numbers.{is_among}
 use Rattle.strap_table.specs.Capacity.{IsCapTable}
 
 -- a tank has a capacity table, and its product is one of the site

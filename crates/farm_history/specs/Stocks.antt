@@ -5,7 +5,7 @@ use Rattle.farm_fixed.specs.declared.records.Quantities.{Quantities}
 use Rattle.farm_stock.specs.Books.{opened, sum_of}
 use Rattle.farm_stock.specs.declared.book.TankBook.{TankBook}
 use Rattle.farm_stock.specs.declared.posting.Posting.{Posting}
-use Rattle.site_items.specs.declared.records.Tank.{Tank}
+use Rattle.farm_site.specs.declared.items.Tank.{Tank}
 use Rattle.farm_history.specs.declared.command.Command.{Command}
 use Rattle.farm_history.specs.declared.command.Command.TheVariants.{Settle}
 use Rattle.farm_history.specs.declared.entry.Entry.{Entry}

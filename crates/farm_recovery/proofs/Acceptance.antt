@@ -13,9 +13,9 @@ use Rattle.farm_history.specs.Decoding.{whole_entry}
 use Rattle.farm_history.specs.History.{History, last_moment}
 use Rattle.farm_history.specs.Verdicts.{IsNext, is_accepted, verdict}
 use Rattle.farm_history.proofs.EntryReader.{entry_found, entry_only}
-use Rattle.farm_site.specs.Decoding.{whole_site}
+use Rattle.site_decoding.specs.Sites.{whole_site}
 use Rattle.farm_site.specs.Described.{Described}
-use Rattle.farm_site.proofs.BytesRead.{PartsAreRead, site_found, site_only}
+use Rattle.site_decoding.proofs.BytesRead.{PartsAreRead, site_found, site_only}
 use Rattle.farm_recovery.specs.Accepting.{accepted_next, is_next, taken_of}
 use Rattle.journaled_book.specs.Histories.{IsRecordable}
 use Rattle.farm_recovery.specs.Recovery.{IsSiteEncoding}

@@ -8,9 +8,9 @@ use Rattle.farm_history.specs.Encoding.{IsTyped, entry_encoding}
 use Rattle.farm_history.specs.History.{History, IsWellFormed}
 use Rattle.farm_history.specs.Verdicts.{IsLegal}
 use Rattle.farm_history.proofs.EntryReader.{entry_only}
-use Rattle.farm_site.specs.Decoding.{whole_site}
-use Rattle.farm_site.specs.Encoding.{site_encoding}
-use Rattle.farm_site.proofs.BytesRead.{PartsAreRead, site_only}
+use Rattle.site_decoding.specs.Sites.{whole_site}
+use Rattle.site_encoding.specs.Encoding.{site_encoding}
+use Rattle.site_decoding.proofs.BytesRead.{PartsAreRead, site_only}
 use Rattle.farm_recovery.specs.Accepting.{after, entries_of, history_with}
 use Rattle.journaled_book.specs.Histories.{IsRecordable, entry_encodings}
 

@@ -11,9 +11,9 @@ use Rattle.farm_history.specs.declared.verdict.Verdict.TheVariants.{Accept}
 use Rattle.farm_history.specs.History.{History, last_place}
 use Rattle.farm_history.specs.Verdicts.{IsNext, IsVerdict}
 use Rattle.farm_history.proofs.Verdicts.{verdicts_mean}
-use Rattle.farm_site.specs.Described.{Described}
-use Rattle.farm_site.specs.Encoding.{IsSite, site_encoding}
-use Rattle.farm_site.proofs.BytesRead.{PartsAreRead}
+use Rattle.farm_site.specs.Described.{Described, IsSite}
+use Rattle.site_encoding.specs.Encoding.{site_encoding}
+use Rattle.site_decoding.proofs.BytesRead.{PartsAreRead}
 use Rattle.farm_recovery.specs.Accepting.{accepted_next, taken_of}
 use Rattle.journaled_book.specs.Histories.{IsRecordable}
 use Rattle.farm_recovery.specs.Recovery.{IsSiteEncoding}

@@ -11,8 +11,8 @@ use Rattle.farm_history.specs.History.{History}
 use Rattle.farm_history.specs.Verdicts.{IsNext}
 use Rattle.farm_journal.specs.Recovery.{Accepts, AreAccepted, IsRecordDamaged, after_signature, counted_in}
 use Rattle.farm_journal.proofs.OneMeaning.{whole_is_not_refused}
-use Rattle.farm_site.specs.Encoding.{site_encoding}
-use Rattle.farm_site.proofs.BytesRead.{PartsAreRead}
+use Rattle.site_encoding.specs.Encoding.{site_encoding}
+use Rattle.site_decoding.proofs.BytesRead.{PartsAreRead}
 use Rattle.farm_recovery.specs.Accepting.{taken_of}
 use Rattle.journaled_book.specs.Histories.{IsRecordable, Recovers, entry_encodings}
 use Rattle.farm_recovery.specs.Laws.{RecoveredIsNotRefused}

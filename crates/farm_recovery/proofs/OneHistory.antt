@@ -4,9 +4,9 @@ use Rattle.farm_history.specs.declared.entry.Entry.{Entry}
 use Rattle.farm_history.specs.Encoding.{entry_encoding}
 use Rattle.farm_history.specs.History.{History}
 use Rattle.farm_journal.proofs.OneMeaning.{one_meaning}
-use Rattle.farm_site.specs.Decoding.{whole_site}
-use Rattle.farm_site.specs.Encoding.{site_encoding}
-use Rattle.farm_site.proofs.BytesRead.{PartsAreRead}
+use Rattle.site_decoding.specs.Sites.{whole_site}
+use Rattle.site_encoding.specs.Encoding.{site_encoding}
+use Rattle.site_decoding.proofs.BytesRead.{PartsAreRead}
 use Rattle.farm_recovery.specs.Accepting.{entries_of, history_with}
 use Rattle.journaled_book.specs.Histories.{IsRecordable, entry_encodings}
 use Rattle.farm_recovery.specs.Laws.{OneHistory}

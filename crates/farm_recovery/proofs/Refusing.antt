@@ -6,7 +6,7 @@ use Rattle.farm_history.specs.History.{History, last_place}
 use Rattle.farm_journal.specs.declared.faults.RecoverFault.{RecoverFault}
 use Rattle.farm_journal.specs.declared.faults.RecoverFault.TheVariants.{NotJournal, Damaged, DiskFault, NoMemory}
 use Rattle.farm_journal.specs.Recovery.{IsDamagedAt as IsJournalDamagedAt, IsHeaderDamaged, IsRecordDamaged, IsRefusal, after_signature, counted_in}
-use Rattle.farm_site.proofs.BytesRead.{PartsAreRead}
+use Rattle.site_decoding.proofs.BytesRead.{PartsAreRead}
 use Rattle.farm_recovery.specs.Accepting.{accepted_next, taken_of}
 use Rattle.journaled_book.specs.Histories.{IsRecordable}
 use Rattle.farm_recovery.specs.Recovery.{IsDamagedAt, IsEntryDamaged, IsRefused, IsSiteDamaged, counting_of}

@@ -6,9 +6,9 @@ use Rattle.farm_history.specs.History.{History, last_moment}
 use Rattle.farm_history.specs.Verdicts.{is_accepted, verdict}
 use Rattle.farm_history.specs.declared.entry.Entry.{Entry}
 use Rattle.farm_journal.specs.Recovery.{Accepts}
-use Rattle.farm_site.specs.Decoding.{whole_site}
+use Rattle.site_decoding.specs.Sites.{whole_site}
 use Rattle.farm_site.specs.Described.{Described}
-use Rattle.farm_site.specs.Encoding.{site_encoding}
+use Rattle.site_encoding.specs.Encoding.{site_encoding}
 use Rattle.site_decoding.specs.declared.fault.SiteBytesFault.{SiteBytesFault}
 use Rattle.journaled_book.specs.Histories.{entry_encodings}
 

@@ -6,8 +6,8 @@ use Rattle.farm_journal.specs.declared.faults.RecoverFault.{RecoverFault}
 use Rattle.farm_journal.specs.declared.faults.RecoverFault.TheVariants.{NotJournal, Damaged, DiskFault, NoMemory}
 use Rattle.farm_journal.specs.Layout.{IsShort, counting}
 use Rattle.farm_journal.specs.Recovery.{IsNotJournal, IsWhole, after_signature, counted_in}
-use Rattle.farm_site.specs.Described.{Described}
-use Rattle.farm_site.specs.Encoding.{IsSite, site_encoding}
+use Rattle.farm_site.specs.Described.{Described, IsSite}
+use Rattle.site_encoding.specs.Encoding.{site_encoding}
 use Rattle.journaled_book.specs.Histories.{IsRecordable, entry_encodings}
 
 -- bytes are those of a site

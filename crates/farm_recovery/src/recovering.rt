@@ -11,8 +11,8 @@ ghost use Rattle.farm_recovery.specs.Recovery.{IsRefused};
 
 use farm_book::{Book, EnterFault};
 use farm_journal::{Taken, Taker};
-use farm_site::{Site, SiteBytesFault};
-use site_decoding::decoding_laws;
+use farm_site::Site;
+use site_decoding::{SiteBytesFault, SiteFromBytes, decoding_laws};
 use std::alloc::Global;
 use std::marker::Model;
 

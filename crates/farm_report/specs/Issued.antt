@@ -1,7 +1,7 @@
 -- The issued capacity tables: the text of the capacity tables of a site's tanks. Levels are in mm, volumes in litres.
 use Rattle.std.specs.Prelude.{ℕ, ◌+◌, ◌*◌, List, [], ◌∷◌, ◌++◌, codes, decimal, flat_map, ℤ}
 use Rattle.std.specs.Fmt.{signed_decimal}
-use Rattle.site_items.specs.declared.records.Tank.{Tank}
+use Rattle.farm_site.specs.declared.items.Tank.{Tank}
 
 -- the line of a row: its level, a blank, its litres
 abbrev pub row_line : ℕ → ℤ → List ℕ

@@ -2,8 +2,8 @@
 
 ghost use Rattle.std.specs.Prelude.{◌*◌, ◌≤◌, length, map, IsTrue};
 ghost use Rattle.farm_base.specs.Appended.{Appends};
-ghost use Rattle.site_items.specs.Tanks.{tank_number};
-ghost use Rattle.site_keys.specs.Lists.{rises};
+ghost use Rattle.farm_site.specs.Tanks.{tank_number};
+ghost use Rattle.farm_site.specs.Numbers.{rises};
 ghost use Rattle.strap_table.specs.declared.faults.TheConstants.{MOST_ROWS};
 ghost use Rattle.text_pieces.specs.Pieces.{Lengthens};
 ghost use Rattle.farm_report.specs.Issued.{issued_text, row_line, rows_from, tank_line, tank_text};

@@ -13,7 +13,8 @@ use Rattle.farm_journal.specs.declared.faults.CreateFault.TheVariants.{NotEmpty,
 use Rattle.farm_ports.specs.Folders.{File}
 use Rattle.site_keys.specs.declared.fault.SiteFault.{SiteFault}
 use Rattle.site_keys.specs.Faults.{Refusal}
-use Rattle.farm_site.specs.Described.{Described, site_of_files}
+use Rattle.farm_site.specs.Described.{Described}
+use Rattle.site_file.specs.Files.{site_of_files}
 use Rattle.run_reports.specs.Limits.{book_limit}
 use Rattle.farm_run.specs.OutputTexts.{text_or_fault}
 use Rattle.run_reports.specs.Reports.{LacksMemory, Output, Says}

@@ -8,7 +8,8 @@ use Rattle.calc_input.specs.declared.refusal.Refused.{Refused}
 use Rattle.calc_input.specs.Answer.{answer_of}
 use Rattle.site_keys.specs.declared.fault.SiteFault.{SiteFault}
 use Rattle.site_keys.specs.Faults.{Refusal, Faulty, Missing}
-use Rattle.farm_site.specs.Described.{Described, site_of_files}
+use Rattle.farm_site.specs.Described.{Described}
+use Rattle.site_file.specs.Files.{site_of_files}
 
 -- the text of figures, or the refusal
 abbrev pub text_of_figures : Result Quantities Refused → Result (List ℕ) Refused

@@ -8,7 +8,7 @@ use Rattle.command_line.specs.declared.commands.Subcommand.TheVariants.{Batch, C
 use Rattle.calc_input.specs.declared.refusal.Refused.{Refused}
 use Rattle.calc_input.specs.RefusedLine.{IsRefusal}
 use Rattle.site_keys.specs.Faults.{IsMissing}
-use Rattle.farm_site.specs.Described.{site_of_files}
+use Rattle.site_file.specs.Files.{site_of_files}
 use Rattle.farm_run.specs.OutputTexts.{calc_of, table_of}
 use Rattle.run_reports.specs.Reports.{EndsWith, Output, Says}
 use Rattle.run_reports.specs.Texts.{no_memory_line, port_fault_line}

@@ -26,8 +26,10 @@ use farm_disk::Disk;
 use farm_fixed::Quantities;
 use farm_ports::{Clock, Folder, PortFault, Sink, Source, read_up_to};
 use farm_report::{figures_text, issued};
-use farm_site::{Site, SiteReadFault};
+use farm_site::Site;
 use run_reports::{Done, deliver, refuse, report_fault, report_no_memory, say};
+use site_file::ReadSite;
+use site_keys::SiteReadFault;
 use std::alloc::Global;
 
 /// Runs the command of the arguments, which isn't `serve`, and answers the status that the program ends with, and the disk.

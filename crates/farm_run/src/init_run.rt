@@ -14,11 +14,13 @@ use boxed_disk::BoxedDisk;
 use farm_desk::{CreateFault, Desk};
 use farm_disk::Disk;
 use farm_ports::{Failed, Folder, Sink};
-use farm_site::{Site, SiteReadFault};
+use farm_site::Site;
 use run_reports::{
     BOOK_LIMIT, DONE, Done, JOURNAL_REFUSED, on_heap, refuse, report_disk_fault, report_fault,
     report_no_memory, say,
 };
+use site_file::ReadSite;
+use site_keys::SiteReadFault;
 use std::alloc::Global;
 
 /// `init`: the site is read whole before the disk's first call.

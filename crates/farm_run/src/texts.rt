@@ -6,7 +6,7 @@ ghost use Rattle.farm_run.specs.Texts.{cause_word, refusal_text, refused_at, sit
 use calc_input::{Cause, Refused};
 use farm_base::NoMemory;
 use farm_fixed::ChainRule;
-use farm_site::SiteFault;
+use site_keys::SiteFault;
 use std::alloc::Global;
 use text_pieces::{Piece, append};
 

@@ -12,7 +12,7 @@ use Rattle.desk_posts.specs.declared.posts.PostEnd.{PostEnd}
 use Rattle.line_posts.specs.Runs.{IsLineRun}
 use Rattle.line_posts.specs.States.{LineState, line_state}
 use Rattle.modbus_poll.specs.Polls.{PollerState, fresh}
-use Rattle.modbus_poll.specs.declared.map.LineMap.{LineMap}
+use Rattle.gauge_maps.specs.declared.map.LineMap.{LineMap}
 use Rattle.desk_turns.specs.Closing.{IsAccessOf}
 use Rattle.desk_turns.specs.Turns.{TurnState, turn_caller}
 use Rattle.boxed_disk.specs.declared.boxed.BoxedDisk.{BoxedDisk}

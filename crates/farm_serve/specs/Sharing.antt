@@ -5,7 +5,7 @@ use Rattle.farm_history.specs.History.{History, last_place}
 use Rattle.farm_listeners.specs.Listeners.{Event}
 use Rattle.farm_ports.specs.declared.links.LinkCall.{LinkCall}
 use Rattle.modbus_poll.specs.Polls.{PollerState, fresh}
-use Rattle.modbus_poll.specs.declared.map.LineMap.{LineMap}
+use Rattle.gauge_maps.specs.declared.map.LineMap.{LineMap}
 use Rattle.farm_desk.specs.States.{Continues, DeskState}
 use Rattle.desk_access.specs.Access.{CallerState}
 use Rattle.desk_posts.specs.Laws.{StandsOn}

@@ -1,7 +1,7 @@
 //! What gauge lines work with, had before any of them begins.
 
 ghost use Rattle.std.specs.Prelude.{◌≡◌, ◌≤◌, All, IsTrue, IfOk, OnOk, length};
-ghost use Rattle.modbus_poll.specs.Maps.{is_line_map};
+ghost use Rattle.gauge_maps.specs.Maps.{is_line_map};
 ghost use Rattle.modbus_poll.specs.Polls.{fresh};
 ghost use Rattle.farm_serve.specs.Callers.{HaveWork, outsides_of};
 ghost use Rattle.farm_serve.specs.Running.{HasLine};

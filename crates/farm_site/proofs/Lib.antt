@@ -1,5 +1,3 @@
 -- The lemmas of `farm_site`, by topic.
-mod RoundingRows
+pub mod TankParts
 pub mod TankFacts
-pub mod Meaning
-pub mod BytesRead

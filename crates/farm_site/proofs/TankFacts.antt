@@ -4,17 +4,16 @@ use Rattle.std.specs.Prelude.{IfSome, if◌then◌else◌, length}
 use Rattle.std.specs.List.{list_all}
 use Rattle.std.proofs.lemmas.Bool.{and_parts, not-true}
 use Rattle.farm_base.proofs.BoolTests.{int_lt-false}
-use Rattle.farm_chain.specs.Reading.{IsFloatingRoof}
+use Rattle.strap_table.specs.Roofs.{IsFloatingRoof}
 use Rattle.farm_fixed.specs.declared.limits.TheConstants.{MOST_ROOF_MASS}
 use Rattle.farm_fixed.specs.Range.{is_within, is_between}
 use Rattle.farm_fixed.proofs.ParsingLaws.{is_within-true}
 use Rattle.strap_table.specs.declared.tank.Roof.{Roof}
-use Rattle.site_keys.specs.Lists.{are_numbered, item_numbered, rises}
-use Rattle.site_items.specs.declared.records.Tank.{Tank}
-use Rattle.site_items.specs.declared.tanks.TheConstants.{MOST_TANKS}
-use Rattle.site_items.specs.Facts.{are_tanks}
-use Rattle.site_items.specs.Shells.{is_roof}
-use Rattle.site_items.specs.Tanks.{is_tank, tank_number}
+use Rattle.farm_site.specs.Numbers.{are_numbered, item_numbered, rises}
+use Rattle.farm_site.specs.declared.items.Tank.{Tank}
+use Rattle.farm_site.specs.declared.limits.TheConstants.{MOST_TANKS}
+use Rattle.farm_site.specs.Facts.{are_tanks}
+use Rattle.farm_site.specs.Tanks.{is_roof, is_tank, tank_number}
 
 -- the first item has the number, or another one has
 passes_here : {A : Type 0} (test : A → Bool) (first item : A) (others : Option A) (has : Bool) → test first ≡ true →

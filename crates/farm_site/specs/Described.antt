@@ -1,23 +1,17 @@
--- The site that files describe, or why they describe none. The files are looked at in the order of this definition.
-use Rattle.std.specs.Prelude.{ℕ, List, map, codes, Option, Result, Ok}
-use Rattle.toml.specs.Data.{Data}
-use Rattle.farm_base.specs.Steps.{◌>>=◌}
-use Rattle.farm_ports.specs.Folders.{File}
-use Rattle.farm_rounding.specs.Table.{Row}
-use Rattle.modbus_poll.specs.declared.map.LineMap.{LineMap}
-use Rattle.site_keys.specs.Faults.{Refusal, found}
-use Rattle.site_keys.specs.Files.{content, toml_of}
-use Rattle.site_keys.specs.Lists.{item_numbered}
-use Rattle.site_items.specs.declared.records.Party.{Party}
-use Rattle.site_items.specs.declared.records.Product.{Product}
-use Rattle.site_items.specs.declared.records.Tank.{Tank}
-use Rattle.site_items.specs.Formats.{format_at}
-use Rattle.site_items.specs.Names.{name_at}
-use Rattle.site_items.specs.Parties.{parties_of}
-use Rattle.site_items.specs.Products.{product_number, products_of}
-use Rattle.site_items.specs.Tanks.{tank_number, tanks_of}
-use Rattle.site_lines.specs.Lines.{lines_of}
-use Rattle.farm_site.specs.Rounding.{rounding_at}
+-- A site as it is described, and what holds of it.
+use Rattle.std.specs.Prelude.{ℕ, All, IsTrue, List, map, Option}
+use Rattle.farm_rounding.specs.Table.{IsTable, Row}
+use Rattle.gauge_maps.specs.declared.map.LineMap.{LineMap}
+use Rattle.farm_site.specs.declared.items.Party.{Party}
+use Rattle.farm_site.specs.declared.items.Product.{Product}
+use Rattle.farm_site.specs.declared.items.Tank.{Tank}
+use Rattle.farm_site.specs.Facts.{are_parties, are_products, are_tanks}
+use Rattle.farm_site.specs.Lines.{are_lines}
+use Rattle.farm_site.specs.Names.{is_name}
+use Rattle.farm_site.specs.Numbers.{item_numbered}
+use Rattle.farm_site.specs.Products.{product_number}
+use Rattle.farm_site.specs.Tanks.{tank_number}
+use Rattle.farm_site.specs.Typed.{IsTypedLine, IsTypedProduct, IsTypedTank}
 
 -- a site, as it is described
 pub record Described : Type 0 where
@@ -28,29 +22,31 @@ pub record Described : Type 0 where
   pub tanks : List Tank
   pub lines : List LineMap
 
--- the site of the keys of a site file
-unfoldable pub site_of_keys : List File → Data → Result Described Refusal
-site_of_keys files top = do
-  format ← found (format_at top)
-  name ← found (name_at 0 top)
-  rounding ← found (rounding_at format top)
-  products ← products_of files top
-  parties ← found (parties_of top)
-  tanks ← tanks_of files format rounding (map product_number products) top
-  lines ← found (lines_of (map tank_number tanks) top)
-  Ok (record { name = name; rounding = rounding; products = products; parties = parties; tanks = tanks; lines = lines })
+-- products that a site may have
+abbrev pub AreProducts : List Product → Type 0
+AreProducts products = IsTrue (are_products products) × All IsTypedProduct products
 
--- the keys of the site file
-unfoldable pub top_of_files : List File → Result Data Refusal
-top_of_files files = do
-  bytes ← content files 0 (codes "site.toml")
-  found (toml_of 0 bytes)
+-- parties that a site may have
+abbrev pub AreParties : List Party → Type 0
+AreParties parties = IsTrue (are_parties parties)
 
--- the site of the files of a folder: the site, or the first fault in them, or the name of the expected file that is missing
-unfoldable pub site_of_files : List File → Result Described Refusal
-site_of_files files = do
-  top ← top_of_files files
-  site_of_keys files top
+-- tanks that a site with these products may have
+abbrev pub AreTanks : List Product → List Tank → Type 0
+AreTanks products tanks = IsTrue (are_tanks (map product_number products) tanks) × All IsTypedTank tanks
+
+-- gauge lines that a site with these tanks may have
+abbrev pub AreLines : List Tank → List LineMap → Type 0
+AreLines tanks lines = IsTrue (are_lines (map tank_number tanks) lines) × All IsTypedLine lines
+
+-- What a site has, in the words of the rule: a name, a rounding table, products, parties, tanks each of one of the products, and gauge
+-- lines whose gauges are on the tanks.
+pub record IsSite (site : Described) : Type 0 where
+  pub named : IsTrue (is_name site.name)
+  pub rounding : IsTable site.rounding
+  pub products_sound : AreProducts site.products
+  pub parties_sound : AreParties site.parties
+  pub tanks_sound : AreTanks site.products site.tanks
+  pub lines_sound : AreLines site.tanks site.lines
 
 -- the first tank with a number
 abbrev pub tank_numbered : ℕ → List Tank → Option Tank

@@ -1,21 +1,30 @@
-//! The site: what a terminal's folder says of its products, parties, tanks and gauge lines.
+//! The site of a terminal: what it stores, for whom, in which tanks, and which gauges it reads.
 //!
-//! `Site::read` reads `site.toml` and the files that it names, and answers the site or the first fault, by code, item and
-//! detail. docs/formats.md has each key, its range and its fault, and the order in which they are looked at; docs/trade.md
-//! says what a site is, under "Site".
+//! A `Site` has facts, public ghost fields that hold of every site. `are_products`, `are_parties`, `are_tanks` and `are_lines` say
+//! whether items may stand in one. How a site comes from files is `site_file`'s, how it is written as bytes and read from them
+//! `site_encoding`'s and `site_decoding`'s. docs/trade.md says what a site is, under "Site".
 #![tactic(auto)]
 
-mod decoding;
-mod encoding;
+mod hosts;
+mod items;
+mod limits;
 mod lists;
+mod names;
 mod number_laws;
-mod rounding;
+mod numbers;
 mod site;
+mod sound;
+mod texts;
 
-pub use encoding::MOST_SITE_BYTES;
+pub use hosts::is_host;
+pub use items::{Party, Product, Tank};
+pub use limits::{
+    GREATEST_NUMBER, LONGEST_NAME, MOST_LINES, MOST_PARTIES, MOST_PRODUCTS, MOST_STOCK, MOST_TANKS,
+};
 pub use lists::{Lines, Parties, Products, Tanks};
+pub use names::{Name, is_name};
 pub use number_laws::defined_numbers;
+pub use numbers::{Numbered, is_among, item_numbered};
 pub use site::Site;
-pub use site_decoding::SiteBytesFault;
-pub use site_items::{Format, Name, Party, Product, Tank};
-pub use site_keys::{SiteFault, SiteReadFault};
+pub use sound::{are_lines, are_parties, are_products, are_tanks};
+pub use texts::is_text;

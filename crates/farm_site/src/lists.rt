@@ -1,8 +1,8 @@
 //! The lists of a site. In a clause each is the list of its items.
 
+use crate::{Party, Product, Tank};
 use farm_base::Items;
-use modbus_poll::LineMap;
-use site_items::{Party, Product, Tank};
+use gauge_maps::LineMap;
 
 /// The products of a site.
 pub type Products = Items<Product>;

@@ -1,11 +1,19 @@
 //! The numbers of the code are those of the definitions.
 
 ghost use Rattle.std.specs.Prelude.{◌≡◌};
-ghost use Rattle.farm_site.specs.Limits.{most_site_bytes};
+ghost use Rattle.farm_site.specs.Limits.{greatest_number, longest_name, most_lines, most_parties, most_products, most_stock, most_tanks};
 
-use crate::encoding::MOST_SITE_BYTES;
+use crate::limits::{
+    GREATEST_NUMBER, LONGEST_NAME, MOST_LINES, MOST_PARTIES, MOST_PRODUCTS, MOST_STOCK, MOST_TANKS,
+};
 
 /// Does nothing: its contract is that each number that the definitions state is the code's.
 pub fn defined_numbers()
-    ensures most_site_bytes { MOST_SITE_BYTES ≡ most_site_bytes }
+    ensures greatest_number { GREATEST_NUMBER ≡ greatest_number }
+    ensures longest_name { LONGEST_NAME ≡ longest_name }
+    ensures most_products { MOST_PRODUCTS ≡ most_products }
+    ensures most_parties { MOST_PARTIES ≡ most_parties }
+    ensures most_tanks { MOST_TANKS ≡ most_tanks }
+    ensures most_lines { MOST_LINES ≡ most_lines }
+    ensures most_stock { MOST_STOCK ≡ most_stock }
 {}

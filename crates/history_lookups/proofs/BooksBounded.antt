@@ -9,9 +9,9 @@ use Rattle.farm_stock.specs.Books.{book_of, plus, tanks_of}
 use Rattle.farm_stock.specs.Postings.{amount_of, at_tank}
 use Rattle.farm_stock.specs.declared.book.TankBook.{TankBook}
 use Rattle.farm_stock.specs.declared.posting.Posting.{Posting}
-use Rattle.site_items.specs.declared.records.Tank.{Tank}
-use Rattle.site_items.specs.Tanks.{tank_number}
-use Rattle.site_keys.specs.Lists.{rises, rises_from}
+use Rattle.farm_site.specs.declared.items.Tank.{Tank}
+use Rattle.farm_site.specs.Tanks.{tank_number}
+use Rattle.farm_site.specs.Numbers.{rises, rises_from}
 use Rattle.farm_history.specs.Conservation.{IsBoundedBook, most_held}
 use Rattle.history_lookups.specs.Bounds.{AreSmallPostings, HoldAtMost, IsAtMost, IsGainOf, most_moved}
 use Rattle.history_lookups.specs.Ledgers.{AreBounded, book_after, books_after, books_with}

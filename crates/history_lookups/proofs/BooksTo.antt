@@ -4,7 +4,7 @@ use Rattle.std.proofs.lemmas.List.{length-take-le}
 use Rattle.farm_site.specs.declared.site.Site.{Site}
 use Rattle.farm_stock.specs.declared.book.TankBook.{TankBook}
 use Rattle.farm_stock.specs.declared.posting.Posting.{Posting}
-use Rattle.site_items.specs.Products.{product_number}
+use Rattle.farm_site.specs.Products.{product_number}
 use Rattle.farm_history.specs.declared.entry.Entry.{Entry}
 use Rattle.farm_history.specs.History.{History, before, entry_at, last_place}
 use Rattle.farm_history.specs.Postings.{posted_at, posted_by, posted_in, postings_of, postings_to}

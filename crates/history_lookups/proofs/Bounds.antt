@@ -10,7 +10,7 @@ use Rattle.farm_stock.proofs.Amounts.{magnitude_of_sum}
 use Rattle.farm_history.specs.Conservation.{IsBoundedBook, most_held}
 use Rattle.farm_history.specs.Postings.{less, opposite}
 use Rattle.farm_history.proofs.PostingSums.{nothing}
-use Rattle.site_items.specs.declared.tanks.TheConstants.{MOST_TANKS}
+use Rattle.farm_site.specs.declared.limits.TheConstants.{MOST_TANKS}
 use Rattle.history_lookups.specs.Bounds.{HoldAtMost, IsAtMost, most_posted}
 
 -- an amount is within a greater bound too

@@ -11,9 +11,9 @@ use Rattle.farm_site.specs.declared.site.Site.{Site}
 use Rattle.farm_stock.specs.Books.{book_of, tanks_of}
 use Rattle.farm_stock.specs.declared.book.TankBook.{TankBook}
 use Rattle.farm_stock.specs.declared.posting.Posting.{Posting}
-use Rattle.site_items.specs.Products.{product_number}
-use Rattle.site_items.specs.declared.records.Tank.{Tank}
-use Rattle.site_keys.specs.Lists.{rises}
+use Rattle.farm_site.specs.Products.{product_number}
+use Rattle.farm_site.specs.declared.items.Tank.{Tank}
+use Rattle.farm_site.specs.Numbers.{rises}
 use Rattle.farm_history.specs.declared.entry.Entry.{Entry}
 use Rattle.farm_history.specs.declared.plan.Gauged.{Gauged}
 use Rattle.farm_history.specs.Conservation.{IsBoundedBook, most_held}

@@ -7,7 +7,7 @@ use Rattle.farm_stock.specs.Postings.{amount_of, at_tank}
 use Rattle.farm_stock.specs.declared.book.TankBook.{TankBook}
 use Rattle.farm_stock.specs.declared.posting.Posting.{Posting}
 use Rattle.farm_stock.proofs.Amounts.{plus_assoc, plus_no_more}
-use Rattle.site_items.specs.declared.records.Tank.{Tank}
+use Rattle.farm_site.specs.declared.items.Tank.{Tank}
 use Rattle.farm_history.specs.Postings.{book_with}
 use Rattle.farm_history.proofs.Books.{book_more}
 use Rattle.farm_history.proofs.PostingSums.{passing_append}

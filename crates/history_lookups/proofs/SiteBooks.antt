@@ -9,13 +9,11 @@ use Rattle.farm_fixed.proofs.ParsingLaws.{is_within-true}
 use Rattle.farm_fixed.specs.Range.{is_between}
 use Rattle.farm_stock.specs.Books.{tanks_of}
 use Rattle.farm_stock.specs.declared.book.TankBook.{TankBook}
-use Rattle.site_keys.specs.Lists.{are_numbered, is_among, rises}
-use Rattle.site_keys.specs.declared.lists.TheConstants.{GREATEST_NUMBER}
-use Rattle.site_items.specs.declared.records.Tank.{Tank}
-use Rattle.site_items.specs.declared.tanks.TheConstants.{MOST_TANKS}
-use Rattle.site_items.specs.Facts.{are_tanks}
-use Rattle.site_items.specs.Shells.{is_spec}
-use Rattle.site_items.specs.Tanks.{is_opening, is_stock, is_tank, tank_number}
+use Rattle.farm_site.specs.Numbers.{are_numbered, is_among, rises}
+use Rattle.farm_site.specs.declared.limits.TheConstants.{GREATEST_NUMBER, MOST_TANKS}
+use Rattle.farm_site.specs.declared.items.Tank.{Tank}
+use Rattle.farm_site.specs.Facts.{are_tanks}
+use Rattle.farm_site.specs.Tanks.{is_spec, is_opening, is_stock, is_tank, tank_number}
 use Rattle.farm_history.specs.Conservation.{IsBoundedBook}
 use Rattle.farm_history.specs.Postings.{book_with}
 use Rattle.farm_stock.specs.declared.posting.Posting.{Posting}

@@ -4,7 +4,7 @@ use Rattle.farm_stock.specs.Books.{plus}
 use Rattle.farm_stock.specs.Postings.{amount_of, at_tank}
 use Rattle.farm_stock.specs.declared.book.TankBook.{TankBook}
 use Rattle.farm_stock.specs.declared.posting.Posting.{Posting}
-use Rattle.site_items.specs.declared.records.Tank.{Tank}
+use Rattle.farm_site.specs.declared.items.Tank.{Tank}
 use Rattle.farm_history.specs.Conservation.{IsBoundedBook}
 use Rattle.farm_history.specs.History.{History, last_place}
 use Rattle.farm_history.specs.Postings.{book_with, postings_to}

@@ -4,13 +4,12 @@ ghost use Rattle.std.specs.Prelude.{◌≡◌, ◌^◌, ◌≤◌, [], length, m
 ghost use Rattle.farm_stock.specs.Books.{book_of, total_of};
 ghost use Rattle.history_lookups.specs.Bounds.{HoldAtMost, IsAtMost, PostAtMost, most_posted};
 ghost use Rattle.history_lookups.specs.Ledgers.{books_after, books_with, listed_postings, posted_to};
-ghost use Rattle.site_items.specs.declared.tanks.TheConstants.{MOST_TANKS};
+ghost use Rattle.farm_site.specs.declared.limits.TheConstants.{MOST_TANKS};
 
 use crate::postings::Posted;
 use farm_fixed::Amount;
-use farm_site::Tank;
+use farm_site::{MOST_TANKS, Tank};
 use farm_stock::{Posting, TankBook, book_of, plus, total_of};
-use site_items::MOST_TANKS;
 use std::marker::Model;
 
 /// The books of tanks, in the order of the tanks. In a clause it is the list of them.
@@ -23,7 +22,7 @@ pub struct Ledger {
 impl Model for Ledger {
     ghost use Rattle.std.specs.Prelude.{◌≤◌, List, take};
     ghost use Rattle.farm_stock.specs.declared.book.TankBook.{TankBook};
-    ghost use Rattle.site_items.specs.declared.tanks.TheConstants.{MOST_TANKS};
+    ghost use Rattle.farm_site.specs.declared.limits.TheConstants.{MOST_TANKS};
 
     ghost Value = { List TankBook };
 

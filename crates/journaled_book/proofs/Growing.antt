@@ -11,7 +11,7 @@ use Rattle.farm_history.proofs.Legal.{with_next}
 use Rattle.farm_history.proofs.TicketsStand.{legal_front}
 use Rattle.farm_journal.specs.Layout.{IsJournalOf}
 use Rattle.farm_journal.specs.Standing.{IsEither}
-use Rattle.farm_site.specs.Encoding.{site_encoding}
+use Rattle.site_encoding.specs.Encoding.{site_encoding}
 use Rattle.journaled_book.specs.Histories.{HasGrown, IsRecordable, Recovers, RecoversAtLeast, RecoversFront, RecoversNow, certain, front_of}
 
 -- a journal that may keep a history may keep its front

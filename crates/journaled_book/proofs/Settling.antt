@@ -9,7 +9,7 @@ use Rattle.farm_history.specs.Verdicts.{IsNext}
 use Rattle.farm_history.specs.declared.entry.Entry.{Entry}
 use Rattle.farm_journal.specs.Standing.{IsAnImage, IsEither, IsKept, JournalState, Stands}
 use Rattle.farm_journal.proofs.Gates.{stands_on_each}
-use Rattle.farm_site.specs.Encoding.{site_encoding}
+use Rattle.site_encoding.specs.Encoding.{site_encoding}
 use Rattle.journaled_book.specs.Histories.{IsRecordable, RecoversFront, RecoversNow, certain, entry_encodings}
 use Rattle.journaled_book.specs.Records.{AreRecords, IsLastPending}
 use Rattle.journaled_book.proofs.Growing.{either_now, encodings_more, more_recordable, now_is_front}

@@ -5,7 +5,8 @@ use Rattle.farm_history.specs.History.{History, last_place, with_entry}
 use Rattle.farm_history.specs.declared.entry.Entry.{Entry}
 use Rattle.farm_history.specs.Verdicts.{IsLegal}
 use Rattle.farm_journal.specs.Layout.{IsJournalOf}
-use Rattle.farm_site.specs.Encoding.{IsSite, site_encoding}
+use Rattle.farm_site.specs.Described.{IsSite}
+use Rattle.site_encoding.specs.Encoding.{site_encoding}
 
 -- the bytes of the entries of a history, in their order
 abbrev pub entry_encodings : History → List (List ℕ)

@@ -7,7 +7,7 @@ use Rattle.farm_history.specs.History.{History, last_place}
 use Rattle.farm_history.specs.Limits.{greatest_limit, most_entry_bytes, stops_beyond_limit}
 use Rattle.farm_history.specs.declared.entry.Entry.{Entry}
 use Rattle.farm_journal.specs.Standing.{JournalState, Stands}
-use Rattle.farm_site.specs.Encoding.{site_encoding}
+use Rattle.site_encoding.specs.Encoding.{site_encoding}
 use Rattle.journaled_book.specs.Histories.{IsRecordable, entry_encodings}
 
 -- The last entry is in doubt: a journal has the entries before it, and its body is pending.

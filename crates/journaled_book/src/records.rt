@@ -8,7 +8,7 @@ ghost use Rattle.farm_history.specs.Encoding.{IsTyped, entry_encoding};
 ghost use Rattle.farm_history.specs.History.{IsWellFormed, last_place, with_entry};
 ghost use Rattle.farm_history.specs.Verdicts.{IsNext};
 ghost use Rattle.farm_journal.specs.Standing.{Stands};
-ghost use Rattle.farm_site.specs.Encoding.{site_encoding};
+ghost use Rattle.site_encoding.specs.Encoding.{site_encoding};
 ghost use Rattle.journaled_book.specs.Histories.{IsRecordable, Recovers, RecoversFront, certain, entry_encodings};
 ghost use Rattle.journaled_book.specs.Records.{AreRecords, IsReady};
 

@@ -2,7 +2,7 @@
 use Rattle.std.proofs.Common.{◌≡◌, ◌∙◌, ◌↔◌, ℕ, Bool, true, false, None, Some, refl, sym, subst}
 use Rattle.modbus_poll.specs.Deadbands.{IsDue}
 use Rattle.modbus_poll.specs.Polls.{IsGaugeAt, PollerState, index_of, last_of}
-use Rattle.modbus_poll.specs.declared.map.GaugeMap.{GaugeMap}
+use Rattle.gauge_maps.specs.declared.map.GaugeMap.{GaugeMap}
 use Rattle.modbus_poll.specs.declared.polled.Polled.{Polled}
 use Rattle.modbus_poll.specs.declared.polled.Polled.TheVariants.{Value, NotValid, Exception, Wrong, LinkFault}
 use Rattle.modbus_poll.specs.declared.raw.Raw.{Raw}

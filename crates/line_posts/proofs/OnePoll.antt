@@ -5,8 +5,8 @@ use Rattle.farm_history.specs.declared.ask.Ask.{Ask}
 use Rattle.journaled_book.specs.declared.answer.Answer.{Answer}
 use Rattle.modbus_poll.specs.Deadbands.{IsDue}
 use Rattle.modbus_poll.specs.Polls.{IsGaugeAt, IsPoll, PollerState, index_of, last_of, with_submitted}
-use Rattle.modbus_poll.specs.declared.map.GaugeMap.{GaugeMap}
-use Rattle.modbus_poll.specs.declared.map.LineMap.{LineMap}
+use Rattle.gauge_maps.specs.declared.map.GaugeMap.{GaugeMap}
+use Rattle.gauge_maps.specs.declared.map.LineMap.{LineMap}
 use Rattle.modbus_poll.specs.declared.polled.Polled.{Polled}
 use Rattle.modbus_poll.specs.declared.polled.Polled.TheVariants.{Value}
 use Rattle.modbus_poll.specs.declared.raw.Raw.{Raw}

@@ -7,8 +7,8 @@ use Rattle.std.specs.List.{All, cons_option, filter_map, last_or}
 use Rattle.std.specs.Prelude.{IfSome, IsSome, option_map}
 use Rattle.modbus_poll.specs.Deadbands.{IsDue}
 use Rattle.modbus_poll.specs.Polls.{IsGaugeAt, PollerState, fresh, index_of, last_of}
-use Rattle.modbus_poll.specs.declared.map.GaugeMap.{GaugeMap}
-use Rattle.modbus_poll.specs.declared.map.LineMap.{LineMap}
+use Rattle.gauge_maps.specs.declared.map.GaugeMap.{GaugeMap}
+use Rattle.gauge_maps.specs.declared.map.LineMap.{LineMap}
 use Rattle.modbus_poll.specs.declared.polled.Polled.{Polled}
 use Rattle.modbus_poll.specs.declared.polled.Polled.TheVariants.{Value, NotValid, Exception, Wrong, LinkFault}
 use Rattle.modbus_poll.specs.declared.raw.Raw.{Raw}

@@ -2,8 +2,8 @@
 use Rattle.std.specs.Prelude.{◌≡◌, ◌↔◌, ℕ, ◌+◌, ◌==◌, All, if◌then◌else◌, List, [], ◌∷◌, ◌++◌, flat_map, map, Option, None, Some, option_map, IfSome, IsSome}
 use Rattle.std.specs.List.{filter_map, last_or}
 use Rattle.farm_ports.specs.declared.links.LinkCall.{LinkCall}
-use Rattle.modbus_poll.specs.declared.map.GaugeMap.{GaugeMap}
-use Rattle.modbus_poll.specs.declared.map.LineMap.{LineMap}
+use Rattle.gauge_maps.specs.declared.map.GaugeMap.{GaugeMap}
+use Rattle.gauge_maps.specs.declared.map.LineMap.{LineMap}
 use Rattle.modbus_poll.specs.declared.polled.Polled.{Polled}
 use Rattle.modbus_poll.specs.declared.polled.Polled.TheVariants.{Value, NotValid, Exception, Wrong, LinkFault}
 use Rattle.modbus_poll.specs.declared.raw.Raw.{Raw}

@@ -8,7 +8,7 @@ use Rattle.journaled_book.specs.declared.answer.Answer.{Answer}
 use Rattle.modbus_poll.specs.declared.raw.Raw.{Raw}
 use Rattle.modbus_poll.specs.Deadbands.{IsDue}
 use Rattle.modbus_poll.specs.Polls.{IsGaugeAt, PollerState, index_of, last_of}
-use Rattle.modbus_poll.specs.declared.map.GaugeMap.{GaugeMap}
+use Rattle.gauge_maps.specs.declared.map.GaugeMap.{GaugeMap}
 use Rattle.modbus_poll.specs.declared.polled.Polled.{Polled}
 use Rattle.modbus_poll.specs.declared.polled.Polled.TheVariants.{Value}
 use Rattle.desk_access.specs.Access.{CallerState, IsAsked}

@@ -1,7 +1,7 @@
 //! A gauge line that is polled.
 
 ghost use Rattle.std.specs.Prelude.{◌≡◌, IfOk, IsTrue};
-ghost use Rattle.modbus_poll.specs.Maps.{is_line_map};
+ghost use Rattle.gauge_maps.specs.Maps.{is_line_map};
 ghost use Rattle.modbus_poll.specs.Polls.{fresh};
 
 use farm_base::NoMemory;
@@ -20,7 +20,7 @@ pub struct GaugeLine {
 
 impl Model for GaugeLine {
     ghost use Rattle.std.specs.Prelude.{◌≡◌, ◌≤◌, length};
-    ghost use Rattle.modbus_poll.specs.Limits.{most_gauges};
+    ghost use Rattle.gauge_maps.specs.Limits.{most_gauges};
     ghost use Rattle.modbus_poll.specs.Polls.{PollerState};
 
     ghost Value = { PollerState };

@@ -7,12 +7,12 @@ use Rattle.std.proofs.lemmas.Bool.Decides.{nat_tests}
 use Rattle.std.proofs.lemmas.List.Folds.{list_all_at}
 use Rattle.farm_fixed.specs.Range.{is_within, is_between}
 use Rattle.farm_fixed.specs.declared.limits.TheConstants.{LEAST_TEMPERATURE, MOST_TEMPERATURE}
-use Rattle.modbus_poll.specs.declared.map.Field.{Field}
-use Rattle.modbus_poll.specs.declared.map.GaugeMap.{GaugeMap}
-use Rattle.modbus_poll.specs.declared.map.LineMap.{LineMap}
-use Rattle.modbus_poll.specs.declared.map.Valid.{Valid}
+use Rattle.gauge_maps.specs.declared.map.Field.{Field}
+use Rattle.gauge_maps.specs.declared.map.GaugeMap.{GaugeMap}
+use Rattle.gauge_maps.specs.declared.map.LineMap.{LineMap}
+use Rattle.gauge_maps.specs.declared.map.Valid.{Valid}
 use Rattle.modbus_poll.specs.Decoding.{IsScaled}
-use Rattle.modbus_poll.specs.Maps.{is_field, is_field_or_none, is_gauge_map, is_host, is_line_map, is_valid_or_none}
+use Rattle.gauge_maps.specs.Maps.{is_field, is_field_or_none, is_gauge_map, is_host, is_line_map, is_valid_or_none}
 
 -- what the code rests on
 pub record IsGauge (gauge : GaugeMap) : Type 0 where

@@ -8,7 +8,7 @@ use Rattle.modbus_frame.specs.declared.expect.Expect.{Expect}
 use Rattle.modbus_frame.specs.declared.frame.Frame.{Frame}
 use Rattle.modbus_frame.specs.Fields.{IsDecided}
 use Rattle.modbus_frame.specs.Requests.{request_frame}
-use Rattle.modbus_poll.specs.declared.map.GaugeMap.{GaugeMap}
+use Rattle.gauge_maps.specs.declared.map.GaugeMap.{GaugeMap}
 use Rattle.modbus_poll.specs.declared.polled.Polled.{Polled}
 use Rattle.modbus_poll.specs.declared.polled.Polled.TheVariants.{LinkFault}
 use Rattle.modbus_poll.specs.Pieces.{IsAnswered, IsUnanswered, StopsSending, received, sent}

@@ -1,7 +1,7 @@
 -- Whether a reading differs enough from the last submitted to be submitted.
 use Rattle.std.specs.Prelude.{◌≡◌, ◌⊎◌, ◌≤◌, ◌||◌, nat_le, Bool, true, Option, Some, None}
 use Rattle.farm_fixed.specs.Range.{distance}
-use Rattle.modbus_poll.specs.declared.map.GaugeMap.{GaugeMap}
+use Rattle.gauge_maps.specs.declared.map.GaugeMap.{GaugeMap}
 use Rattle.modbus_poll.specs.declared.raw.Raw.{Raw}
 
 -- the level or the water differs from the last submitted by at least the deadband

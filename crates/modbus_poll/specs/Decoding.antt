@@ -3,10 +3,10 @@ use Rattle.std.specs.Prelude.{ℕ, ◌^◌, ◌+◌, ◌*◌, ◌≤◌, ◌==�
 use Rattle.std.specs.Int.{bit_at, cast_signed, w16, w32}
 use Rattle.farm_rounding.specs.declared.mode.Mode.TheVariants.{HalfAway}
 use Rattle.farm_rounding.specs.Multiple.{nearest_multiple}
-use Rattle.modbus_poll.specs.Limits.{most_multiplier}
-use Rattle.modbus_poll.specs.declared.map.Field.{Field}
-use Rattle.modbus_poll.specs.declared.map.GaugeMap.{GaugeMap}
-use Rattle.modbus_poll.specs.declared.map.Valid.{Valid}
+use Rattle.gauge_maps.specs.Limits.{most_multiplier}
+use Rattle.gauge_maps.specs.declared.map.Field.{Field}
+use Rattle.gauge_maps.specs.declared.map.GaugeMap.{GaugeMap}
+use Rattle.gauge_maps.specs.declared.map.Valid.{Valid}
 use Rattle.modbus_poll.specs.declared.raw.Raw.{Raw}
 
 -- the register at an offset, 0 past the last

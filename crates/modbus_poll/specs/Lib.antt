@@ -1,6 +1,4 @@
 -- The definitions of `modbus_poll`, by subject.
-pub mod Limits
-pub mod Maps
 pub mod Decoding
 pub mod Deadbands
 pub mod Pieces

@@ -9,13 +9,13 @@ use Rattle.modbus_frame.specs.declared.frame.Frame.{Frame}
 use Rattle.modbus_frame.specs.declared.frame.Frame.TheVariants as frame
 use Rattle.modbus_frame.specs.Fields.{IsDecided, frame_answer}
 use Rattle.modbus_frame.specs.Requests.{request_frame}
-use Rattle.modbus_poll.specs.declared.map.GaugeMap.{GaugeMap}
-use Rattle.modbus_poll.specs.declared.map.LineMap.{LineMap}
+use Rattle.gauge_maps.specs.declared.map.GaugeMap.{GaugeMap}
+use Rattle.gauge_maps.specs.declared.map.LineMap.{LineMap}
 use Rattle.modbus_poll.specs.declared.polled.Polled.{Polled}
 use Rattle.modbus_poll.specs.declared.polled.Polled.TheVariants.{Value, NotValid, Exception, Wrong, LinkFault}
 use Rattle.modbus_poll.specs.declared.raw.Raw.{Raw}
 use Rattle.modbus_poll.specs.Decoding.{is_valid, raw_reading}
-use Rattle.modbus_poll.specs.Maps.{is_line_map}
+use Rattle.gauge_maps.specs.Maps.{is_line_map}
 use Rattle.modbus_poll.specs.Pieces.{IsPartlySent, IsSent, ReceivesAsNeeded, received, sent}
 
 -- what a poller keeps: its line, the index of the gauge whose turn is next, the number of the next transaction, whether it is connected,

@@ -3,7 +3,7 @@
 ghost use Rattle.std.specs.Prelude.{◌≡◌, IsTrue, OnOk};
 ghost use Rattle.farm_base.specs.Counts.{HasCause};
 ghost use Rattle.modbus_frame.specs.Requests.{IsExpect};
-ghost use Rattle.modbus_poll.specs.Maps.{is_gauge_map};
+ghost use Rattle.gauge_maps.specs.Maps.{is_gauge_map};
 ghost use Rattle.modbus_poll.specs.Pieces.{Exchanges};
 ghost use Rattle.modbus_poll.specs.Polls.{expect_of};
 

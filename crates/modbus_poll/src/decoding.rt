@@ -3,7 +3,7 @@
 ghost use Rattle.std.specs.Prelude.{◌≡◌, ◌<◌, ◌≤◌, ◌^◌, ◌==◌, false, IfSome, IsTrue};
 ghost use Rattle.std.specs.Int.RustNames.{unsigned_abs};
 ghost use Rattle.modbus_poll.specs.Decoding.{IsScaled, is_valid, number_of, quantity_of, quantity_or, raw_of, raw_reading, register_at, signed_number, two_words};
-ghost use Rattle.modbus_poll.specs.Maps.{is_gauge_map};
+ghost use Rattle.gauge_maps.specs.Maps.{is_gauge_map};
 
 use crate::{Field, GaugeMap, Raw, Valid};
 use farm_rounding::{Mode, nearest, product};

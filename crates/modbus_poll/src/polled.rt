@@ -1,7 +1,7 @@
 //! What a poll answers.
 
 ghost use Rattle.std.specs.Prelude.{◌≡◌, IsTrue};
-ghost use Rattle.modbus_poll.specs.Maps.{is_gauge_map};
+ghost use Rattle.gauge_maps.specs.Maps.{is_gauge_map};
 ghost use Rattle.modbus_poll.specs.Polls.{keeps_connection, polled_of, valued};
 
 use crate::decoding::{is_valid, raw_reading};

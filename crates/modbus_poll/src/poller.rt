@@ -2,9 +2,9 @@
 
 ghost use Rattle.std.specs.Prelude.{◌≡◌, ◌↔◌, ◌<◌, ◌≤◌, false, true, length, IfOk, IsTrue, OnOk};
 ghost use Rattle.farm_base.specs.Counts.{HasCause, Rose};
-ghost use Rattle.modbus_poll.specs.declared.map.GaugeMap.{GaugeMap};
+ghost use Rattle.gauge_maps.specs.declared.map.GaugeMap.{GaugeMap};
 ghost use Rattle.modbus_poll.specs.Deadbands.{IsDue, is_due};
-ghost use Rattle.modbus_poll.specs.Maps.{is_gauge_map, is_line_map};
+ghost use Rattle.gauge_maps.specs.Maps.{is_gauge_map, is_line_map};
 ghost use Rattle.modbus_poll.specs.Polls.{Asks, ConnectsFirst, IsGaugeAt, IsLinkFault, IsSound, Polls, fresh, keeps_connection, last_of, number_after, index_after, index_of, with_submitted};
 
 use crate::asking::{exchange, expect_of};

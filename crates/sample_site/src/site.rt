@@ -1,11 +1,13 @@
 //! The row site itself.
 
 ghost use Rattle.std.specs.Prelude.{◌≡◌, IfOk, Ok};
-ghost use Rattle.farm_site.specs.Described.{site_of_files};
+ghost use Rattle.site_file.specs.Files.{site_of_files};
 ghost use Rattle.sample_site.specs.Files.{row_files};
 
 use crate::files::row_folder;
-use farm_site::{Site, SiteReadFault};
+use farm_site::Site;
+use site_file::ReadSite;
+use site_keys::SiteReadFault;
 use std::alloc::Global;
 
 /// The site that the files describe.

@@ -3,12 +3,12 @@ use Rattle.std.proofs.Common.{◌≡◌, ℕ, zero, suc, ◌+◌, ◌^◌, ◌<�
 use Rattle.std.specs.Prelude.{IfSome}
 use Rattle.std.specs.Int.{w16, w32, to_be_bytes}
 use Rattle.std.specs.Int.RustNames.{FitsSigned}
-use Rattle.modbus_poll.specs.declared.map.Field.{Field}
-use Rattle.modbus_poll.specs.declared.map.GaugeMap.{GaugeMap}
-use Rattle.modbus_poll.specs.declared.map.LineMap.{LineMap}
-use Rattle.modbus_poll.specs.declared.map.Valid.{Valid}
+use Rattle.gauge_maps.specs.declared.map.Field.{Field}
+use Rattle.gauge_maps.specs.declared.map.GaugeMap.{GaugeMap}
+use Rattle.gauge_maps.specs.declared.map.LineMap.{LineMap}
+use Rattle.gauge_maps.specs.declared.map.Valid.{Valid}
 use Rattle.site_decoding.specs.declared.decoding.gauges.Fields.{Fields}
-use Rattle.site_lines.specs.declared.gauges.Request.{Request}
+use Rattle.gauge_maps.specs.declared.request.Request.{Request}
 use Rattle.site_decoding.specs.Decoding.{field_at, fields_at, flags_at, gauge_at, gauge_of, line_at, request_at, valid_at}
 use Rattle.site_encoding.specs.Encoding.{field_bytes, flag_byte, gauge_bytes, line_bytes, option_bytes, short_list_bytes, signed_bytes, text_bytes, valid_bytes}
 use Rattle.site_decoding.specs.Readers.{IsReader}

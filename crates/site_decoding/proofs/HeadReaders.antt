@@ -1,7 +1,6 @@
 -- The readers of names, of rounding tables and of the head of a site.
 use Rattle.std.proofs.Common.{◌≡◌, ℕ, ◌-◌, ◌^◌, ◌<◌, ◌≤◌, ◌==◌, Bool, true, false, List, [], ◌∷◌, ◌++◌, length, get_or, Option, Some, None, ◌+◌, refl, sym, ap, subst, arith}
-use Rattle.std.specs.Prelude.{is_none}
-use Rattle.std.specs.Prelude.{All, IsTrue}
+use Rattle.std.specs.Prelude.{is_none, All, IsTrue}
 use Rattle.std.specs.List.{flat_map, list_all}
 use Rattle.std.proofs.lemmas.Bool.{eqb-true}
 use Rattle.std.proofs.lemmas.Bool.Decides.{nat_tests}
@@ -13,7 +12,7 @@ use Rattle.farm_rounding.specs.declared.mode.Mode.TheVariants.{HalfAway, TowardZ
 use Rattle.farm_rounding.specs.Multiple.{is_step}
 use Rattle.farm_rounding.specs.Table.{IsTable, Row, first_bad_row, row_at as row_of_table}
 use Rattle.farm_rounding.proofs.Rows.{first_bad_of, table_from_rows}
-use Rattle.site_items.specs.Names.{is_name}
+use Rattle.farm_site.specs.Names.{is_name}
 use Rattle.site_decoding.specs.ByteReaders.{made_at, flag_at}
 use Rattle.site_decoding.specs.Decoding.{head_at, mode_of, name_at, row_at, rounding_at}
 use Rattle.site_encoding.specs.Encoding.{flag_byte, mode_byte, row_bytes, text_bytes}

@@ -9,3 +9,4 @@ mod GaugeReaders
 mod LineReaders
 mod Counted
 mod Grids
+pub mod BytesRead

@@ -10,23 +10,21 @@ use Rattle.farm_base.proofs.BoolTests.{and_parts, leb-true, ltb-true}
 use Rattle.farm_fixed.specs.Range.{is_within, is_between}
 use Rattle.farm_fixed.proofs.ParsingLaws.{is_within-true}
 use Rattle.farm_fixed.specs.declared.limits.TheConstants.{LEAST_TEMPERATURE, MOST_TEMPERATURE}
-use Rattle.modbus_poll.specs.declared.map.Field.{Field}
-use Rattle.modbus_poll.specs.declared.map.GaugeMap.{GaugeMap}
-use Rattle.modbus_poll.specs.declared.map.LineMap.{LineMap}
-use Rattle.modbus_poll.specs.declared.map.Valid.{Valid}
-use Rattle.modbus_poll.specs.Maps.{is_field, is_field_or_none, is_gauge_map, is_graphic, is_host, is_line_map, is_valid_or_none}
-use Rattle.site_items.specs.declared.records.Tank.{Tank}
-use Rattle.site_items.specs.Facts.{are_tanks}
-use Rattle.site_items.specs.Shells.{is_spec}
-use Rattle.site_items.specs.Tanks.{is_opening, is_tank, tank_number}
-use Rattle.site_keys.specs.Lists.{are_numbered, is_among}
-use Rattle.site_lines.specs.Gauges.{are_distinct, are_gauged, tanks_gauged}
-use Rattle.site_lines.specs.Lines.{all_gauged, are_lines}
+use Rattle.gauge_maps.specs.declared.map.Field.{Field}
+use Rattle.gauge_maps.specs.declared.map.GaugeMap.{GaugeMap}
+use Rattle.gauge_maps.specs.declared.map.LineMap.{LineMap}
+use Rattle.gauge_maps.specs.declared.map.Valid.{Valid}
+use Rattle.gauge_maps.specs.Maps.{is_field, is_field_or_none, is_gauge_map, is_graphic, is_host, is_line_map, is_valid_or_none}
+use Rattle.farm_site.specs.declared.items.Tank.{Tank}
+use Rattle.farm_site.specs.Facts.{are_tanks}
+use Rattle.farm_site.specs.Tanks.{is_spec, is_opening, is_tank, tank_number}
+use Rattle.farm_site.specs.Numbers.{are_numbered, is_among}
+use Rattle.farm_site.specs.Lines.{are_distinct, are_gauged, tanks_gauged, all_gauged, are_lines}
 use Rattle.site_decoding.specs.Decoding.{lines_at}
 use Rattle.site_encoding.specs.Encoding.{line_bytes, short_list_bytes}
-use Rattle.site_decoding.specs.Parts.{AreLines}
+use Rattle.farm_site.specs.Described.{AreLines}
 use Rattle.site_decoding.specs.Readers.{IsReader}
-use Rattle.site_encoding.specs.Typed.{IsTypedGauge, IsTypedLine}
+use Rattle.farm_site.specs.Typed.{IsTypedGauge, IsTypedLine}
 use Rattle.site_decoding.proofs.ListReaders.{all_as, all_cons, all_head, all_tail, short_list_reader}
 use Rattle.site_decoding.proofs.ProductReaders.{number_small, numbered_sound}
 use Rattle.site_decoding.proofs.TankReaders.{among_small}

@@ -9,18 +9,18 @@ use Rattle.farm_base.proofs.BoolTests.{and_parts, leb-true}
 use Rattle.farm_fixed.specs.Range.{IsWithin, is_between}
 use Rattle.farm_fixed.specs.declared.limits.TheConstants.{LEAST_DENSITY, LEAST_FACTOR, LEAST_TEMPERATURE, MOST_DENSITY, MOST_FACTOR, MOST_TEMPERATURE}
 use Rattle.farm_vcf.specs.Grid.{Grid, grid_from}
-use Rattle.site_items.specs.declared.records.Party.{Party}
-use Rattle.site_items.specs.declared.records.Product.{Product}
-use Rattle.site_items.specs.Facts.{are_parties, are_products}
-use Rattle.site_items.specs.Names.{is_name}
-use Rattle.site_items.specs.Parties.{is_party, party_number}
-use Rattle.site_items.specs.Products.{is_product, product_number}
-use Rattle.site_keys.specs.Lists.{are_numbered, rises}
+use Rattle.farm_site.specs.declared.items.Party.{Party}
+use Rattle.farm_site.specs.declared.items.Product.{Product}
+use Rattle.farm_site.specs.Facts.{are_parties, are_products}
+use Rattle.farm_site.specs.Names.{is_name}
+use Rattle.farm_site.specs.Parties.{is_party, party_number}
+use Rattle.farm_site.specs.Products.{is_product, product_number}
+use Rattle.farm_site.specs.Numbers.{are_numbered, rises}
 use Rattle.site_decoding.specs.Decoding.{grid_at, is_grid, parties_at, party_at, product_at, products_at}
 use Rattle.site_encoding.specs.Encoding.{grid_bytes, list_bytes, natural_bytes, party_bytes, product_bytes, short_list_bytes, signed_bytes, text_bytes}
-use Rattle.site_decoding.specs.Parts.{AreParties, AreProducts}
+use Rattle.farm_site.specs.Described.{AreParties, AreProducts}
 use Rattle.site_decoding.specs.Readers.{IsReader}
-use Rattle.site_encoding.specs.Typed.{IsTypedGrid, IsTypedProduct}
+use Rattle.farm_site.specs.Typed.{IsTypedGrid, IsTypedProduct}
 use Rattle.site_decoding.proofs.Grids.{is_grid-from, is_grid-true}
 use Rattle.site_decoding.proofs.HeadReaders.{name_length}
 use Rattle.site_decoding.proofs.ListReaders.{AreCounted, AreListed, all_as, counted_reader, list_reader, short_list_reader}

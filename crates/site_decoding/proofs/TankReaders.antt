@@ -1,7 +1,6 @@
 -- The reader of tanks.
 use Rattle.std.proofs.Common.{◌≡◌, ℕ, ◌^◌, ◌<◌, ◌&&◌, ◌==◌, nat_le, Bool, true, false, List, [], ◌∷◌, ◌++◌, length, get_or, map, Option, Some, None, refl, subst, append_assoc, ℤ, pos, negsuc, arith}
-use Rattle.std.specs.Prelude.{is_none}
-use Rattle.std.specs.Prelude.{IfSome, IsTrue}
+use Rattle.std.specs.Prelude.{is_none, IfSome, IsTrue}
 use Rattle.std.specs.Int.{w16, w32, w64, to_be_bytes}
 use Rattle.std.specs.Int.RustNames.{FitsSigned}
 use Rattle.std.specs.List.{list_all}
@@ -14,15 +13,14 @@ use Rattle.farm_fixed.specs.declared.records.Shell.{Shell}
 use Rattle.farm_fixed.specs.Range.{IsWithin, is_within, is_between}
 use Rattle.farm_fixed.proofs.ParsingLaws.{is_within-true}
 use Rattle.farm_fixed.specs.declared.limits.TheConstants.{LEAST_TEMPERATURE, MOST_HEIGHT, MOST_TEMPERATURE}
-use Rattle.site_items.specs.declared.records.Product.{Product}
-use Rattle.site_items.specs.declared.records.Tank.{Tank}
-use Rattle.site_items.specs.Facts.{are_products, are_tanks}
-use Rattle.site_items.specs.Products.{is_product, product_number}
-use Rattle.site_items.specs.Names.{is_name}
-use Rattle.site_items.specs.Shells.{is_roof, is_spec}
-use Rattle.site_items.specs.Tanks.{is_opening, is_stock, is_tank, tank_number}
-use Rattle.site_items.proofs.TankParts.{coefficient_within, product_there, roof_is, spec_is}
-use Rattle.site_keys.specs.Lists.{are_numbered, is_among}
+use Rattle.farm_site.specs.declared.items.Product.{Product}
+use Rattle.farm_site.specs.declared.items.Tank.{Tank}
+use Rattle.farm_site.specs.Facts.{are_products, are_tanks}
+use Rattle.farm_site.specs.Products.{is_product, product_number}
+use Rattle.farm_site.specs.Names.{is_name}
+use Rattle.farm_site.specs.Tanks.{is_roof, is_spec, is_opening, is_stock, is_tank, tank_number}
+use Rattle.farm_site.proofs.TankParts.{coefficient_within, product_there, roof_is, spec_is}
+use Rattle.farm_site.specs.Numbers.{are_numbered, is_among}
 use Rattle.strap_table.specs.declared.faults.TableFault.{TableFault}
 use Rattle.strap_table.specs.declared.tank.Roof.{Roof}
 use Rattle.strap_table.specs.declared.tank.TankSpec.{TankSpec}
@@ -32,9 +30,9 @@ use Rattle.strap_table.proofs.FirstFault.{fault_is, no_fault}
 use Rattle.strap_table.proofs.Rows.{table_from_rows}
 use Rattle.site_decoding.specs.Decoding.{amount_at, roof_at, shell_at, spec_at, table_at, tank_at, tanks_at}
 use Rattle.site_encoding.specs.Encoding.{amount_bytes, flag_byte, list_bytes, natural_bytes, option_bytes, roof_bytes, shell_bytes, short_list_bytes, signed_bytes, tank_bytes}
-use Rattle.site_decoding.specs.Parts.{AreTanks}
+use Rattle.farm_site.specs.Described.{AreTanks}
 use Rattle.site_decoding.specs.Readers.{IsReader}
-use Rattle.site_encoding.specs.Typed.{IsTypedRoof, IsTypedTank}
+use Rattle.farm_site.specs.Typed.{IsTypedRoof, IsTypedTank}
 use Rattle.site_decoding.proofs.ListReaders.{AreListed, all_as, list_reader, option_reader, short_list_reader}
 use Rattle.site_decoding.proofs.NumberReaders.{IsNatural, flag_reader, height_reader, natural_reader, natural_within, number16_reader, signed64_reader, temperature_reader, wide16, wide32}
 use Rattle.site_decoding.proofs.ProductReaders.{items_fit, number_small, numbered_sound}

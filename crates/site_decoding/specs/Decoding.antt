@@ -12,25 +12,25 @@ use Rattle.farm_rounding.specs.declared.mode.Mode.TheVariants.{HalfAway, TowardZ
 use Rattle.farm_rounding.specs.RowNumbers.{rounding_rows}
 use Rattle.farm_rounding.specs.Table.{Row, first_bad_row}
 use Rattle.farm_vcf.specs.Grid.{Grid, grid_from, is_full}
-use Rattle.modbus_poll.specs.declared.map.Field.{Field}
-use Rattle.modbus_poll.specs.declared.map.GaugeMap.{GaugeMap}
-use Rattle.modbus_poll.specs.declared.map.LineMap.{LineMap}
-use Rattle.modbus_poll.specs.declared.map.Valid.{Valid}
-use Rattle.site_items.specs.declared.records.Party.{Party}
-use Rattle.site_items.specs.declared.records.Product.{Product}
-use Rattle.site_items.specs.declared.records.Tank.{Tank}
-use Rattle.site_items.specs.Facts.{are_parties, are_products, are_tanks}
-use Rattle.site_items.specs.Names.{is_name}
-use Rattle.site_items.specs.Products.{product_number}
-use Rattle.site_items.specs.Tanks.{tank_number}
-use Rattle.site_lines.specs.Lines.{are_lines}
+use Rattle.gauge_maps.specs.declared.map.Field.{Field}
+use Rattle.gauge_maps.specs.declared.map.GaugeMap.{GaugeMap}
+use Rattle.gauge_maps.specs.declared.map.LineMap.{LineMap}
+use Rattle.gauge_maps.specs.declared.map.Valid.{Valid}
+use Rattle.farm_site.specs.declared.items.Party.{Party}
+use Rattle.farm_site.specs.declared.items.Product.{Product}
+use Rattle.farm_site.specs.declared.items.Tank.{Tank}
+use Rattle.farm_site.specs.Facts.{are_parties, are_products, are_tanks}
+use Rattle.farm_site.specs.Names.{is_name}
+use Rattle.farm_site.specs.Products.{product_number}
+use Rattle.farm_site.specs.Tanks.{tank_number}
+use Rattle.farm_site.specs.Lines.{are_lines}
 use Rattle.strap_table.specs.declared.tank.Roof.{Roof}
 use Rattle.strap_table.specs.declared.tank.TankSpec.{TankSpec}
 use Rattle.strap_table.specs.Faults.{first_fault}
 use Rattle.site_encoding.specs.Limits.{format_byte}
 use Rattle.site_decoding.specs.ByteReaders.{Reader, then_at, ◌▸◌, made_at, tested_at, byte_at, byte_up_to, flag_at, number_at, natural_at, signed_at, text_at, option_at, counted_at, short_list_at, list_at}
 use Rattle.site_decoding.specs.declared.decoding.gauges.Fields.{Fields}
-use Rattle.site_lines.specs.declared.gauges.Request.{Request}
+use Rattle.gauge_maps.specs.declared.request.Request.{Request}
 
 -- The head.
 

@@ -3,3 +3,4 @@ pub mod ByteReaders
 pub mod Decoding
 pub mod Readers
 pub mod Parts
+pub mod Sites

@@ -1,22 +1,17 @@
 -- The five parts of a site, and what each is read as.
-use Rattle.std.specs.Prelude.{ℕ, All, IsTrue, List, ◌∷◌, ◌++◌, map}
+use Rattle.std.specs.Prelude.{ℕ, IsTrue, List, ◌∷◌, ◌++◌}
 use Rattle.std.specs.Int.{w16}
 use Rattle.std.specs.List.{flat_map}
 use Rattle.farm_rounding.specs.Table.{IsTable, Row}
-use Rattle.modbus_poll.specs.declared.map.LineMap.{LineMap}
-use Rattle.site_items.specs.declared.records.Party.{Party}
-use Rattle.site_items.specs.declared.records.Product.{Product}
-use Rattle.site_items.specs.declared.records.Tank.{Tank}
-use Rattle.site_items.specs.Facts.{are_parties, are_products, are_tanks}
-use Rattle.site_items.specs.Names.{is_name}
-use Rattle.site_items.specs.Products.{product_number}
-use Rattle.site_items.specs.Tanks.{tank_number}
-use Rattle.site_lines.specs.Lines.{are_lines}
+use Rattle.farm_site.specs.declared.items.Product.{Product}
+use Rattle.farm_site.specs.declared.items.Tank.{Tank}
+use Rattle.farm_site.specs.Facts.{are_products, are_tanks}
+use Rattle.farm_site.specs.Names.{is_name}
 use Rattle.site_encoding.specs.Limits.{format_byte}
 use Rattle.site_decoding.specs.Decoding.{head_at, lines_at, parties_at, products_at, tanks_at}
 use Rattle.site_encoding.specs.Encoding.{line_bytes, list_bytes, party_bytes, product_bytes, row_bytes, short_list_bytes, tank_bytes, text_bytes}
 use Rattle.site_decoding.specs.Readers.{IsReader}
-use Rattle.site_encoding.specs.Typed.{IsTypedLine, IsTypedProduct, IsTypedTank}
+use Rattle.farm_site.specs.Described.{AreLines, AreParties, AreProducts, AreTanks}
 
 -- a head has a name and a rounding table
 abbrev pub IsHead : List ℕ × List Row → Type 0
@@ -25,22 +20,6 @@ IsHead head = IsTrue (is_name head.0) × IsTable head.1
 -- the bytes of a head: the format, the name and the rounding table
 abbrev pub head_bytes : List ℕ × List Row → List ℕ
 head_bytes head = (format_byte ∷ text_bytes head.0) ++ flat_map row_bytes head.1
-
--- products that a site may have
-abbrev pub AreProducts : List Product → Type 0
-AreProducts products = IsTrue (are_products products) × All IsTypedProduct products
-
--- parties that a site may have
-abbrev pub AreParties : List Party → Type 0
-AreParties parties = IsTrue (are_parties parties)
-
--- tanks that a site with these products may have
-abbrev pub AreTanks : List Product → List Tank → Type 0
-AreTanks products tanks = IsTrue (are_tanks (map product_number products) tanks) × All IsTypedTank tanks
-
--- gauge lines that a site with these tanks may have
-abbrev pub AreLines : List Tank → List LineMap → Type 0
-AreLines tanks lines = IsTrue (are_lines (map tank_number tanks) lines) × All IsTypedLine lines
 
 -- the head is read from its bytes and from no others
 abbrev pub HeadsAreRead : Type 0

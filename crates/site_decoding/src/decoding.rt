@@ -13,12 +13,11 @@ mod tanks;
 
 use crate::SiteBytesFault;
 use crate::SiteBytesFault::BadSite;
-use crate::sound::{are_lines, are_parties, are_products, are_tanks};
 use farm_rounding::RoundTable;
+use farm_site::{Name, Party, Product, Tank, are_lines, are_parties, are_products, are_tanks};
+use gauge_maps::LineMap;
 use heads::{format_at, name_at, rounding_at};
 use lists::{list16_at, short_list_at};
-use modbus_poll::LineMap;
-use site_items::{Name, Party, Product, Tank};
 use std::alloc::Global;
 
 /// The name of a site and its rounding table, after the byte of its format.

@@ -32,3 +32,11 @@ impl<T: Drop> From<AllocFailed<T>> for SiteBytesFault {
         SiteBytesFault::NoMemory
     }
 }
+
+impl From<farm_base::NoMemory> for SiteBytesFault {
+    ghost from_gives = { λ _ fault. fault ≡ NoMemory };
+
+    fn from(_: farm_base::NoMemory) -> Self {
+        SiteBytesFault::NoMemory
+    }
+}

@@ -7,16 +7,15 @@ use Rattle.std.proofs.lemmas.List.Sums.{AllPass-from_list_all}
 use Rattle.farm_fixed.proofs.ParsingLaws.{is_within-true}
 use Rattle.farm_fixed.specs.declared.limits.TheConstants.{LEAST_TEMPERATURE, MOST_COEFFICIENT, MOST_ROOF_MASS, MOST_TEMPERATURE}
 use Rattle.farm_fixed.specs.Range.{is_within, is_between}
-use Rattle.modbus_poll.specs.declared.map.GaugeMap.{GaugeMap}
-use Rattle.modbus_poll.specs.declared.map.LineMap.{LineMap}
-use Rattle.modbus_poll.specs.Maps.{is_gauge_map, is_line_map}
+use Rattle.gauge_maps.specs.declared.map.GaugeMap.{GaugeMap}
+use Rattle.gauge_maps.specs.declared.map.LineMap.{LineMap}
+use Rattle.gauge_maps.specs.Maps.{is_gauge_map, is_line_map}
 use Rattle.strap_table.specs.declared.tank.Roof.{Roof}
-use Rattle.site_items.specs.declared.records.Tank.{Tank}
-use Rattle.site_items.specs.Facts.{are_tanks}
-use Rattle.site_items.specs.Shells.{is_roof}
-use Rattle.site_items.specs.Tanks.{is_tank}
-use Rattle.modbus_poll.specs.declared.limits.TheConstants.{LONGEST_HOST, MOST_GAUGES}
-use Rattle.site_lines.specs.Lines.{are_lines}
+use Rattle.farm_site.specs.declared.items.Tank.{Tank}
+use Rattle.farm_site.specs.Facts.{are_tanks}
+use Rattle.farm_site.specs.Tanks.{is_roof, is_tank}
+use Rattle.gauge_maps.specs.declared.limits.TheConstants.{LONGEST_HOST, MOST_GAUGES}
+use Rattle.farm_site.specs.Lines.{are_lines}
 use Rattle.site_encoding.specs.Sizes.{IsGaugeInRange, IsLineInRange, IsRoofWithMass, IsTankInRange}
 
 -- a roof of a site has a mass

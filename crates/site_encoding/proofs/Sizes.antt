@@ -5,7 +5,7 @@ use Rattle.std.specs.List.{flat_map}
 use Rattle.std.proofs.lemmas.List.Concat.{flat_map-cons}
 use Rattle.farm_rounding.specs.Table.{Row}
 use Rattle.farm_vcf.specs.Grid.{Grid}
-use Rattle.site_items.specs.declared.records.Tank.{Tank}
+use Rattle.farm_site.specs.declared.items.Tank.{Tank}
 use Rattle.site_encoding.specs.Encoding.{amount_bytes, grid_bytes, natural_bytes, option_bytes, roof_bytes, row_bytes, shell_bytes, signed_bytes, tank_bytes}
 
 -- items of one length each have that length times their number

@@ -1,4 +1,4 @@
--- The bytes of the items of a site. Numbers of several bytes are high byte first, signed ones in two's complement.
+-- The bytes of a site and of its items. Numbers of several bytes are high byte first, signed ones in two's complement.
 use Rattle.std.specs.Prelude.{ℕ, ◌+◌, Bool, true, false, List, [], ◌∷◌, ◌++◌, length, Option, Some, None, ℤ}
 use Rattle.std.specs.Int.{Width, cast_unsigned, to_be_bytes, w16, w32, w64}
 use Rattle.std.specs.Int.RustNames.{unsigned_abs}
@@ -9,14 +9,16 @@ use Rattle.farm_rounding.specs.declared.mode.Mode.{Mode}
 use Rattle.farm_rounding.specs.declared.mode.Mode.TheVariants.{HalfAway, TowardZero}
 use Rattle.farm_rounding.specs.Table.{Row}
 use Rattle.farm_vcf.specs.Grid.{Grid}
-use Rattle.modbus_poll.specs.declared.map.Field.{Field}
-use Rattle.modbus_poll.specs.declared.map.GaugeMap.{GaugeMap}
-use Rattle.modbus_poll.specs.declared.map.LineMap.{LineMap}
-use Rattle.modbus_poll.specs.declared.map.Valid.{Valid}
-use Rattle.site_items.specs.declared.records.Party.{Party}
-use Rattle.site_items.specs.declared.records.Product.{Product}
-use Rattle.site_items.specs.declared.records.Tank.{Tank}
+use Rattle.gauge_maps.specs.declared.map.Field.{Field}
+use Rattle.gauge_maps.specs.declared.map.GaugeMap.{GaugeMap}
+use Rattle.gauge_maps.specs.declared.map.LineMap.{LineMap}
+use Rattle.gauge_maps.specs.declared.map.Valid.{Valid}
+use Rattle.farm_site.specs.declared.items.Party.{Party}
+use Rattle.farm_site.specs.declared.items.Product.{Product}
+use Rattle.farm_site.specs.declared.items.Tank.{Tank}
 use Rattle.strap_table.specs.declared.tank.Roof.{Roof}
+use Rattle.farm_site.specs.Described.{Described}
+use Rattle.site_encoding.specs.Limits.{format_byte}
 
 -- a number that isn't below 0
 abbrev pub natural_bytes : Width → ℤ → List ℕ
@@ -115,3 +117,9 @@ gauge_bytes gauge =
 -- a line: its host, its port and its gauges
 unfoldable pub line_bytes : LineMap → List ℕ
 line_bytes line = text_bytes line.host ++ to_be_bytes w16 line.port ++ short_list_bytes gauge_bytes line.gauges
+
+-- the bytes of a site: their format, its name, how figures are rounded, its products, parties, tanks and gauge lines
+unfoldable pub site_encoding : Described → List ℕ
+site_encoding site =
+    format_byte ∷ text_bytes site.name ++ flat_map row_bytes site.rounding ++ short_list_bytes product_bytes site.products
+    ++ list_bytes w16 party_bytes site.parties ++ short_list_bytes tank_bytes site.tanks ++ short_list_bytes line_bytes site.lines

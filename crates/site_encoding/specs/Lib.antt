@@ -3,4 +3,3 @@ pub mod Limits
 pub mod Encoding
 pub mod Buffers
 pub mod Sizes
-pub mod Typed

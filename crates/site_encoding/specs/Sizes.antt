@@ -3,13 +3,13 @@ use Rattle.std.specs.Prelude.{ℕ, ◌+◌, ◌*◌, ◌≤◌, All, IfSome, len
 use Rattle.farm_fixed.specs.Range.{IsWithin}
 use Rattle.farm_fixed.specs.Limits.{least_temperature, most_coefficient, most_roof_mass, most_temperature}
 use Rattle.farm_vcf.specs.Limits.{most_factors}
-use Rattle.modbus_poll.specs.declared.map.GaugeMap.{GaugeMap}
-use Rattle.modbus_poll.specs.declared.map.LineMap.{LineMap}
-use Rattle.site_items.specs.Limits.{longest_name}
-use Rattle.site_items.specs.declared.records.Party.{Party}
-use Rattle.site_items.specs.declared.records.Product.{Product}
-use Rattle.site_items.specs.declared.records.Tank.{Tank}
-use Rattle.modbus_poll.specs.Limits.{longest_host, most_gauges}
+use Rattle.gauge_maps.specs.declared.map.GaugeMap.{GaugeMap}
+use Rattle.gauge_maps.specs.declared.map.LineMap.{LineMap}
+use Rattle.farm_site.specs.Limits.{longest_name}
+use Rattle.farm_site.specs.declared.items.Party.{Party}
+use Rattle.farm_site.specs.declared.items.Product.{Product}
+use Rattle.farm_site.specs.declared.items.Tank.{Tank}
+use Rattle.gauge_maps.specs.Limits.{longest_host, most_gauges}
 use Rattle.strap_table.specs.Limits.{most_rows}
 use Rattle.strap_table.specs.declared.tank.Roof.{Roof}
 

@@ -10,9 +10,10 @@ use Rattle.farm_fixed.specs.Range.{is_between}
 use Rattle.site_keys.specs.declared.codes.TheConstants.{REPEATED, TOO_MANY}
 use Rattle.site_keys.specs.declared.fault.SiteFault.{SiteFault}
 use Rattle.site_keys.specs.Faults.{bad, found}
-use Rattle.site_keys.specs.declared.lists.TheConstants.{GREATEST_NUMBER}
+use Rattle.farm_site.specs.declared.limits.TheConstants.{GREATEST_NUMBER}
 use Rattle.site_keys.specs.Keys.{array_or_none, natural_at}
-use Rattle.site_keys.specs.Lists.{EachReadsAs, list_at, numbered_from, own_number, is_among, index_among, placed}
+use Rattle.site_keys.specs.Lists.{EachReadsAs, list_at, numbered_from, own_number, index_among, placed}
+use Rattle.farm_site.specs.Numbers.{is_among}
 
 -- the first of two steps went well, and the second on what it gave
 pub both_went : {A B E : Type 0} (first : Result A E) (next : A → Result B E) (b : B) → (first >>= next) ≡ Ok b →

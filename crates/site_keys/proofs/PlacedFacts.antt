@@ -12,7 +12,8 @@ use Rattle.std.specs.Prelude.{Result}
 use Rattle.toml.specs.Data.{Data}
 use Rattle.toml.specs.View.{view}
 use Rattle.toml.specs.declared.value.Value.{Value}
-use Rattle.site_keys.specs.Lists.{are_numbered, is_among, numbered_from, index_among, placed, rises, rises_from}
+use Rattle.farm_site.specs.Numbers.{are_numbered, is_among, rises, rises_from}
+use Rattle.site_keys.specs.Lists.{numbered_from, index_among, placed}
 use Rattle.site_keys.proofs.Steps.{one_more}
 
 -- a number that is neither less than another nor the same is greater

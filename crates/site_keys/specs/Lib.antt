@@ -4,5 +4,4 @@ pub mod Codes
 pub mod Faults
 pub mod Keys
 pub mod Lists
-pub mod Texts
 pub mod Files

@@ -1,15 +1,16 @@
 -- Lists of tables: their lengths, items of their own number, and items one after another.
-use Rattle.std.specs.Prelude.{◌≡◌, ℕ, ◌+◌, ◌==◌, ◌&&◌, Bool, true, IsTrue, nat_lt, if◌then◌else◌, List, [], ◌∷◌, ◌++◌, length, map, take, drop, codes, Option, Some, None, Result, Ok, ℤ, pos}
+use Rattle.std.specs.Prelude.{◌≡◌, ℕ, ◌+◌, IsTrue, nat_lt, if◌then◌else◌, List, [], ◌∷◌, ◌++◌, length, map, take, drop, codes, Result, Ok, ℤ, pos}
 use Rattle.std.specs.Int.RustNames.{unsigned_abs}
-use Rattle.std.specs.List.{list_all, list_any}
+use Rattle.std.specs.List.{list_any}
 use Rattle.std.specs.List.Sorted.{IsPermutation}
 use Rattle.std.specs.Ordering.{int_eq}
 use Rattle.toml.specs.Data.{Data}
 use Rattle.farm_base.specs.Steps.{◌>>=◌}
 use Rattle.farm_fixed.specs.Range.{is_between}
+use Rattle.farm_site.specs.Limits.{greatest_number}
+use Rattle.farm_site.specs.Numbers.{is_among, rises}
 use Rattle.site_keys.specs.Codes.{code_of_repeated, code_of_too_many, code_of_unknown}
 use Rattle.site_keys.specs.declared.fault.SiteFault.{SiteFault}
-use Rattle.site_keys.specs.Limits.{greatest_number}
 use Rattle.site_keys.specs.Faults.{bad}
 use Rattle.site_keys.specs.Keys.{array_or_none, integer_at, natural_at}
 
@@ -46,15 +47,6 @@ numbered_from number read item done (value ∷ values) = do
   next ← read done item value
   numbered_from number read (item + 1) (placed number next done) values
 
--- a number is among others
-abbrev pub is_among : ℕ → List ℕ → Bool
-is_among n numbers = list_any (λ other. other == n) numbers
-
--- the first item with a number
-abbrev pub item_numbered : {A : Type 0} → (A → ℕ) → ℕ → List A → Option A
-item_numbered number n [] = None
-item_numbered number n (item ∷ items) = if number item == n then Some item else item_numbered number n items
-
 -- the number of an item, which no earlier one has
 unfoldable pub own_number : List ℕ → ℕ → Data → Result ℕ SiteFault
 own_number earlier item keys = do
@@ -70,20 +62,6 @@ unfoldable pub reference_at : ℕ → Data → List ℕ → List ℕ → Result 
 reference_at item keys key numbers = do
   value ← integer_at item keys key
   known item numbers value
-
--- numbers rise, each greater than the one before
-abbrev pub rises_from : ℕ → List ℕ → Bool
-rises_from before [] = true
-rises_from before (n ∷ numbers) = nat_lt before n && rises_from n numbers
-
--- Whether numbers rise, each greater than the one before it.
-abbrev pub rises : List ℕ → Bool
-rises [] = true
-rises (n ∷ numbers) = rises_from n numbers
-
--- each item is sound, and their numbers rise
-abbrev pub are_numbered : {A : Type 0} → (A → ℕ) → (A → Bool) → List A → Bool
-are_numbered number is_sound items = list_all is_sound items && rises (map number items)
 
 -- each value, by its number from n on, reads as its item
 abbrev pub EachReadsAs : {A E : Type 0} → (ℕ → Data → Result A E) → ℕ → List Data → List A → Type 0

@@ -10,15 +10,10 @@ mod files;
 mod keys;
 mod lists;
 mod number_laws;
-mod texts;
 
 pub use codes::{FACTORS, FIELD, RANGE, REPEATED, STRAP, TABLE, TEXT, TOO_LONG, TOO_MANY, UNKNOWN};
 pub use fault::{SiteFault, SiteReadFault, bad, bad_at};
 pub use files::{content, toml_of};
 pub use keys::Keys;
-pub use lists::{
-    GREATEST_NUMBER, Numbered, is_among, item_numbered, list_at, own_number, put_by_number,
-    reference,
-};
+pub use lists::{list_at, own_number, put_by_number, reference};
 pub use number_laws::defined_numbers;
-pub use texts::is_text;

@@ -1,27 +1,16 @@
-//! Lists of tables, and items that have a number of their own, in rising order of it.
+//! Lists of tables, and items in rising order of their own numbers.
 
-ghost use Rattle.std.specs.Prelude.{◌≡◌, ◌≤◌, ◌↔◌, ℕ, length, map, option_map, MatchResult, IfOk, IfErr, IfSome, IsNone, IsTrue, IsFalse, Ok, Err};
-ghost use Rattle.site_keys.specs.Lists.{is_among, item_numbered, known, list_at, own_number, index_among, placed, reference_at};
+ghost use Rattle.std.specs.Prelude.{◌≡◌, ◌≤◌, length, map, MatchResult, IfOk, IfErr, IsTrue, IsFalse, Ok, Err};
+ghost use Rattle.farm_site.specs.Numbers.{is_among};
+ghost use Rattle.site_keys.specs.Lists.{known, list_at, own_number, index_among, placed, reference_at};
 ghost use Rattle.site_keys.specs.declared.fault.SiteReadFault.TheVariants.{NoMemory};
 ghost use Rattle.toml.specs.View.{view};
 
 use crate::codes::{REPEATED, TOO_MANY, UNKNOWN};
 use crate::keys::Keys;
 use crate::{SiteFault, SiteReadFault, bad};
+use farm_site::{GREATEST_NUMBER, Numbered, is_among};
 use toml::Value;
-
-/// An item's number is from 1 up to this.
-pub const GREATEST_NUMBER: u32 = 65_535;
-
-/// An item that has a number.
-pub trait Numbered {
-    /// Its number.
-    ghost numbered: { Self → ℕ };
-
-    /// Its number.
-    fn number(&self) -> u16
-        ensures numbered { result ≡ numbered self.now };
-}
 
 /// The values of a list of the site file, of which there are from `least` to `most`; none where the list is missing.
 #[tactic(auto, unfolding(crate::specs::Lists::list_at))]
@@ -41,18 +30,6 @@ pub fn list_at<'a>(
         return Err(bad(TOO_MANY, 0));
     }
     Ok(values)
-}
-
-/// Whether an item has this number.
-pub fn is_among<T: Numbered>(number: u16, items: &[T]) -> bool
-    ensures among { result ≡ is_among number (map T.numbered items.now) }
-{
-    for item in items {
-        if item.number() == number {
-            return true;
-        }
-    }
-    false
 }
 
 /// The number that a table gives its item, which no earlier item has.
@@ -90,20 +67,6 @@ fn known<T: Numbered>(item: u32, items: &[T], value: i64) -> Result<u16, SiteFau
         }
     }
     Err(bad(UNKNOWN, item))
-}
-
-/// The item with a number. `None` exactly where no item has it.
-pub fn item_numbered<T: Numbered>(number: u16, items: &[T]) -> Option<&T>
-    ensures item { option_map (λ item. item.now) result ≡ item_numbered T.numbered number items.now }
-    ensures number { IfSome result (λ item. T.numbered item.now ≡ number) }
-    ensures none { IsNone result ↔ IsFalse (is_among number (map T.numbered items.now)) }
-{
-    for found in items {
-        if found.number() == number {
-            return Some(found);
-        }
-    }
-    None
 }
 
 /// Puts an item among others in rising order of their numbers, before the first that has a greater one.

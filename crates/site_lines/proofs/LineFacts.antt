@@ -8,11 +8,12 @@ use Rattle.std.proofs.lemmas.List.{append_assoc, append-nil, drop_more, map-appe
 use Rattle.std.proofs.lemmas.List.Folds.{list_all-append, list_any-append}
 use Rattle.toml.specs.View.{view}
 use Rattle.toml.specs.declared.value.Value.{Value}
-use Rattle.modbus_poll.specs.declared.map.GaugeMap.{GaugeMap}
-use Rattle.modbus_poll.specs.declared.map.LineMap.{LineMap}
-use Rattle.site_keys.specs.Lists.{is_among}
-use Rattle.site_lines.specs.Gauges.{are_distinct, are_gauged, gauge_of, gauges_from, tanks_gauged}
-use Rattle.site_lines.specs.Lines.{all_gauged, line_of, lines_from}
+use Rattle.gauge_maps.specs.declared.map.GaugeMap.{GaugeMap}
+use Rattle.gauge_maps.specs.declared.map.LineMap.{LineMap}
+use Rattle.farm_site.specs.Numbers.{is_among}
+use Rattle.farm_site.specs.Lines.{are_distinct, are_gauged, tanks_gauged, all_gauged}
+use Rattle.site_lines.specs.Gauges.{gauge_of, gauges_from}
+use Rattle.site_lines.specs.Lines.{line_of, lines_from}
 
 -- each passes, and one more
 pub all_more : {A : Type 0} (test : A → Bool) (items : List A) (item : A) → list_all test items ≡ true → test item ≡ true →

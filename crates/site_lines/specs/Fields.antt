@@ -4,9 +4,9 @@ use Rattle.std.specs.Str.{bytes_eq}
 use Rattle.farm_base.specs.Steps.{◌>>=◌}
 use Rattle.toml.specs.Data.{Data, get, as_bool}
 use Rattle.modbus_frame.specs.Limits.{most_quantity}
-use Rattle.modbus_poll.specs.Limits.{highest_bit, most_multiplier, most_words}
-use Rattle.modbus_poll.specs.declared.map.Field.{Field}
-use Rattle.modbus_poll.specs.declared.map.Valid.{Valid}
+use Rattle.gauge_maps.specs.Limits.{highest_bit, most_multiplier, most_words}
+use Rattle.gauge_maps.specs.declared.map.Field.{Field}
+use Rattle.gauge_maps.specs.declared.map.Valid.{Valid}
 use Rattle.site_keys.specs.Codes.{code_of_range}
 use Rattle.site_keys.specs.declared.fault.SiteFault.{SiteFault}
 use Rattle.site_keys.specs.Faults.{bad, needed, ranged}

@@ -1,19 +1,20 @@
 -- The gauges of a line: what is asked of the device, and which registers are a tank's level and temperatures.
-use Rattle.std.specs.Prelude.{ℕ, ◌+◌, ◌-◌, ◌&&◌, Bool, true, not, nat_le, if◌then◌else◌, List, [], ◌∷◌, ◌++◌, map, codes, Result, Ok, ℤ}
-use Rattle.std.specs.List.{list_all}
+use Rattle.std.specs.Prelude.{ℕ, ◌+◌, ◌-◌, ◌&&◌, Bool, nat_le, if◌then◌else◌, List, [], ◌∷◌, ◌++◌, codes, Result, Ok, ℤ}
 use Rattle.farm_base.specs.Steps.{◌>>=◌}
 use Rattle.toml.specs.Data.{Data, get}
 use Rattle.farm_fixed.specs.Range.{is_between}
 use Rattle.farm_fixed.specs.Limits.{least_temperature, most_temperature}
 use Rattle.modbus_frame.specs.Limits.{least_quantity, most_quantity, read_holding_registers, read_input_registers}
-use Rattle.modbus_poll.specs.Limits.{greatest_unit, most_deadband, register_count}
-use Rattle.modbus_poll.specs.declared.map.GaugeMap.{GaugeMap}
+use Rattle.gauge_maps.specs.Limits.{greatest_unit, most_deadband, register_count}
+use Rattle.gauge_maps.specs.declared.map.GaugeMap.{GaugeMap}
 use Rattle.site_keys.specs.Codes.{code_of_repeated}
 use Rattle.site_keys.specs.declared.fault.SiteFault.{SiteFault}
 use Rattle.site_keys.specs.Faults.{bad, ranged}
 use Rattle.site_keys.specs.Keys.{has, natural_at, natural_or, whole_at}
-use Rattle.site_keys.specs.Lists.{is_among, reference_at}
-use Rattle.site_lines.specs.declared.gauges.Request.{Request}
+use Rattle.farm_site.specs.Numbers.{is_among}
+use Rattle.site_keys.specs.Lists.{reference_at}
+use Rattle.farm_site.specs.Lines.{tanks_gauged}
+use Rattle.gauge_maps.specs.declared.request.Request.{Request}
 use Rattle.site_lines.specs.Limits.{usual_ambient, usual_deadband_centi, usual_deadband_mm}
 use Rattle.site_lines.specs.Fields.{field_at, field_or_none, valid_or_none}
 
@@ -85,22 +86,9 @@ gauge_of item tanks gauged keys = do
     deadband_centi = deadbands.1;
   })
 
--- the tanks that gauges are on
-abbrev pub tanks_gauged : List GaugeMap → List ℕ
-tanks_gauged gauges = map (λ (gauge : GaugeMap). gauge.tank) gauges
-
 -- the gauges of a line, after gauges of earlier lines on these tanks
 abbrev pub gauges_from : ℕ → List ℕ → List ℕ → List GaugeMap → List Data → Result (List GaugeMap) SiteFault
 gauges_from item tanks gauged done [] = Ok done
 gauges_from item tanks gauged done (keys ∷ others) = do
   gauge ← gauge_of item tanks (gauged ++ tanks_gauged done) keys
   gauges_from item tanks gauged (done ++ gauge ∷ []) others
-
--- no number stands twice
-abbrev pub are_distinct : List ℕ → Bool
-are_distinct [] = true
-are_distinct (n ∷ numbers) = not (is_among n numbers) && are_distinct numbers
-
--- each of these is one of the site's tanks, and none stands twice
-abbrev pub are_gauged : List ℕ → List ℕ → Bool
-are_gauged tanks gauged = list_all (λ tank. is_among tank tanks) gauged && are_distinct gauged

@@ -12,7 +12,3 @@ usual_deadband_mm = 1
 -- the deadband of the temperature where a gauge's table doesn't say it, in 0.01 C
 abbrev pub usual_deadband_centi : ℕ
 usual_deadband_centi = 5
-
--- a site has at most this many gauge lines
-abbrev pub most_lines : ℕ
-most_lines = 16

@@ -1,17 +1,17 @@
 -- The gauge lines of a site: devices, by their hosts and ports, and the gauges that each has.
-use Rattle.std.specs.Prelude.{ℕ, ◌+◌, ◌&&◌, Bool, nat_le, List, [], ◌∷◌, ◌++◌, length, codes, Result, Ok}
-use Rattle.std.specs.List.{list_all}
+use Rattle.std.specs.Prelude.{ℕ, ◌+◌, List, [], ◌∷◌, ◌++◌, codes, Result, Ok}
 use Rattle.farm_base.specs.Steps.{◌>>=◌}
 use Rattle.toml.specs.Data.{Data}
-use Rattle.modbus_poll.specs.Limits.{greatest_port, most_gauges}
-use Rattle.modbus_poll.specs.Maps.{is_host, is_line_map}
-use Rattle.modbus_poll.specs.declared.map.LineMap.{LineMap}
+use Rattle.gauge_maps.specs.Limits.{greatest_port, most_gauges}
+use Rattle.gauge_maps.specs.Maps.{is_host}
+use Rattle.gauge_maps.specs.declared.map.LineMap.{LineMap}
 use Rattle.site_keys.specs.declared.fault.SiteFault.{SiteFault}
 use Rattle.site_keys.specs.Faults.{ranged}
 use Rattle.site_keys.specs.Keys.{natural_at, text_at}
 use Rattle.site_keys.specs.Lists.{list_at}
-use Rattle.site_lines.specs.Limits.{most_lines}
-use Rattle.site_lines.specs.Gauges.{are_gauged, gauges_from, tanks_gauged}
+use Rattle.farm_site.specs.Limits.{most_lines}
+use Rattle.site_lines.specs.Gauges.{gauges_from}
+use Rattle.farm_site.specs.Lines.{tanks_gauged}
 
 -- a host
 unfoldable pub host_at : ℕ → Data → Result (List ℕ) SiteFault
@@ -28,21 +28,12 @@ line_of item tanks gauged keys = do
   gauges ← gauges_from item tanks gauged [] tables
   Ok (record { host = host; port = port; gauges = gauges })
 
--- the tanks that lines have gauges on
-abbrev pub all_gauged : List LineMap → List ℕ
-all_gauged [] = []
-all_gauged (line ∷ lines) = tanks_gauged line.gauges ++ all_gauged lines
-
 -- the lines, each with its number, after others
 abbrev pub lines_from : List ℕ → ℕ → List ℕ → List LineMap → List Data → Result (List LineMap) SiteFault
 lines_from tanks item gauged done [] = Ok done
 lines_from tanks item gauged done (keys ∷ others) = do
   line ← line_of item tanks gauged keys
   lines_from tanks (item + 1) (gauged ++ tanks_gauged line.gauges) (done ++ line ∷ []) others
-
--- at most 16 lines; each gauge is on one of these tanks, and no two are on one
-abbrev pub are_lines : List ℕ → List LineMap → Bool
-are_lines tanks lines = nat_le (length lines) most_lines && list_all is_line_map lines && are_gauged tanks (all_gauged lines)
 
 -- the lines, at most 16
 unfoldable pub lines_of : List ℕ → Data → Result (List LineMap) SiteFault

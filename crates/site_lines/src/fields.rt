@@ -3,11 +3,11 @@
 ghost use Rattle.std.specs.Prelude.{◌≡◌, codes, IfOk, Some, IsTrue};
 ghost use Rattle.toml.specs.Data.{get};
 ghost use Rattle.toml.specs.View.{view};
-ghost use Rattle.modbus_poll.specs.Maps.{is_field, is_field_or_none, is_valid_or_none};
+ghost use Rattle.gauge_maps.specs.Maps.{is_field, is_field_or_none, is_valid_or_none};
 ghost use Rattle.site_lines.specs.Fields.{field_at, field_of, field_or_none, order_at, signed_at, valid_of, valid_or_none, word_order};
 
+use gauge_maps::{Field, HIGHEST_BIT, MOST_MULTIPLIER, MOST_WORDS, Valid};
 use modbus_frame::MOST_QUANTITY;
-use modbus_poll::{Field, HIGHEST_BIT, MOST_MULTIPLIER, MOST_WORDS, Valid};
 use site_keys::{FIELD, Keys, RANGE, SiteFault, bad};
 
 /// A field at a key.

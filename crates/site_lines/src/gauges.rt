@@ -6,18 +6,20 @@ ghost use Rattle.toml.specs.View.{view};
 ghost use Rattle.farm_fixed.specs.Range.{is_within, is_between};
 ghost use Rattle.farm_fixed.specs.declared.limits.TheConstants.{LEAST_TEMPERATURE, MOST_TEMPERATURE};
 ghost use Rattle.modbus_frame.specs.declared.expect.TheConstants.{LEAST_QUANTITY, MOST_QUANTITY};
-ghost use Rattle.modbus_poll.specs.declared.limits.TheConstants.{MOST_DEADBAND, REGISTERS};
-ghost use Rattle.modbus_poll.specs.Maps.{is_gauge_map};
+ghost use Rattle.gauge_maps.specs.declared.limits.TheConstants.{MOST_DEADBAND, REGISTERS};
+ghost use Rattle.gauge_maps.specs.Maps.{is_gauge_map};
 ghost use Rattle.farm_base.specs.Steps.{IsRefusedAs};
 ghost use Rattle.site_keys.specs.Faults.{IsNotTheFolders, reported};
-ghost use Rattle.site_keys.specs.Lists.{is_among};
-ghost use Rattle.site_lines.specs.Gauges.{ambient_fixed_at, are_gauged, deadbands_at, gauge_of, gauged_tank_at, gauges_from, is_request, quantity_from, request_at, tanks_gauged};
+ghost use Rattle.farm_site.specs.Numbers.{is_among};
+ghost use Rattle.site_lines.specs.Gauges.{ambient_fixed_at, deadbands_at, gauge_of, gauged_tank_at, gauges_from, is_request, quantity_from, request_at};
+ghost use Rattle.farm_site.specs.Lines.{are_gauged, tanks_gauged};
 
 use crate::fields::{field_at, field_or_none, valid_or_none};
 use farm_fixed::{LEAST_TEMPERATURE, MOST_TEMPERATURE};
+use farm_site::Numbered;
+use gauge_maps::{GREATEST_UNIT, GaugeMap, MOST_DEADBAND, REGISTERS, Request};
 use modbus_frame::{LEAST_QUANTITY, MOST_QUANTITY, READ_HOLDING_REGISTERS, READ_INPUT_REGISTERS};
-use modbus_poll::{GREATEST_UNIT, GaugeMap, MOST_DEADBAND, REGISTERS};
-use site_keys::{Keys, Numbered, RANGE, REPEATED, SiteFault, SiteReadFault, bad, reference};
+use site_keys::{Keys, RANGE, REPEATED, SiteFault, SiteReadFault, bad, reference};
 use std::alloc::Global;
 use toml::Value;
 
@@ -29,19 +31,6 @@ pub(crate) const USUAL_DEADBAND_MM: u32 = 1;
 
 // The deadband of the temperature where a gauge's table doesn't say it, in 0.01 C.
 pub(crate) const USUAL_DEADBAND_CENTI: u32 = 5;
-
-/// The registers that a gauge asks of its device.
-#[derive(Clone, Copy)]
-pub struct Request {
-    /// The unit identifier of the device.
-    pub unit: u8,
-    /// The function: 3 for holding registers, 4 for input registers.
-    pub function: u8,
-    /// The first register, counted from 0.
-    pub start: u16,
-    /// How many registers, from 1 to 125.
-    pub quantity: u8,
-}
 
 /// The gauges of a line's tables, after gauges on some tanks.
 pub fn gauges_from<T: Numbered>(

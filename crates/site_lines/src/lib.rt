@@ -6,6 +6,5 @@ mod gauges;
 mod lines;
 mod number_laws;
 
-pub use gauges::Request;
-pub use lines::{MOST_LINES, is_host, lines_of};
+pub use lines::lines_of;
 pub use number_laws::defined_numbers;

@@ -3,20 +3,18 @@
 ghost use Rattle.std.specs.Prelude.{◌≡◌, ◌≤◌, ◌++◌, [], length, map, MatchResult, IfOk, Ok, IsTrue, IfErr};
 ghost use Rattle.std.specs.List.{list_all};
 ghost use Rattle.toml.specs.View.{view};
-ghost use Rattle.modbus_poll.specs.Maps.{is_host, is_line_map};
+ghost use Rattle.gauge_maps.specs.Maps.{is_host, is_line_map};
 ghost use Rattle.farm_base.specs.Steps.{IsRefusedAs};
 ghost use Rattle.site_keys.specs.Faults.{IsNotTheFolders, reported};
-ghost use Rattle.site_lines.specs.Gauges.{are_gauged, tanks_gauged};
-ghost use Rattle.site_lines.specs.Lines.{all_gauged, are_lines, host_at, line_of, lines_from, lines_of};
+ghost use Rattle.farm_site.specs.Lines.{are_gauged, tanks_gauged, all_gauged, are_lines};
+ghost use Rattle.site_lines.specs.Lines.{host_at, line_of, lines_from, lines_of};
 
 use crate::gauges::gauges_from;
-use modbus_poll::{GREATEST_PORT, Gauges, Host, LONGEST_HOST, LineMap, MOST_GAUGES};
-use site_keys::{Keys, Numbered, RANGE, SiteReadFault, bad, is_text, list_at};
+use farm_site::{MOST_LINES, Numbered, is_host};
+use gauge_maps::{GREATEST_PORT, Gauges, Host, LineMap, MOST_GAUGES};
+use site_keys::{Keys, RANGE, SiteReadFault, bad, list_at};
 use std::alloc::Global;
 use toml::Value;
-
-/// A site has at most this many gauge lines.
-pub const MOST_LINES: usize = 16;
 
 /// The gauge lines of the site, in the order of the file. Each gauge is on one of these tanks, and no two are on one.
 #[tactic(auto, unfolding(crate::specs::Lines::lines_of))]
@@ -102,11 +100,4 @@ fn host_at(alloc: Global, keys: &Keys<'_>) -> Result<Host, SiteReadFault>
         return Err(bad(RANGE, keys.item).into());
     }
     Ok(Host::new(host.as_bytes().to_vec(alloc)?))
-}
-
-/// Whether a text is a host: 1 to 64 printable bytes without a blank.
-pub fn is_host(text: &[u8]) -> bool
-    ensures is_host { result ≡ is_host text.now }
-{
-    is_text(text, LONGEST_HOST, b'!', b'~')
 }

@@ -2,3 +2,4 @@
 pub mod Limits
 pub mod Capacity
 pub mod Faults
+pub mod Roofs

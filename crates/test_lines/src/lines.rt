@@ -1,7 +1,7 @@
 //! A line with one gauge, before its first poll, and its link.
 
 ghost use Rattle.std.specs.Prelude.{◌≡◌, IfOk, IsTrue};
-ghost use Rattle.modbus_poll.specs.Maps.{is_line_map};
+ghost use Rattle.gauge_maps.specs.Maps.{is_line_map};
 ghost use Rattle.modbus_poll.specs.Polls.{fresh};
 
 use farm_base::NoMemory;

@@ -1,7 +1,7 @@
 //! The reading of registers and their validity bits, as a poll answers them.
 
 ghost use Rattle.std.specs.Prelude.{◌<◌, IsTrue};
-ghost use Rattle.modbus_poll.specs.Maps.{is_gauge_map};
+ghost use Rattle.gauge_maps.specs.Maps.{is_gauge_map};
 
 use crate::gauges::{GAUGE, PLAIN, linked};
 use farm_base::NoMemory;

@@ -1,7 +1,7 @@
 //! A gauge, a line that has it alone, a poller of that line, and its link.
 
 ghost use Rattle.std.specs.Prelude.{IfOk, IsTrue};
-ghost use Rattle.modbus_poll.specs.Maps.{is_gauge_map, is_line_map};
+ghost use Rattle.gauge_maps.specs.Maps.{is_gauge_map, is_line_map};
 
 use farm_base::NoMemory;
 use farm_ports::Wire;

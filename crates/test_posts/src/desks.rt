@@ -12,6 +12,7 @@ use farm_disk::{Disk, MemDisk};
 use farm_ports::{Files, Fixed};
 use farm_serve::{DeskPost, LinePost, serve};
 use farm_site::Site;
+use site_file::ReadSite;
 use std::alloc::Global;
 use std::sync::Wait;
 use std::test::Fail;

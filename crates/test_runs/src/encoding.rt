@@ -1,7 +1,9 @@
 //! The bytes of the row site.
 
-use farm_site::{Site, SiteBytesFault};
+use farm_site::Site;
 use sample_site::sample_site;
+use site_decoding::{SiteBytesFault, SiteFromBytes};
+use site_encoding::SiteToBytes;
 use std::alloc::{AllocError, Global};
 use std::test::Fail;
 use test_checks::Checks;

@@ -1,6 +1,7 @@
 //! A site of few items, and its bytes.
 
 use crate::folders::site_of;
+use site_encoding::SiteToBytes;
 use std::test::Fail;
 use test_checks::Checks;
 

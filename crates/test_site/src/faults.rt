@@ -1,6 +1,6 @@
 //! The texts of the faults of `Site::read`.
 
-use farm_site::{SiteFault, SiteReadFault};
+use site_keys::{SiteFault, SiteReadFault};
 use std::test::Fail;
 use test_checks::Checks;
 

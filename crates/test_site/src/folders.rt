@@ -2,6 +2,7 @@
 
 use farm_ports::Files;
 use farm_site::Site;
+use site_file::ReadSite;
 use std::alloc::{AllocError, Global};
 use std::test::Fail;
 

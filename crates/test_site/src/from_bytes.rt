@@ -1,7 +1,9 @@
 //! A site from its bytes, and bytes that are no site's.
 
 use crate::bytes::BYTES;
-use farm_site::{Site, SiteBytesFault};
+use farm_site::Site;
+use site_decoding::{SiteBytesFault, SiteFromBytes};
+use site_encoding::SiteToBytes;
 use std::alloc::Global;
 use std::test::Fail;
 use test_checks::Checks;

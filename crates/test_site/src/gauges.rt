@@ -1,6 +1,6 @@
 //! The gauges of the site with every key.
 
-use modbus_poll::{Field, GaugeMap, Valid};
+use gauge_maps::{Field, GaugeMap, Valid};
 
 // A signed level of two words, the low one first, at the last registers.
 const LEVEL: Field = Field {

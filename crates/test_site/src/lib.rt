@@ -1,4 +1,5 @@
-//! Tests of the site of a folder and of its bytes: what neither a clause of `farm_site` nor a file of cases says.
+//! Tests of the site of a folder and of its bytes: what neither a clause of
+//! `farm_site`, `site_file`, `site_encoding` and `site_decoding` nor a file of cases says.
 #![tactic(auto)]
 
 #[cfg(test)]

@@ -1,7 +1,7 @@
 //! Parts of a site, and what is read of each.
 
 use farm_site::{Product, Site, Tank};
-use modbus_poll::GaugeMap;
+use gauge_maps::GaugeMap;
 use test_checks::Checks;
 
 /// A part of a site, and what is wanted of it. Items are counted from 0, in the order in which the site has them.

@@ -6,8 +6,7 @@ ghost use Rattle.site_decoding.specs.Decoding.{fields_at, flags_at, request_at};
 use super::lists::{Piece, option_at, short_list_at};
 use super::numbers::{byte_at, byte_up_to, signed16_at, text_at, u16_at, u32_at};
 use crate::SiteBytesFault;
-use modbus_poll::{Field, GaugeMap, Gauges, LineMap, Valid};
-use site_lines::Request;
+use gauge_maps::{Field, GaugeMap, Gauges, LineMap, Request, Valid};
 use std::alloc::Global;
 
 // The fields of a gauge.

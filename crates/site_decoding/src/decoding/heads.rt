@@ -10,8 +10,8 @@ use super::numbers::{byte_at, flag_at, text_at};
 use crate::SiteBytesFault;
 use crate::SiteBytesFault::BadSite;
 use farm_rounding::{Mode, ROUNDING_ROWS, RoundTable};
+use farm_site::{Name, is_name};
 use site_encoding::FORMAT;
-use site_items::{Name, is_name};
 use std::alloc::Global;
 
 /// The byte of the format.

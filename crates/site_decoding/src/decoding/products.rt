@@ -10,8 +10,8 @@ use super::numbers::{density_at, factor_at, temperature_at, text_at, u16_at};
 use crate::SiteBytesFault;
 use crate::SiteBytesFault::BadSite;
 use farm_fixed::{Centi, Dens, Fac5};
+use farm_site::{Party, Product};
 use farm_vcf::Vcf;
-use site_items::{Party, Product};
 use std::alloc::Global;
 
 impl Piece for Dens {

@@ -12,7 +12,7 @@ use super::numbers::{
 use crate::SiteBytesFault;
 use crate::SiteBytesFault::BadSite;
 use farm_fixed::{Amount, Kg, Shell};
-use site_items::Tank;
+use farm_site::Tank;
 use std::alloc::Global;
 use strap_table::{CapTable, Roof, TankSpec};
 

@@ -2,17 +2,17 @@
 
 ghost use Rattle.std.specs.Prelude.{◌+◌, ◌*◌, ◌≤◌, ◌≡◌, ◌++◌, All, IsTrue, List, ℕ, length};
 ghost use Rattle.std.specs.Int.{to_be_bytes, w16};
-ghost use Rattle.site_lines.specs.Lines.{are_lines};
-ghost use Rattle.site_lines.specs.declared.lines.TheConstants.{MOST_LINES};
+ghost use Rattle.farm_site.specs.Lines.{are_lines};
+ghost use Rattle.farm_site.specs.declared.limits.TheConstants.{MOST_LINES};
 ghost use Rattle.site_encoding.specs.Buffers.{HasRoom, IsPut};
 ghost use Rattle.site_encoding.specs.Encoding.{field_bytes, field_flags, gauge_bytes, line_bytes, option_bytes, request_bytes, short_list_bytes, valid_bytes};
 ghost use Rattle.site_encoding.specs.Sizes.{IsGaugeInRange, IsLineInRange, most_gauge_bytes, most_line_bytes};
-ghost use Rattle.site_encoding.specs.Typed.{IsTypedGauge, IsTypedLine};
+ghost use Rattle.farm_site.specs.Typed.{IsTypedGauge, IsTypedLine};
 
 use crate::encoding::encoded::{
     Encoded, Measured, len_of_each, len_of_option, put, put_option, put_short_list, put_text,
 };
-use modbus_poll::{Field, GaugeMap, LineMap, Valid};
+use gauge_maps::{Field, GaugeMap, LineMap, Valid};
 
 impl Encoded for LineMap {
     ghost bytes = { line_bytes };

@@ -3,7 +3,7 @@
 ghost use Rattle.std.specs.Prelude.{◌+◌, ◌<◌, ◌≤◌, ◌≡◌, ◌∷◌, ◌++◌, length};
 ghost use Rattle.std.specs.List.{flat_map};
 ghost use Rattle.farm_rounding.specs.Table.{row_at};
-ghost use Rattle.site_items.specs.declared.names.TheConstants.{LONGEST_NAME};
+ghost use Rattle.farm_site.specs.declared.limits.TheConstants.{LONGEST_NAME};
 ghost use Rattle.site_encoding.specs.Buffers.{HasRoom, IsPut};
 ghost use Rattle.site_encoding.specs.Encoding.{mode_byte, row_bytes, text_bytes};
 

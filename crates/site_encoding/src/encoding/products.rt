@@ -2,20 +2,19 @@
 
 ghost use Rattle.std.specs.Prelude.{◌+◌, ◌*◌, ◌≤◌, ◌≡◌, All, IsTrue, length};
 ghost use Rattle.std.specs.Int.{w16};
-ghost use Rattle.site_items.specs.Facts.{are_parties, are_products};
-ghost use Rattle.site_items.specs.declared.parties.TheConstants.{MOST_PARTIES};
-ghost use Rattle.site_items.specs.declared.products.TheConstants.{MOST_PRODUCTS};
+ghost use Rattle.farm_site.specs.Facts.{are_parties, are_products};
+ghost use Rattle.farm_site.specs.declared.limits.TheConstants.{MOST_PARTIES, MOST_PRODUCTS};
 ghost use Rattle.site_encoding.specs.Buffers.{HasRoom, IsPut};
 ghost use Rattle.site_encoding.specs.Encoding.{grid_bytes, list_bytes, party_bytes, product_bytes, short_list_bytes};
 ghost use Rattle.site_encoding.specs.Sizes.{IsNamedParty, IsNamedProduct, most_grid_bytes, most_party_bytes, most_product_bytes};
-ghost use Rattle.site_encoding.specs.Typed.{IsTypedGrid, IsTypedProduct};
+ghost use Rattle.farm_site.specs.Typed.{IsTypedGrid, IsTypedProduct};
 
 use crate::encoding::encoded::{
     Encoded, Measured, len_of_each, put, put_each, put_list, put_long_list, put_short_list,
     put_text,
 };
+use farm_site::{Party, Product};
 use farm_vcf::Vcf;
-use site_items::{Party, Product};
 
 impl Encoded for Product {
     ghost bytes = { product_bytes };

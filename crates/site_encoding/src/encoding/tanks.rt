@@ -4,18 +4,18 @@ ghost use Rattle.std.specs.Prelude.{◌+◌, ◌*◌, ◌≤◌, ◌≡◌, All,
 ghost use Rattle.std.specs.Int.{w64};
 ghost use Rattle.farm_fixed.specs.Range.{IsWithin};
 ghost use Rattle.farm_fixed.specs.declared.limits.TheConstants.{LEAST_TEMPERATURE, MOST_COEFFICIENT, MOST_TEMPERATURE};
-ghost use Rattle.site_items.specs.Facts.{are_tanks};
-ghost use Rattle.site_items.specs.declared.tanks.TheConstants.{MOST_TANKS};
+ghost use Rattle.farm_site.specs.Facts.{are_tanks};
+ghost use Rattle.farm_site.specs.declared.limits.TheConstants.{MOST_TANKS};
 ghost use Rattle.site_encoding.specs.Buffers.{HasRoom, IsPut};
 ghost use Rattle.site_encoding.specs.Encoding.{amount_bytes, flag_byte, roof_bytes, shell_bytes, short_list_bytes, signed_bytes, tank_bytes};
 ghost use Rattle.site_encoding.specs.Sizes.{IsRoofWithMass, IsTankInRange, most_tank_bytes};
-ghost use Rattle.site_encoding.specs.Typed.{IsTypedRoof, IsTypedTank};
+ghost use Rattle.farm_site.specs.Typed.{IsTypedRoof, IsTypedTank};
 
 use crate::encoding::encoded::{
     Encoded, Measured, len_of_each, len_of_option, put, put_list, put_option, put_short_list,
 };
 use farm_fixed::{Amount, Shell};
-use site_items::Tank;
+use farm_site::Tank;
 use strap_table::Roof;
 
 impl Encoded for Tank {

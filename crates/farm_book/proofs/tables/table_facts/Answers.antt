@@ -1,6 +1,6 @@
 -- Answers to the open goals of `table_facts`.
 use Rattle.std.proofs.Common.{◌≡◌, ◌≤◌, List, length, subst}
-use Rattle.site_items.specs.declared.records.Tank.{Tank}
+use Rattle.farm_site.specs.declared.items.Tank.{Tank}
 use Rattle.farm_book.proofs.TablesRead.{AreRead, read_computable, read_more, site_rising}
 use Rattle.farm_book.proofs.tables.table_facts.Goals as goal
 

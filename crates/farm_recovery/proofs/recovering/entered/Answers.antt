@@ -1,7 +1,7 @@
 -- Answers to the open goals of `entered`.
 use Rattle.std.proofs.Common.{◌∙◌, Err, ap, arith}
 use Rattle.site_decoding.specs.Readers.{IsBytes}
-use Rattle.farm_site.proofs.BytesRead.{PartsAreRead}
+use Rattle.site_decoding.proofs.BytesRead.{PartsAreRead}
 use Rattle.farm_recovery.proofs.Acceptance.{next_is_accepted}
 use Rattle.farm_recovery.proofs.Judging.{entered_recordable, next_refused, room_left, taken_more}
 use Rattle.farm_recovery.proofs.recovering.entered.Goals as goal

@@ -4,7 +4,7 @@ use Rattle.std.specs.Prelude.{All, IsTrue}
 use Rattle.std.proofs.lemmas.Bool.{and_parts}
 use Rattle.std.proofs.lemmas.Bool.Decides.{nat_tests}
 use Rattle.std.proofs.lemmas.List.Sums.{AllPass-from_list_all}
-use Rattle.modbus_poll.specs.Maps.{is_line_map}
+use Rattle.gauge_maps.specs.Maps.{is_line_map}
 use Rattle.farm_serve.proofs.lines.lines_of.Goals as goal
 
 -- what the test says of two numbers

@@ -4,7 +4,7 @@ use Rattle.farm_turn.specs.declared.views.Known.{Known}
 use Rattle.farm_desk.proofs.Finishing.{at_ok}
 use Rattle.farm_desk.specs.States.{DeskState}
 use Rattle.farm_history.specs.History.{last_place}
-use Rattle.modbus_poll.specs.declared.map.LineMap.{LineMap}
+use Rattle.gauge_maps.specs.declared.map.LineMap.{LineMap}
 use Rattle.desk_turns.specs.Closing.{IsUnused}
 use Rattle.farm_serve.specs.Callers.{HaveWork}
 use Rattle.farm_serve.specs.Running.{HasLine}

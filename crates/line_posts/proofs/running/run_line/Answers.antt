@@ -1,7 +1,7 @@
 -- Answers to the open goals of `run_line`.
 use Rattle.std.proofs.Common.{◌∙◌, length, refl, sym, ap, subst, arith}
 use Rattle.modbus_poll.specs.Polls.{PollerState}
-use Rattle.modbus_poll.specs.declared.map.LineMap.{LineMap}
+use Rattle.gauge_maps.specs.declared.map.LineMap.{LineMap}
 use Rattle.line_posts.specs.Rounds.{whole}
 use Rattle.line_posts.specs.States.{line_state}
 use Rattle.line_posts.specs.declared.submitting.Submitter.{Submitter}

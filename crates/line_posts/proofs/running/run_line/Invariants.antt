@@ -1,6 +1,6 @@
 -- The invariants of the loops of `run_line`.
 use Rattle.std.proofs.Common.{◌≡◌, ◌*◌, ◌≤◌, length}
-use Rattle.modbus_poll.specs.Limits.{most_gauges}
+use Rattle.gauge_maps.specs.Limits.{most_gauges}
 use Rattle.line_posts.specs.States.{line_state}
 use Rattle.line_posts.proofs.OneRun.{IsRunning}
 use Rattle.line_posts.proofs.running.run_line.Given as goal

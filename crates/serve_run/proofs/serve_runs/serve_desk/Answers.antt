@@ -1,7 +1,7 @@
 -- Answers to the open goals of `serve_desk`.
 use Rattle.std.proofs.Common.{◌∙◌, inl, inr, List, length, min, ap, subst, arith}
 use Rattle.farm_history.specs.History.{History}
-use Rattle.modbus_poll.specs.declared.map.LineMap.{LineMap}
+use Rattle.gauge_maps.specs.declared.map.LineMap.{LineMap}
 use Rattle.run_reports.proofs.DisksLeft.{handed_back}
 use Rattle.run_reports.specs.Reports.{output_of}
 use Rattle.serve_run.specs.Endings.{EndsDesk}

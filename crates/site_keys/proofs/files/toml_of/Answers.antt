@@ -1,9 +1,8 @@
 -- Answers to the open goals of `toml_of`.
 use Rattle.std.proofs.Common.{◌≡◌, Bool, true, false, List, ℕ, None, Ok, ap, sym, refl}
-use Rattle.std.specs.Str.{is_utf8}
+use Rattle.std.specs.Str.{is_utf8, IsUtf8}
 use Rattle.std.proofs.lemmas.Str.{IsUtf8-from_is_utf8, is_utf8-from_IsUtf8}
 use Rattle.toml.proofs.Views.{view-Table}
-use Rattle.std.specs.Str.{IsUtf8}
 use Rattle.toml.specs.Parse.{parse_document}
 use Rattle.site_keys.specs.declared.codes.TheConstants.{TEXT}
 use Rattle.site_keys.specs.Faults.{bad}

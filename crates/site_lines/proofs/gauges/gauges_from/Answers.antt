@@ -1,8 +1,9 @@
 -- Answers to the open goals of `gauges_from`.
 use Rattle.std.proofs.Common.{◌≡◌, ◌++◌, ◌∷◌, [], Ok, map, rules, arith}
 use Rattle.toml.specs.View.{view}
-use Rattle.modbus_poll.specs.Maps.{is_gauge_map}
-use Rattle.site_lines.specs.Gauges.{gauge_of, tanks_gauged}
+use Rattle.gauge_maps.specs.Maps.{is_gauge_map}
+use Rattle.site_lines.specs.Gauges.{gauge_of}
+use Rattle.farm_site.specs.Lines.{tanks_gauged}
 use Rattle.site_lines.proofs.LineFacts.{all_more, gauged_more, gauges_more, tanks_gauged_more}
 use Rattle.site_lines.proofs.gauges.gauges_from.Goals as goal
 

@@ -2,8 +2,9 @@
 use Rattle.std.proofs.Common.{◌≡◌, true, ◌++◌, [], drop, length, map}
 use Rattle.std.specs.List.{list_all}
 use Rattle.toml.specs.View.{view}
-use Rattle.modbus_poll.specs.Maps.{is_gauge_map}
-use Rattle.site_lines.specs.Gauges.{are_gauged, gauges_from, tanks_gauged}
+use Rattle.gauge_maps.specs.Maps.{is_gauge_map}
+use Rattle.farm_site.specs.Lines.{are_gauged, tanks_gauged}
+use Rattle.site_lines.specs.Gauges.{gauges_from}
 use Rattle.site_lines.proofs.gauges.gauges_from.Given as goal
 
 abbrev pub invariant-loop-table : goal.invariant-loop-table

@@ -1,9 +1,8 @@
 -- Answers to the open goals of `lines_from`.
 use Rattle.std.proofs.Common.{◌≡◌, ◌+◌, ◌++◌, ◌∷◌, [], map, rules, arith}
 use Rattle.std.proofs.lemmas.List.{append_assoc}
-use Rattle.modbus_poll.specs.Maps.{is_line_map}
-use Rattle.site_lines.specs.Gauges.{tanks_gauged}
-use Rattle.site_lines.specs.Lines.{all_gauged}
+use Rattle.gauge_maps.specs.Maps.{is_line_map}
+use Rattle.farm_site.specs.Lines.{tanks_gauged, all_gauged}
 use Rattle.site_lines.proofs.LineFacts.{all_more, all_gauged_more, lines_more}
 use Rattle.site_lines.proofs.lines.lines_from.Goals as goal
 

@@ -2,9 +2,9 @@
 use Rattle.std.proofs.Common.{◌≡◌, ◌+◌, true, ◌++◌, [], drop, length, map}
 use Rattle.std.specs.List.{list_all}
 use Rattle.toml.specs.View.{view}
-use Rattle.modbus_poll.specs.Maps.{is_line_map}
-use Rattle.site_lines.specs.Gauges.{are_gauged}
-use Rattle.site_lines.specs.Lines.{all_gauged, lines_from}
+use Rattle.gauge_maps.specs.Maps.{is_line_map}
+use Rattle.farm_site.specs.Lines.{are_gauged, all_gauged}
+use Rattle.site_lines.specs.Lines.{lines_from}
 use Rattle.site_lines.proofs.lines.lines_from.Given as goal
 
 abbrev pub invariant-loop-index : goal.invariant-loop-index

@@ -1,5 +1,5 @@
 -- Answers to the open goals of `refusals`.
-use Rattle.farm_site.proofs.BytesRead.{PartsAreRead}
+use Rattle.site_decoding.proofs.BytesRead.{PartsAreRead}
 use Rattle.journaled_book.specs.Histories.{IsRecordable}
 use Rattle.farm_recovery.proofs.Judging.{of_history}
 use Rattle.farm_recovery.proofs.Refusing.{refused_as}

@@ -2,7 +2,7 @@
 use Rattle.std.proofs.Common.{arith}
 use Rattle.site_decoding.specs.Readers.{IsBytes}
 use Rattle.farm_site.specs.Sites.{described}
-use Rattle.farm_site.proofs.BytesRead.{PartsAreRead}
+use Rattle.site_decoding.proofs.BytesRead.{PartsAreRead}
 use Rattle.farm_recovery.specs.Accepting.{taken_of}
 use Rattle.farm_recovery.proofs.Judging.{header_accepted, header_refused}
 use Rattle.farm_recovery.proofs.recovering.RecoveringTaker.header.Goals as goal

@@ -1,14 +1,14 @@
 -- What holds of a tank that is found, since it holds of each tank of a site.
 use Rattle.std.proofs.Common.{map, pos}
 use Rattle.std.specs.Prelude.{IfSome, IsTrue}
-use Rattle.farm_chain.specs.Reading.{IsFloatingRoof}
+use Rattle.strap_table.specs.Roofs.{IsFloatingRoof}
 use Rattle.farm_fixed.specs.Range.{IsWithin}
 use Rattle.farm_fixed.specs.declared.limits.TheConstants.{MOST_COEFFICIENT}
-use Rattle.site_keys.specs.Lists.{is_among, item_numbered}
-use Rattle.site_items.proofs.TankParts.{coefficient_within, product_there, roof_is}
-use Rattle.site_items.specs.declared.records.Tank.{Tank}
-use Rattle.site_items.specs.Products.{product_number}
-use Rattle.site_items.specs.Tanks.{tank_number}
+use Rattle.farm_site.specs.Numbers.{is_among, item_numbered}
+use Rattle.farm_site.proofs.TankParts.{coefficient_within, product_there, roof_is}
+use Rattle.farm_site.specs.declared.items.Tank.{Tank}
+use Rattle.farm_site.specs.Products.{product_number}
+use Rattle.farm_site.specs.Tanks.{tank_number}
 use Rattle.farm_site.proofs.TankFacts.{found_tank, may_float, some_tank}
 use Rattle.farm_site.proofs.site.Site.tank.Goals as goal
 

@@ -1,6 +1,6 @@
 -- The invariants of the loops of `opened`.
 use Rattle.std.proofs.Common.{◌≡◌, [], length, take}
-use Rattle.site_items.specs.declared.tanks.TheConstants.{MOST_TANKS}
+use Rattle.farm_site.specs.declared.limits.TheConstants.{MOST_TANKS}
 use Rattle.history_lookups.specs.Ledgers.{books_with}
 use Rattle.history_lookups.proofs.ledger.Ledger.opened.Given as goal
 

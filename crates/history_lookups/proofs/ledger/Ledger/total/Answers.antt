@@ -2,7 +2,7 @@
 use Rattle.std.proofs.Common.{◌≤◌, ◌^◌, List, length, take, length-take, sym, subst, arith}
 use Rattle.farm_stock.specs.Sums.{AddUpTo}
 use Rattle.farm_stock.specs.declared.book.TankBook.{TankBook}
-use Rattle.site_items.specs.declared.tanks.TheConstants.{MOST_TANKS}
+use Rattle.farm_site.specs.declared.limits.TheConstants.{MOST_TANKS}
 use Rattle.history_lookups.proofs.Bounds.{sums_fit}
 use Rattle.history_lookups.proofs.ledger.Ledger.total.Goals as goal
 

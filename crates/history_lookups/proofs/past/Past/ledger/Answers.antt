@@ -1,7 +1,7 @@
 -- Answers to the open goals of `ledger`.
 use Rattle.std.proofs.Common.{◌+◌, [], List, get_or, pos, ap, sym, ◌∙◌, subst}
 use Rattle.farm_stock.specs.declared.book.TankBook.{TankBook}
-use Rattle.site_items.specs.declared.records.Tank.{Tank}
+use Rattle.farm_site.specs.declared.items.Tank.{Tank}
 use Rattle.farm_history.specs.declared.command.Command.TheVariants.{Gauge}
 use Rattle.farm_history.specs.declared.entry.Entry.{Entry}
 use Rattle.history_lookups.specs.Ledgers.{AreBooksTo, books_with, listed_postings}

@@ -1,6 +1,6 @@
 -- Answers to the open goals of `put`.
 use Rattle.farm_journal.specs.Layout.{IsJournalOf}
-use Rattle.farm_site.specs.Encoding.{site_encoding}
+use Rattle.site_encoding.specs.Encoding.{site_encoding}
 use Rattle.journaled_book.specs.Histories.{Recovers, entry_encodings}
 use Rattle.journaled_book.proofs.Traces.{since_weaker}
 use Rattle.journaled_book.proofs.records.Records.put.Goals as goal

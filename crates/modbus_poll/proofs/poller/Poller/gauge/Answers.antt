@@ -1,7 +1,7 @@
 -- Answers to the open goals of `gauge`.
 use Rattle.std.proofs.Common.{◌≡◌, List, get_or, true, sym, subst}
-use Rattle.modbus_poll.specs.declared.map.GaugeMap.{GaugeMap}
-use Rattle.modbus_poll.specs.Maps.{is_gauge_map}
+use Rattle.gauge_maps.specs.declared.map.GaugeMap.{GaugeMap}
+use Rattle.gauge_maps.specs.Maps.{is_gauge_map}
 use Rattle.modbus_poll.proofs.Gauges.{gauges_are}
 use Rattle.modbus_poll.proofs.poller.Poller.gauge.Goals as goal
 

@@ -1,8 +1,0 @@
--- The invariants of the loops of `are_distinct`.
-use Rattle.std.proofs.Common.{◌≡◌, drop}
-use Rattle.site_lines.specs.Gauges.{are_distinct}
-use Rattle.site_decoding.proofs.sound.gauged.are_distinct.Given as goal
-
--- the rest of the numbers decides
-abbrev pub invariant-loop-index : goal.invariant-loop-index
-invariant-loop-index l = are_distinct (drop l.index l.numbers) ≡ are_distinct l.numbers

@@ -1,0 +1,2 @@
+-- The lemmas of `site_file`, by topic.
+pub mod Meaning

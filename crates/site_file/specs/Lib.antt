@@ -1,0 +1,3 @@
+-- The definitions of `site_file`, by subject.
+pub mod Files
+pub mod Members

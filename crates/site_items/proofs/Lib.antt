@@ -1,2 +1,0 @@
--- The lemmas of `site_items`, by topic.
-pub mod TankParts

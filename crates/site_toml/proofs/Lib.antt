@@ -1,0 +1,2 @@
+-- The lemmas of `site_toml`, by topic.
+mod RoundingRows
