@@ -10,8 +10,9 @@ use Rattle.farm_history.specs.Commands.{IsShortList, IsWellFormedCommand}
 use Rattle.farm_history.specs.Decoding.{dip_at, gauge_at, sample_at}
 use Rattle.farm_history.specs.Encoding.{IsTypedCommand, IsTypedList, command_bytes, gauged_bytes, kind_byte, list_bytes, plan_bytes, second_bytes, signed_bytes}
 use Rattle.farm_history.proofs.ListReaders.{IsGoodList, kind_reader, list_reader}
-use Rattle.farm_history.proofs.NumberReaders.{number_reader, signed_reader, wide16}
-use Rattle.farm_history.proofs.Readers.{IsReader, made_reader, then_reader}
+use Rattle.byte_readers.proofs.NumberReaders.{wide16}
+use Rattle.farm_history.proofs.NumberReaders.{number_reader, signed_reader}
+use Rattle.farm_history.proofs.Readers.{IsPlacing, made_reader, then_reader}
 
 -- a command that can stand in an entry
 abbrev pub IsGoodCommand : Command → Type 0
@@ -104,7 +105,7 @@ unfolding fields_bytes
 gauge_same f = refl
 
 -- the bytes of gauge readings are read exactly
-pub gauge_reader : IsReader (IsOf 1) fields_bytes gauge_at
+pub gauge_reader : IsPlacing (IsOf 1) fields_bytes gauge_at
 unfolding gauge_at
 gauge_reader =
     made_reader
@@ -173,7 +174,7 @@ unfolding fields_bytes
 dip_same f = refl
 
 -- the bytes of dips are read exactly
-pub dip_reader : IsReader (IsOf 2) fields_bytes dip_at
+pub dip_reader : IsPlacing (IsOf 2) fields_bytes dip_at
 unfolding dip_at
 dip_reader =
     made_reader
@@ -225,7 +226,7 @@ unfolding fields_bytes
 sample_same f = refl
 
 -- the bytes of samples are read exactly
-pub sample_reader : IsReader (IsOf 3) fields_bytes sample_at
+pub sample_reader : IsPlacing (IsOf 3) fields_bytes sample_at
 unfolding sample_at
 sample_reader =
     made_reader (then_reader (number_reader w16 (2 ^ 16) wide16) (λ a ha. then_reader signed_reader (λ b hb. signed_reader)))

@@ -8,7 +8,7 @@ use Rattle.farm_history.specs.Encoding.{command_bytes}
 use Rattle.farm_history.proofs.Choices.{choose_reader, of_number, only_reader}
 use Rattle.farm_history.proofs.MovementFields.{cancel_reader, closing_reader, opening_reader, reverse_reader, settle_reader}
 use Rattle.farm_history.proofs.NumberReaders.{byte_reader}
-use Rattle.farm_history.proofs.Readers.{IsReader, made_reader, then_reader}
+use Rattle.farm_history.proofs.Readers.{IsPlacing, made_reader, then_reader}
 use Rattle.farm_history.proofs.CommandFields.{IsGoodCommand, IsOf, dip_reader, fields_bytes, gauge_reader, sample_reader, tag_and_fields, tag_of}
 
 -- a Stop that was read
@@ -22,13 +22,13 @@ stop_only Stop h = refl
 stop_only c h = absurd (omega (arith, h.0))
 
 -- Stops after their tag
-stop_reader : IsReader (IsOf 9) fields_bytes stop_at
+stop_reader : IsPlacing (IsOf 9) fields_bytes stop_at
 unfolding tag_of fields_bytes
 stop_reader = only_reader Stop (refl, (tt, tt)) refl stop_only
 
 -- a reader of a tag's commands is one of the same tag's
-of_tag : (tag same : ℕ) (read : List ℕ → Result (Command × List ℕ) ℕ) → (tag == same) ≡ true → IsReader (IsOf same) fields_bytes read →
-    IsReader (IsOf tag) fields_bytes read
+of_tag : (tag same : ℕ) (read : List ℕ → Result (Command × List ℕ) ℕ) → (tag == same) ≡ true → IsPlacing (IsOf same) fields_bytes read →
+    IsPlacing (IsOf tag) fields_bytes read
 of_tag tag same read here reader = of_number IsOf tag same read (eqb-true tag same here) reader
 
 -- a tag that isn't one of the first eight is that of a Stop
@@ -37,7 +37,7 @@ stop_tag : (tag : ℕ) → is_tag tag ≡ true → (tag == 1) ≡ false → (tag
 stop_tag tag h one two three four five six seven eight = let e = rw (one, two, three, four, five, six, seven, eight) at h in e
 
 -- the fields of a tag's commands
-fields_reader : (tag : ℕ) → is_tag tag ≡ true → IsReader (IsOf tag) fields_bytes (fields_at tag)
+fields_reader : (tag : ℕ) → is_tag tag ≡ true → IsPlacing (IsOf tag) fields_bytes (fields_at tag)
 unfolding fields_at
 fields_reader tag h =
     let reverse_or : List ℕ → Result (Command × List ℕ) ℕ = λ bytes. cond (tag == 8) (reverse_at bytes) (stop_at bytes) in
@@ -71,7 +71,7 @@ tag_is_tag (Reverse ticket) = refl
 tag_is_tag Stop = refl
 
 -- commands
-pub command_reader : IsReader IsGoodCommand command_bytes command_at
+pub command_reader : IsPlacing IsGoodCommand command_bytes command_at
 unfolding command_at
 command_reader =
     made_reader (then_reader (byte_reader is_tag 9 refl) fields_reader) (record {

@@ -3,6 +3,9 @@ use Rattle.std.proofs.Common.{◌≡◌, ℕ, ◌+◌, ◌-◌, ◌==◌, ◌^�
 use Rattle.std.specs.Int.{w32, w64, to_be_bytes}
 use Rattle.std.proofs.lemmas.Bool.{eqb-true, eq-eqb}
 use Rattle.std.proofs.lemmas.List.{nil_from_length, take_at}
+use Rattle.byte_readers.specs.Readers.{IsBytes}
+use Rattle.byte_readers.proofs.NumberReaders.{wide32, wide64}
+use Rattle.byte_readers.proofs.Readers.{bind_ok}
 use Rattle.farm_history.specs.declared.command.Command.{Command}
 use Rattle.farm_history.specs.declared.entry.Entry.{Entry}
 use Rattle.farm_history.specs.Decoding.{entry_at, entry_of, whole_entry}
@@ -11,8 +14,8 @@ use Rattle.farm_history.specs.History.{IsMoment, IsWellFormed}
 use Rattle.farm_history.proofs.CommandFields.{IsGoodCommand}
 use Rattle.farm_history.proofs.CommandReader.{command_reader}
 use Rattle.farm_history.proofs.MomentReader.{moment_fits, moment_reader}
-use Rattle.farm_history.proofs.NumberReaders.{number_reader, wide32, wide64}
-use Rattle.farm_history.proofs.Readers.{IsBytes, IsBadFrom, IsReader, bind_err, bind_ok, made_reader, one_start, then_reader}
+use Rattle.farm_history.proofs.NumberReaders.{number_reader}
+use Rattle.farm_history.proofs.Readers.{IsBadFrom, IsPlacing, bind_err, made_reader, one_start, then_reader}
 
 -- an entry that can be written
 abbrev IsGood : Entry → Type 0
@@ -39,7 +42,7 @@ unfolding entry_encoding
 entry_same f = refl
 
 -- entries
-entry_reader : IsReader IsGood entry_encoding entry_at
+entry_reader : IsPlacing IsGood entry_encoding entry_at
 unfolding entry_at
 entry_reader =
     made_reader
@@ -70,7 +73,7 @@ entry_found bytes entry fits e =
     let b = bind_ok (entry_at bytes) (λ read. cond (length read.1 == 0) (Ok read.0) (Err (length read.1))) entry e in
     let read = b.0 in
     let g = ended_ok (length read.1 == 0) read.0 entry (length read.1) b.2 in
-    let t = entry_reader.takes bytes read.0 read.1 fits b.1 in
+    let t = entry_reader.reads.takes bytes read.0 read.1 fits b.1 in
     let nothing : read.1 ≡ [] = nil_from_length read.1 (eqb-true _ _ g.0) in
     let whole : bytes ≡ entry_encoding read.0 = t.0.parts ∙ ap (λ rest. entry_encoding read.0 ++ rest) nothing ∙ append-nil (entry_encoding read.0) in
     subst (λ x. IsGood x × (bytes ≡ entry_encoding x)) g.1 (t.1, whole)
@@ -80,7 +83,7 @@ pub entry_only : (bytes : List ℕ) (entry : Entry) → IsTyped entry → IsWell
 unfolding whole_entry
 entry_only bytes entry typed well_formed encoded =
     let read : entry_at bytes ≡ Ok (entry, []) =
-    ap entry_at (encoded ∙ sym (append-nil (entry_encoding entry))) ∙ entry_reader.again entry [] (typed, well_formed) in
+    ap entry_at (encoded ∙ sym (append-nil (entry_encoding entry))) ∙ entry_reader.reads.again entry [] (typed, well_formed) in
     rw read refl
 
 -- The place.
@@ -163,6 +166,6 @@ entry_place bytes left fits e =
       | inr then ↦
           let read = then.0 in
           let g = ended_err (length read.1 == 0) read.0 (length read.1) left then.2 in
-          let t = entry_reader.takes bytes read.0 read.1 fits then.1 in
+          let t = entry_reader.reads.takes bytes read.0 read.1 fits then.1 in
           place_from_left bytes (entry_encoding read.0) read.1 left t.0.parts g.1 (bad_after_entry read.0 read.1 t.1 (not_zero (length read.1) g.0))
     ]

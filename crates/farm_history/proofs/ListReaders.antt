@@ -1,15 +1,18 @@
 -- The readers of short lists and of the kinds of dips.
-use Rattle.std.proofs.Common.{◌≡◌, ℕ, zero, suc, ◌-◌, ◌==◌, ◌≤◌, Bool, true, false, leb, List, [], ◌∷◌, ◌++◌, length, take, replicate, Result, Ok, refl, sym, ap, subst, length-append, arith, ℤ, pos, w64}
+use Rattle.std.proofs.Common.{◌≡◌, ℕ, zero, suc, ◌-◌, ◌≤◌, true, leb, List, [], ◌∷◌, ◌++◌, length, take, replicate, Ok, refl, sym, ap, subst, length-append, arith, ℤ, pos, w64}
 use mir.Val.{SFits}
 use Rattle.std.specs.List.{AllByRecursion, flat_map}
 use Rattle.std.proofs.lemmas.Bool.{leb-true, le-leb}
 use Rattle.std.proofs.lemmas.List.{length-replicate, length-take-le, take_at}
+use Rattle.byte_readers.specs.Readers.{Takes}
+use Rattle.byte_readers.proofs.NumberReaders.{flag_made}
+use Rattle.byte_readers.proofs.Readers.{ok_is}
 use Rattle.farm_history.specs.declared.few.Few.{Few}
 use Rattle.farm_history.specs.Commands.{IsShortList, numbers_of}
 use Rattle.farm_history.specs.Decoding.{kind_at, list_at, list_of, numbers_at}
 use Rattle.farm_history.specs.Encoding.{kind_byte, list_bytes, signed_bytes}
 use Rattle.farm_history.proofs.NumberReaders.{byte_reader, signed_reader}
-use Rattle.farm_history.proofs.Readers.{Takes, IsReader, made_reader, ok_is, then_reader}
+use Rattle.farm_history.proofs.Readers.{IsPlacing, made_reader, then_reader}
 
 -- each number fits 64 bits
 abbrev pub AllFit : List ℤ → Type 0
@@ -24,17 +27,15 @@ none_again : (numbers : List ℤ) (rest : List ℕ) → IsCounted 0 numbers → 
 none_again [] rest h = refl
 none_again (number ∷ numbers) rest h = absurd (omega (arith, h.0))
 
--- numbers that were read
-abbrev numbers_read : List ℤ × List ℕ → Result (List ℤ × List ℕ) ℕ
-numbers_read x = Ok x
-
 -- reading no numbers
-none_reader : IsReader (IsCounted 0) (flat_map signed_bytes) (numbers_at zero)
+none_reader : IsPlacing (IsCounted 0) (flat_map signed_bytes) (numbers_at zero)
 none_reader = record {
-  again = none_again;
-  takes = λ bytes numbers rest fits e.
-      subst (λ (p : List ℤ × List ℕ). Takes bytes (flat_map signed_bytes p.0) p.1 × IsCounted 0 p.0) (ok_is ([], bytes) (numbers, rest) e)
-      (record { parts = refl; rest_fits = fits }, (refl, tt));
+  reads = record {
+    again = none_again;
+    takes = λ bytes numbers rest fits e.
+        subst (λ (p : List ℤ × List ℕ). Takes bytes (flat_map signed_bytes p.0) p.1 × IsCounted 0 p.0) (ok_is ([], bytes) (numbers, rest) e)
+        (record { parts = refl; rest_fits = fits }, (refl, tt));
+  };
   refuses = λ bytes left fits e. absurd (cc e);
   some = [];
   some_fits = (refl, tt);
@@ -58,7 +59,7 @@ others_fit count [] h = absurd (omega (arith, h.0))
 others_fit count (number ∷ numbers) h = (h.1.0, (omega (arith, h.0), h.1.1))
 
 -- reading this many numbers
-numbers_reader : (count : ℕ) → IsReader (IsCounted count) (flat_map signed_bytes) (numbers_at count)
+numbers_reader : (count : ℕ) → IsPlacing (IsCounted count) (flat_map signed_bytes) (numbers_at count)
 numbers_reader zero = none_reader
 numbers_reader (suc count) =
     made_reader (then_reader signed_reader (λ first fits. numbers_reader count)) (record {
@@ -103,7 +104,7 @@ bytes_of_made : (count : ℕ) (numbers : List ℤ) → length numbers ≡ count 
 bytes_of_made count numbers len = ap (λ t. count ∷ flat_map signed_bytes t) (take_at numbers (replicate (8 - count) (pos 0)) count len)
 
 -- short lists
-pub list_reader : IsReader IsGoodList list_bytes list_at
+pub list_reader : IsPlacing IsGoodList list_bytes list_at
 unfolding list_at
 list_reader =
     made_reader (then_reader (byte_reader (λ count. leb count 8) 0 refl) (λ count fits. numbers_reader count)) (record {
@@ -114,30 +115,9 @@ list_reader =
       of_fits = λ few h. (le-leb few.count 8 h.0.count, (length-take-le few.count few.values (omega (arith, h.1, h.0.count)), front_fits few.count few.values h.2));
     })
 
--- a byte up to 1 is that of a kind
-kind_same : (kind : ℕ) → leb kind 1 ≡ true → kind_byte (kind == 1) ∷ [] ≡ kind ∷ []
-kind_same zero h = refl
-kind_same (suc zero) h = refl
-kind_same (suc (suc kind)) h = absurd (omega (arith, leb-true (suc (suc kind)) 1 h))
-
--- the byte of a kind gives it back
-kind_back : (outage : Bool) → (kind_byte outage == 1) ≡ outage
-kind_back false = refl
-kind_back true = refl
-
--- the byte of a kind is at most 1
-kind_fits : (outage : Bool) → leb (kind_byte outage) 1 ≡ true
-kind_fits false = refl
-kind_fits true = refl
-
 -- kinds of dips
-pub kind_reader : IsReader (λ outage. Unit {0}) (λ outage. kind_byte outage ∷ []) kind_at
+pub kind_reader : IsPlacing (λ outage. Unit {0}) (λ outage. kind_byte outage ∷ []) kind_at
 unfolding kind_at
 kind_reader =
-    made_reader (byte_reader (λ kind. leb kind 1) 0 refl) (record {
-      to = λ kind h. tt;
-      same = kind_same;
-      of = kind_byte;
-      back = λ outage h. kind_back outage;
-      of_fits = λ outage h. kind_fits outage;
-    })
+    made_reader (byte_reader (λ kind. leb kind 1) 0 refl)
+    (flag_made (λ kind. leb kind 1 ≡ true) (λ kind h. leb-true kind 1 h) (λ kind h. le-leb kind 1 h) kind_byte refl refl)

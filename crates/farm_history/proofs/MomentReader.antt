@@ -6,12 +6,15 @@ use Rattle.std.proofs.lemmas.Bool.{ltb-true}
 use Rattle.std.proofs.lemmas.Int.{ints, of_z-to_z, to_z-of_z, to_z_pos}
 use Rattle.std.proofs.lemmas.List.{length-replicate}
 use Rattle.farm_base.specs.Steps.{◌>>=◌}
-use Rattle.farm_history.specs.Decoding.{first_above, moment_at, number_at, signed_at, unless_above}
+use Rattle.byte_readers.specs.ByteReaders as readers
+use Rattle.byte_readers.specs.Readers.{IsBytes, Takes}
+use Rattle.byte_readers.proofs.NumberReaders.{wide64}
+use Rattle.farm_history.specs.Decoding.{first_above, moment_at, number_at, unless_above}
 use Rattle.farm_history.specs.Encoding.{signed_bytes}
 use Rattle.farm_history.specs.History.{IsMoment}
 use Rattle.farm_history.proofs.Above.{none_with_zeros, none_with_rest, none_of_front, IsAbove, above_found, some_none, none_le, le_none, value_of_eight, value_of-to_be_bytes}
-use Rattle.farm_history.proofs.NumberReaders.{IsBytes-with_zeros, guard_err, number_reader, short_number, wide64}
-use Rattle.farm_history.proofs.Readers.{IsBytes, Takes, IsBadFrom, IsReader, made_reader, same_reader}
+use Rattle.farm_history.proofs.NumberReaders.{IsBytes-with_zeros, guard_err, number_reader, short_number}
+use Rattle.farm_history.proofs.Readers.{IsBadFrom, IsPlacing, made_reader, same_reader}
 
 -- the last moment, and its bytes
 abbrev last : ℕ
@@ -68,14 +71,14 @@ unless_err (Some place) read left e = inl cc
 bounded_again : (n : ℕ) (rest : List ℕ) → n ≤ last → bounded_at (to_be_bytes w64 n ++ rest) ≡ Ok (n, rest)
 unfolding bounded_at
 bounded_again n rest le =
-    rw (none_with_rest last_bytes (to_be_bytes w64 n) rest refl (no_byte n le)) ((number_reader w64 (2 ^ 64) wide64).again n rest (omega arith))
+    rw (none_with_rest last_bytes (to_be_bytes w64 n) rest refl (no_byte n le)) ((number_reader w64 (2 ^ 64) wide64).reads.again n rest (omega arith))
 
 -- a moment that is read was so written
 bounded_takes : (bytes : List ℕ) (n : ℕ) (rest : List ℕ) → IsBytes bytes → bounded_at bytes ≡ Ok (n, rest) → Takes bytes (to_be_bytes w64 n) rest × (n ≤ last)
 unfolding bounded_at
 bounded_takes bytes n rest fits e =
     let both = unless_ok (first_above last_bytes bytes) (number_at w64 bytes) (n, rest) e in
-    let t = (number_reader w64 (2 ^ 64) wide64).takes bytes n rest fits both.1 in
+    let t = (number_reader w64 (2 ^ 64) wide64).reads.takes bytes n rest fits both.1 in
     let none = none_of_front last_bytes (to_be_bytes w64 n) rest (subst (λ text. first_above last_bytes text ≡ None) t.0.parts both.0) in
     let le = none_le last_bytes (to_be_bytes w64 n) (IsBytes-number 8 n) refl none in
     let small = value_of-to_be_bytes n t.1 in
@@ -116,11 +119,10 @@ bad_short bytes left fits none e =
     (at_most (bytes ++ zeros) (IsBytes-with_zeros bytes (8 - length bytes) fits) len (none_with_zeros last_bytes bytes (8 - length bytes) none)))
 
 -- numbers up to the last moment
-bounded_reader : IsReader (λ n. n ≤ last) (to_be_bytes w64) bounded_at
+bounded_reader : IsPlacing (λ n. n ≤ last) (to_be_bytes w64) bounded_at
 unfolding bounded_at
 bounded_reader = record {
-  again = bounded_again;
-  takes = bounded_takes;
+  reads = record { again = bounded_again; takes = bounded_takes };
   refuses = λ bytes left fits e.
       elim (unless_err (first_above last_bytes bytes) (number_at w64 bytes) left e) [
         | inl above ↦ bad_above bytes left (above_found last_bytes bytes left above)
@@ -150,8 +152,8 @@ unless_made None read make = refl
 unless_made (Some left) read make = refl
 
 -- moments
-pub moment_reader : IsReader IsMoment signed_bytes moment_at
-unfolding moment_at signed_at bounded_at
+pub moment_reader : IsPlacing IsMoment signed_bytes moment_at
+unfolding moment_at readers.signed_at bounded_at
 moment_reader =
     same_reader
     (made_reader bounded_reader (record {

@@ -6,12 +6,14 @@ use Rattle.farm_history.specs.declared.command.Command.TheVariants.{Opening, Clo
 use Rattle.farm_history.specs.declared.plan.Gauged.{Gauged}
 use Rattle.farm_history.specs.declared.plan.Plan.{Plan}
 use Rattle.farm_history.specs.declared.plan.Plan.TheVariants.{Transfer}
-use Rattle.farm_history.specs.Decoding.{cancel_at, closing_at, made_at, number_at, opening_at, reverse_at, settle_at}
+use Rattle.farm_history.specs.Decoding.{cancel_at, closing_at, number_at, opening_at, reverse_at, settle_at}
 use Rattle.farm_history.specs.Encoding.{IsTypedGauged, IsTypedPlan, IsTypedSecond, gauged_bytes, plan_bytes, second_bytes}
 use Rattle.farm_history.proofs.CommandFields.{IsOf, fields_bytes, tag_of}
-use Rattle.farm_history.proofs.NumberReaders.{number_reader, wide16, wide32}
+use Rattle.byte_readers.specs.ByteReaders.{made_at}
+use Rattle.byte_readers.proofs.NumberReaders.{wide16, wide32}
+use Rattle.farm_history.proofs.NumberReaders.{number_reader}
 use Rattle.farm_history.proofs.PlanReaders.{gauged_reader, no_gauged, plan_reader}
-use Rattle.farm_history.proofs.Readers.{IsReader, made_reader, then_reader}
+use Rattle.farm_history.proofs.Readers.{IsPlacing, made_reader, then_reader}
 use Rattle.farm_history.proofs.SecondReader.{second_reader}
 
 -- Openings.
@@ -44,7 +46,7 @@ unfolding fields_bytes
 opening_same plan = refl
 
 -- Openings after their tag
-pub opening_reader : IsReader (IsOf 4) fields_bytes opening_at
+pub opening_reader : IsPlacing (IsOf 4) fields_bytes opening_at
 unfolding opening_at
 opening_reader =
     made_reader plan_reader (record { to = opening_to; same = λ plan h. opening_same plan; of = opening_parts; back = opening_back; of_fits = opening_fits })
@@ -91,7 +93,7 @@ unfolding fields_bytes
 closing_same f = refl
 
 -- Closings after their tag
-pub closing_reader : IsReader (IsOf 5) fields_bytes closing_at
+pub closing_reader : IsPlacing (IsOf 5) fields_bytes closing_at
 unfolding closing_at
 closing_reader =
     made_reader (then_reader (number_reader w32 (2 ^ 32) wide32) (λ a ha. then_reader gauged_reader (λ b hb. second_reader)))
@@ -139,7 +141,7 @@ unfolding fields_bytes
 settle_same f = refl
 
 -- Settles after their tag
-pub settle_reader : IsReader (IsOf 7) fields_bytes settle_at
+pub settle_reader : IsPlacing (IsOf 7) fields_bytes settle_at
 unfolding settle_at
 settle_reader =
     made_reader (then_reader (number_reader w16 (2 ^ 16) wide16) (λ a ha. gauged_reader))
@@ -192,7 +194,7 @@ placed_same true place = refl
 placed_same false place = refl
 
 -- such commands after their tag
-placed_reader : (reverse : Bool) → IsReader (IsOf (placed_tag reverse)) fields_bytes (made_at (placed reverse) (number_at w32))
+placed_reader : (reverse : Bool) → IsPlacing (IsOf (placed_tag reverse)) fields_bytes (made_at (placed reverse) (number_at w32))
 placed_reader reverse =
     made_reader (number_reader w32 (2 ^ 32) wide32) (record {
       to = placed_to reverse;
@@ -203,11 +205,11 @@ placed_reader reverse =
     })
 
 -- Cancels after their tag
-pub cancel_reader : IsReader (IsOf 6) fields_bytes cancel_at
+pub cancel_reader : IsPlacing (IsOf 6) fields_bytes cancel_at
 unfolding cancel_at
 cancel_reader = placed_reader false
 
 -- Reverses after their tag
-pub reverse_reader : IsReader (IsOf 8) fields_bytes reverse_at
+pub reverse_reader : IsPlacing (IsOf 8) fields_bytes reverse_at
 unfolding reverse_at
 reverse_reader = placed_reader true

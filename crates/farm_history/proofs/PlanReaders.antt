@@ -9,12 +9,13 @@ use Rattle.farm_ticket.specs.declared.side.Way.{Way}
 use Rattle.farm_ticket.specs.declared.side.Way.TheVariants.{Inward, Outward}
 use Rattle.farm_history.specs.Decoding.{gauged_at, is_way, outside_at, plan_at, plan_of_way, transfer_at}
 use Rattle.farm_history.specs.Encoding.{IsTypedGauged, IsTypedPlan, gauged_bytes, plan_bytes, way_byte}
+use Rattle.byte_readers.proofs.NumberReaders.{wide16, wide32}
 use Rattle.farm_history.proofs.Choices.{choose_reader, of_number}
-use Rattle.farm_history.proofs.NumberReaders.{byte_reader, number_reader, wide16, wide32}
-use Rattle.farm_history.proofs.Readers.{IsReader, made_reader, then_reader}
+use Rattle.farm_history.proofs.NumberReaders.{byte_reader, number_reader}
+use Rattle.farm_history.proofs.Readers.{IsPlacing, made_reader, then_reader}
 
 -- what is named for a tank
-pub gauged_reader : IsReader IsTypedGauged gauged_bytes gauged_at
+pub gauged_reader : IsPlacing IsTypedGauged gauged_bytes gauged_at
 unfolding gauged_at
 gauged_reader =
     made_reader (then_reader (number_reader w32 (2 ^ 32) wide32) (λ a ha. number_reader w32 (2 ^ 32) wide32)) (record {
@@ -93,7 +94,7 @@ unfolding rest_of
 outside_same way f = refl
 
 -- receipts and deliveries after their way
-outside_reader : (way : Way) → IsReader (IsOfWay (way_byte way)) rest_of (outside_at way)
+outside_reader : (way : Way) → IsPlacing (IsOfWay (way_byte way)) rest_of (outside_at way)
 unfolding outside_at
 outside_reader way =
     made_reader
@@ -142,7 +143,7 @@ unfolding rest_of
 transfer_same f = refl
 
 -- transfers after their way
-transfer_reader : IsReader (IsOfWay 3) rest_of transfer_at
+transfer_reader : IsPlacing (IsOfWay 3) rest_of transfer_at
 unfolding transfer_at
 transfer_reader =
     made_reader
@@ -155,7 +156,7 @@ third_way : (way : ℕ) → is_way way ≡ true → (way == 1) ≡ false → (wa
 third_way way h one two = eqb-true way 3 (let e = rw (one, two) at h in e)
 
 -- the rest of a way's plans
-rest_reader : (way : ℕ) → is_way way ≡ true → IsReader (IsOfWay way) rest_of (plan_of_way way)
+rest_reader : (way : ℕ) → is_way way ≡ true → IsPlacing (IsOfWay way) rest_of (plan_of_way way)
 rest_reader way h =
     choose_reader (outside_at Inward) (λ bytes. cond (way == 2) (outside_at Outward bytes) (transfer_at bytes)) (way == 1)
     (λ here. of_number IsOfWay way 1 (outside_at Inward) (eqb-true way 1 here) (outside_reader Inward))
@@ -171,7 +172,7 @@ way_is_way (Outside Outward tank party gauged) = refl
 way_is_way (Transfer from to from_gauged to_gauged) = refl
 
 -- plans
-pub plan_reader : IsReader IsTypedPlan plan_bytes plan_at
+pub plan_reader : IsPlacing IsTypedPlan plan_bytes plan_at
 unfolding plan_at
 plan_reader =
     made_reader (then_reader (byte_reader is_way 3 refl) rest_reader) (record {

@@ -2,12 +2,13 @@
 use Rattle.std.proofs.Common.{◌≡◌, ℕ, zero, suc, ◌==◌, true, false, leb, List, [], ◌∷◌, Option, Some, None, Ok, refl, ap, ◌∙◌, arith}
 use Rattle.std.proofs.lemmas.Bool.{eqb-true, leb-true}
 use Rattle.farm_history.specs.declared.plan.Gauged.{Gauged}
-use Rattle.farm_history.specs.Decoding.{gauged_at, made_at, second_after, second_at}
+use Rattle.farm_history.specs.Decoding.{gauged_at, second_after, second_at}
 use Rattle.farm_history.specs.Encoding.{IsTypedGauged, IsTypedSecond, gauged_bytes, second_bytes}
+use Rattle.byte_readers.specs.ByteReaders.{made_at}
 use Rattle.farm_history.proofs.Choices.{choose_reader, of_number, only_reader}
 use Rattle.farm_history.proofs.NumberReaders.{byte_reader}
 use Rattle.farm_history.proofs.PlanReaders.{gauged_reader, no_gauged}
-use Rattle.farm_history.proofs.Readers.{IsReader, made_reader, then_reader}
+use Rattle.farm_history.proofs.Readers.{IsPlacing, made_reader, then_reader}
 
 -- the byte that says whether anything is named for a second tank
 unfoldable flag_of : Option Gauged → ℕ
@@ -36,7 +37,7 @@ nothing_only None h = refl
 nothing_only (Some gauged) h = absurd (omega (arith, h.0))
 
 -- nothing is named
-nothing_reader : IsReader (IsOfFlag 0) after_flag (λ bytes. Ok (None, bytes))
+nothing_reader : IsPlacing (IsOfFlag 0) after_flag (λ bytes. Ok (None, bytes))
 unfolding flag_of after_flag
 nothing_reader = only_reader None (refl, tt) refl nothing_only
 
@@ -68,7 +69,7 @@ some_fits None h = absurd (omega (arith, h.0))
 some_fits (Some gauged) h = h.1
 
 -- something is named
-something_reader : IsReader (IsOfFlag 1) after_flag (made_at Some gauged_at)
+something_reader : IsPlacing (IsOfFlag 1) after_flag (made_at Some gauged_at)
 something_reader =
     made_reader gauged_reader (record { to = some_to; same = λ gauged h. some_same gauged; of = some_parts; back = some_back; of_fits = some_fits })
 
@@ -79,7 +80,7 @@ second_flag (suc zero) h none = refl
 second_flag (suc (suc flag)) h none = absurd (omega (arith, leb-true (suc (suc flag)) 1 h))
 
 -- what follows such a byte
-after_reader : (flag : ℕ) → leb flag 1 ≡ true → IsReader (IsOfFlag flag) after_flag (second_after flag)
+after_reader : (flag : ℕ) → leb flag 1 ≡ true → IsPlacing (IsOfFlag flag) after_flag (second_after flag)
 after_reader flag h =
     choose_reader (λ bytes. Ok (None, bytes)) (made_at Some gauged_at) (flag == 0)
     (λ here. of_number IsOfFlag flag 0 (λ bytes. Ok (None, bytes)) (eqb-true flag 0 here) nothing_reader)
@@ -92,7 +93,7 @@ flag_is_flag None = refl
 flag_is_flag (Some gauged) = refl
 
 -- what is named for a second tank
-pub second_reader : IsReader IsTypedSecond second_bytes second_at
+pub second_reader : IsPlacing IsTypedSecond second_bytes second_at
 unfolding second_at
 second_reader =
     made_reader (then_reader (byte_reader (λ flag. leb flag 1) 0 refl) after_reader) (record {

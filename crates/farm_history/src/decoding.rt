@@ -2,7 +2,8 @@
 
 ghost use Rattle.std.specs.Prelude.{◌≡◌, IfErr, IfOk, Ok};
 ghost use Rattle.farm_history.specs.declared.entry.Entry.{Entry};
-ghost use Rattle.farm_history.specs.Decoding.{Gives, cancel_at, closing_at, command_at, dip_at, entry_at, gauge_at, opening_at, reverse_at, sample_at, settle_at, whole_entry};
+ghost use Rattle.byte_readers.specs.ByteReaders.{Gives};
+ghost use Rattle.farm_history.specs.Decoding.{cancel_at, closing_at, command_at, dip_at, entry_at, gauge_at, opening_at, reverse_at, sample_at, settle_at, whole_entry};
 ghost use Rattle.farm_history.specs.Encoding.{IsBadEntryAt, IsTyped, entry_encoding};
 ghost use Rattle.farm_history.specs.History.{IsWellFormed};
 
@@ -10,7 +11,8 @@ mod numbers;
 mod plans;
 
 use crate::{Command, Entry};
-use numbers::{i64_at, kind_at, list_at, moment_at, u16_at, u32_at, u64_at};
+use byte_readers::{i64_at, u16_at, u32_at, u64_at};
+use numbers::{MISSING, kind_at, list_at, moment_at};
 use plans::{gauged_at, plan_at, second_at};
 use thiserror::Error;
 
@@ -52,9 +54,9 @@ fn whole_entry(bytes: &[u8]) -> Result<Entry, usize>
 fn entry_at(bytes: &[u8]) -> Result<(Entry, &[u8]), usize>
     ensures entry { Gives (λ x. (x.0, x.1.now)) result (entry_at bytes.now) }
 {
-    let (caller, rest) = u32_at(bytes)?;
-    let (account, rest) = u32_at(rest)?;
-    let (key, rest) = u64_at(rest)?;
+    let (caller, rest) = u32_at(MISSING, bytes)?;
+    let (account, rest) = u32_at(MISSING, rest)?;
+    let (key, rest) = u64_at(MISSING, rest)?;
     let (at, rest) = moment_at(rest)?;
     let (cmd, rest) = command_at(rest)?;
     let entry = Entry {
@@ -73,7 +75,7 @@ fn command_at(bytes: &[u8]) -> Result<(Command, &[u8]), usize>
     ensures command { Gives (λ x. (x.0, x.1.now)) result (command_at bytes.now) }
 {
     match bytes {
-        [] => Err(0),
+        [] => Err(MISSING),
         [1, rest @ ..] => gauge_at(rest),
         [2, rest @ ..] => dip_at(rest),
         [3, rest @ ..] => sample_at(rest),
@@ -92,11 +94,11 @@ fn command_at(bytes: &[u8]) -> Result<(Command, &[u8]), usize>
 fn gauge_at(bytes: &[u8]) -> Result<(Command, &[u8]), usize>
     ensures gauge { Gives (λ x. (x.0, x.1.now)) result (gauge_at bytes.now) }
 {
-    let (tank, rest) = u16_at(bytes)?;
-    let (level, rest) = i64_at(rest)?;
-    let (water, rest) = i64_at(rest)?;
-    let (temperature, rest) = i64_at(rest)?;
-    let (ambient, rest) = i64_at(rest)?;
+    let (tank, rest) = u16_at(MISSING, bytes)?;
+    let (level, rest) = i64_at(MISSING, rest)?;
+    let (water, rest) = i64_at(MISSING, rest)?;
+    let (temperature, rest) = i64_at(MISSING, rest)?;
+    let (ambient, rest) = i64_at(MISSING, rest)?;
     let gauge = Command::Gauge {
         tank,
         level,
@@ -112,12 +114,12 @@ fn gauge_at(bytes: &[u8]) -> Result<(Command, &[u8]), usize>
 fn dip_at(bytes: &[u8]) -> Result<(Command, &[u8]), usize>
     ensures dip { Gives (λ x. (x.0, x.1.now)) result (dip_at bytes.now) }
 {
-    let (tank, rest) = u16_at(bytes)?;
+    let (tank, rest) = u16_at(MISSING, bytes)?;
     let (outage, rest) = kind_at(rest)?;
     let (tapes, rest) = list_at(rest)?;
     let (water, rest) = list_at(rest)?;
     let (temperatures, rest) = list_at(rest)?;
-    let (ambient, rest) = i64_at(rest)?;
+    let (ambient, rest) = i64_at(MISSING, rest)?;
     let dip = Command::Dip {
         tank,
         outage,
@@ -134,9 +136,9 @@ fn dip_at(bytes: &[u8]) -> Result<(Command, &[u8]), usize>
 fn sample_at(bytes: &[u8]) -> Result<(Command, &[u8]), usize>
     ensures sample { Gives (λ x. (x.0, x.1.now)) result (sample_at bytes.now) }
 {
-    let (tank, rest) = u16_at(bytes)?;
-    let (density, rest) = i64_at(rest)?;
-    let (sw, rest) = i64_at(rest)?;
+    let (tank, rest) = u16_at(MISSING, bytes)?;
+    let (density, rest) = i64_at(MISSING, rest)?;
+    let (sw, rest) = i64_at(MISSING, rest)?;
     Ok((Command::Sample { tank, density, sw }, rest))
 }
 
@@ -154,7 +156,7 @@ fn opening_at(bytes: &[u8]) -> Result<(Command, &[u8]), usize>
 fn closing_at(bytes: &[u8]) -> Result<(Command, &[u8]), usize>
     ensures closing { Gives (λ x. (x.0, x.1.now)) result (closing_at bytes.now) }
 {
-    let (movement, rest) = u32_at(bytes)?;
+    let (movement, rest) = u32_at(MISSING, bytes)?;
     let (first, rest) = gauged_at(rest)?;
     let (second, rest) = second_at(rest)?;
     let closing = Command::Closing {
@@ -170,7 +172,7 @@ fn closing_at(bytes: &[u8]) -> Result<(Command, &[u8]), usize>
 fn cancel_at(bytes: &[u8]) -> Result<(Command, &[u8]), usize>
     ensures cancel { Gives (λ x. (x.0, x.1.now)) result (cancel_at bytes.now) }
 {
-    let (movement, rest) = u32_at(bytes)?;
+    let (movement, rest) = u32_at(MISSING, bytes)?;
     Ok((Command::Cancel { movement }, rest))
 }
 
@@ -179,7 +181,7 @@ fn cancel_at(bytes: &[u8]) -> Result<(Command, &[u8]), usize>
 fn settle_at(bytes: &[u8]) -> Result<(Command, &[u8]), usize>
     ensures settle { Gives (λ x. (x.0, x.1.now)) result (settle_at bytes.now) }
 {
-    let (tank, rest) = u16_at(bytes)?;
+    let (tank, rest) = u16_at(MISSING, bytes)?;
     let (gauged, rest) = gauged_at(rest)?;
     Ok((Command::Settle { tank, gauged }, rest))
 }
@@ -189,6 +191,6 @@ fn settle_at(bytes: &[u8]) -> Result<(Command, &[u8]), usize>
 fn reverse_at(bytes: &[u8]) -> Result<(Command, &[u8]), usize>
     ensures reverse { Gives (λ x. (x.0, x.1.now)) result (reverse_at bytes.now) }
 {
-    let (ticket, rest) = u32_at(bytes)?;
+    let (ticket, rest) = u32_at(MISSING, bytes)?;
     Ok((Command::Reverse { ticket }, rest))
 }

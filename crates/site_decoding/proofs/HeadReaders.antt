@@ -18,7 +18,7 @@ use Rattle.site_decoding.specs.Decoding.{head_at, mode_of, name_at, row_at, roun
 use Rattle.site_encoding.specs.Encoding.{flag_byte, mode_byte, row_bytes, text_bytes}
 use Rattle.site_decoding.specs.Parts.{IsHead, head_bytes}
 use Rattle.site_decoding.specs.Readers.{IsReader}
-use Rattle.site_decoding.proofs.ListReaders.{counted_reader}
+use Rattle.byte_readers.proofs.ListReaders.{counted_reader}
 use Rattle.site_decoding.proofs.NumberReaders.{byte_reader, flag_reader, text_reader}
 use Rattle.site_decoding.proofs.Readers.{made_reader, reader_as, tested_reader, then_reader}
 

@@ -25,7 +25,8 @@ use Rattle.site_encoding.specs.Encoding.{line_bytes, short_list_bytes}
 use Rattle.farm_site.specs.Described.{AreLines}
 use Rattle.site_decoding.specs.Readers.{IsReader}
 use Rattle.farm_site.specs.Typed.{IsTypedGauge, IsTypedLine}
-use Rattle.site_decoding.proofs.ListReaders.{all_as, all_cons, all_head, all_tail, short_list_reader}
+use Rattle.byte_readers.proofs.ListReaders.{all_as, all_cons, all_head, all_tail}
+use Rattle.site_decoding.proofs.ListReaders.{short_list_reader}
 use Rattle.site_decoding.proofs.ProductReaders.{number_small, numbered_sound}
 use Rattle.site_decoding.proofs.TankReaders.{among_small}
 use Rattle.site_decoding.proofs.Readers.{reader_as, tested_reader}

@@ -1,35 +1,25 @@
 -- Readers of bytes, numbers and texts.
-use Rattle.std.proofs.Common.{◌≡◌, ℕ, zero, suc, ◌^◌, ◌<◌, ◌≤◌, ◌==◌, Bool, true, false, cond, ltb, leb, List, [], ◌∷◌, ◌++◌, length, take, drop, Ok, Err, refl, sym, ap, subst, ◌∙◌, length-append, arith, ℤ, pos, negsuc}
-use Rattle.std.specs.Int.{Width, w16, w32, w64, byte_len, cast_unsigned, from_be_bytes, to_be_bytes}
+use Rattle.std.proofs.Common.{◌≡◌, ℕ, ◌^◌, ◌<◌, ◌≤◌, false, ltb, leb, List, [], ◌∷◌, ◌++◌, length, take, drop, Ok, refl, sym, subst, length-append, arith, ℤ, pos, negsuc}
+use Rattle.std.specs.Int.{Width, w16, w32, w64, to_be_bytes}
 use Rattle.std.specs.Int.RustNames.{FitsSigned, unsigned_abs}
 use Rattle.std.proofs.lemmas.Bool.{ltb-false, le-ltb, leb-true}
-use Rattle.std.proofs.lemmas.Int.{ints, of_z-to_z, to_z-of_z}
+use Rattle.std.proofs.lemmas.Int.{ints}
 use Rattle.std.proofs.lemmas.List.{take_at, drop_at, take-append-drop, length-take}
-use Rattle.std.proofs.lemmas.Nat.{be_bytes_2, be_bytes_4, be_bytes_8, from_be_bytes-to_be_bytes_2, from_be_bytes-to_be_bytes_4, from_be_bytes-to_be_bytes_8}
 use Rattle.farm_fixed.specs.Range.{IsWithin, is_within}
 use Rattle.farm_fixed.proofs.ParsingLaws.{is_within-from, is_within-true}
 use Rattle.farm_fixed.specs.declared.limits.TheConstants.{LEAST_DENSITY, LEAST_FACTOR, LEAST_TEMPERATURE, MOST_DENSITY, MOST_FACTOR, MOST_HEIGHT, MOST_TEMPERATURE}
+use Rattle.byte_readers.proofs.NumberReaders as numbers
+use Rattle.byte_readers.proofs.NumberReaders.{IsWide, flag_made, there, wide16, wide32}
 use Rattle.site_decoding.specs.declared.fault.SiteBytesFault.TheVariants.{BadSite}
 use Rattle.site_decoding.specs.ByteReaders.{Reader, byte_at, byte_up_to, bytes_at, flag_at, natural_at, number_at, signed_at, tested_at, text_at}
 use Rattle.site_decoding.specs.Decoding.{density_at, factor_at, height_at, temperature_at}
 use Rattle.site_encoding.specs.Encoding.{flag_byte, natural_bytes, signed_bytes, text_bytes}
 use Rattle.site_decoding.specs.Readers.{IsBytes, IsReader, Takes}
-use Rattle.site_decoding.proofs.Readers.{IsBytes-drop, IsBytes-take, after_reader, made_reader, ok_is, reader_as, tested_reader}
-
--- a byte is one, and so is the rest
-IsBytes-rest : (b : ℕ) (bytes : List ℕ) → IsBytes (b ∷ bytes) → IsBytes bytes
-IsBytes-rest b bytes h i = h (suc i)
-
--- a byte that is read was so written
-byte_takes : (bytes : List ℕ) (b : ℕ) (rest : List ℕ) → IsBytes bytes → byte_at bytes ≡ Ok (b, rest) → Takes bytes (b ∷ []) rest × (b < 2 ^ 8)
-byte_takes [] b rest fits e = absurd cc
-byte_takes (byte ∷ bytes) b rest fits e =
-    subst (λ (p : ℕ × List ℕ). Takes (byte ∷ bytes) (p.0 ∷ []) p.1 × (p.0 < 2 ^ 8)) (ok_is (byte, bytes) (b, rest) e)
-    (record { parts = refl; rest_fits = IsBytes-rest byte bytes fits }, omega (arith, fits 0))
+use Rattle.site_decoding.proofs.Readers.{IsBytes-drop, after_reader, made_reader, reader_as, tested_reader}
 
 -- bytes
 pub byte_reader : IsReader (λ b. b < 2 ^ 8) (λ b. b ∷ []) byte_at
-byte_reader = record { again = λ b rest h. refl; takes = byte_takes }
+byte_reader = numbers.byte_reader BadSite
 
 -- bytes up to one
 pub byte_up_to_reader : (most : ℕ) → most < 2 ^ 8 → IsReader (λ b. b ≤ most) (λ b. b ∷ []) (byte_up_to most)
@@ -37,98 +27,14 @@ unfolding byte_up_to
 byte_up_to_reader most small =
     reader_as (tested_reader (λ byte. leb byte most) byte_reader) (λ b h. leb-true b most h.1) (λ b h. (omega (arith, h, small), grind (arith, h)))
 
--- yes or no is the byte up to 1
-flag_same : (byte : ℕ) → byte ≤ 1 → flag_byte (byte == 1) ∷ [] ≡ byte ∷ []
-flag_same zero h = refl
-flag_same (suc zero) h = refl
-flag_same (suc (suc byte)) h = absurd (omega (arith, h))
-
--- the byte of a flag gives it back
-flag_back : (flag : Bool) → (flag_byte flag == 1) ≡ flag
-flag_back false = refl
-flag_back true = refl
-
--- the byte of a flag is at most 1
-flag_fits : (flag : Bool) → flag_byte flag ≤ 1
-flag_fits false = omega arith
-flag_fits true = omega arith
-
 -- yes and no
 pub flag_reader : IsReader (λ flag. Unit {0}) (λ flag. flag_byte flag ∷ []) flag_at
 unfolding flag_at
-flag_reader =
-    made_reader (byte_up_to_reader 1 (omega arith)) (record {
-      to = λ byte h. tt;
-      same = flag_same;
-      of = flag_byte;
-      back = λ flag h. flag_back flag;
-      of_fits = λ flag h. flag_fits flag;
-    })
-
--- a width: how many bytes it has, and that numbers below a limit and their bytes are one
-pub record IsWide (w : Width) (limit : ℕ) : Type 0 where
-  pub len : (n : ℕ) → length (to_be_bytes w n) ≡ byte_len w
-  pub back : (bytes : List ℕ) → length bytes ≡ byte_len w → IsBytes bytes → to_be_bytes w (from_be_bytes w bytes) ≡ bytes
-  pub again : (n : ℕ) → n < limit → from_be_bytes w (to_be_bytes w n) ≡ n
-  pub below : (bytes : List ℕ) → IsBytes bytes → from_be_bytes w bytes < limit
-
--- numbers of two bytes
-pub wide16 : IsWide w16 (2 ^ 16)
-wide16 = record {
-  len = λ n. refl;
-  back = λ bytes len fits. be_bytes_2 bytes _ len fits refl;
-  again = λ n lt. from_be_bytes-to_be_bytes_2 n lt;
-  below = λ bytes fits. omega (arith, fits 0, fits 1);
-}
-
--- numbers of four bytes
-pub wide32 : IsWide w32 (2 ^ 32)
-wide32 = record {
-  len = λ n. refl;
-  back = λ bytes len fits. be_bytes_4 bytes _ len fits refl;
-  again = λ n lt. from_be_bytes-to_be_bytes_4 n lt;
-  below = λ bytes fits. omega (arith, fits 0, fits 1, fits 2, fits 3);
-}
-
--- numbers of eight bytes
-pub wide64 : IsWide w64 (2 ^ 64)
-wide64 = record {
-  len = λ n. refl;
-  back = λ bytes len fits. be_bytes_8 bytes _ len fits refl;
-  again = λ n lt. from_be_bytes-to_be_bytes_8 n lt;
-  below = λ bytes fits. omega (arith, fits 0, fits 1, fits 2, fits 3, fits 4, fits 5, fits 6, fits 7);
-}
-
--- bytes that were there
-there : {A : Type 0} (short : Bool) (x y : A) → cond short (Err BadSite) (Ok x) ≡ Ok y → (short ≡ false) × (x ≡ y)
-there true x y e = absurd cc
-there false x y e = (refl, cc)
-
--- a number is read again
-number_again : (w : Width) (limit : ℕ) → IsWide w limit → (n : ℕ) (rest : List ℕ) → n < limit → number_at w (to_be_bytes w n ++ rest) ≡ Ok (n, rest)
-number_again w limit wide n rest lt =
-    let len = wide.len n in
-    let long : ltb (length (to_be_bytes w n ++ rest)) (byte_len w) ≡ false = le-ltb _ _ (omega (arith, length-append (to_be_bytes w n) rest)) in
-    rw (long, take_at (to_be_bytes w n) rest (byte_len w) len, drop_at (to_be_bytes w n) rest (byte_len w) len, wide.again n lt) refl
-
--- a number that is read was so written
-number_takes : (w : Width) (limit : ℕ) → IsWide w limit → (bytes : List ℕ) (n : ℕ) (rest : List ℕ) → IsBytes bytes → number_at w bytes ≡ Ok (n, rest) →
-    Takes bytes (to_be_bytes w n) rest × (n < limit)
-number_takes w limit wide bytes n rest fits e =
-    let front = take (byte_len w) bytes in
-    let g = there (ltb (length bytes) (byte_len w)) (from_be_bytes w front, drop (byte_len w) bytes) (n, rest) e in
-    let long = ltb-false _ _ g.0 in
-    let n_is : from_be_bytes w front ≡ n = ap (λ (p : ℕ × List ℕ). p.0) g.1 in
-    let rest_is : drop (byte_len w) bytes ≡ rest = ap (λ (p : ℕ × List ℕ). p.1) g.1 in
-    let front_fits = IsBytes-take (byte_len w) bytes fits in
-    let text : to_be_bytes w n ≡ front = ap (to_be_bytes w) (sym n_is) ∙ wide.back front (omega (arith, length-take (byte_len w) bytes)) front_fits in
-    let parts : bytes ≡ to_be_bytes w n ++ rest =
-    sym (take-append-drop (byte_len w) bytes) ∙ ap (λ t. t ++ drop (byte_len w) bytes) (sym text) ∙ ap (λ t. to_be_bytes w n ++ t) rest_is in
-    (record { parts = parts; rest_fits = subst IsBytes rest_is (IsBytes-drop (byte_len w) bytes fits) }, subst (λ k. k < limit) n_is (wide.below front front_fits))
+flag_reader = made_reader (byte_up_to_reader 1 (omega arith)) (flag_made (λ byte. byte ≤ 1) (λ byte h. h) (λ byte h. h) flag_byte refl refl)
 
 -- numbers of a width
 pub number_reader : (w : Width) (limit : ℕ) → IsWide w limit → IsReader (λ n. n < limit) (to_be_bytes w) (number_at w)
-number_reader w limit wide = record { again = number_again w limit wide; takes = number_takes w limit wide }
+number_reader = numbers.number_reader BadSite
 
 -- numbers of two bytes are read exactly
 pub number16_reader : IsReader (λ n. n < 2 ^ 16) (to_be_bytes w16) (number_at w16)
@@ -157,27 +63,11 @@ natural_reader w limit wide =
 
 -- signed numbers of 16 bits
 pub signed16_reader : IsReader (FitsSigned w16) (signed_bytes w16) (signed_at w16)
-unfolding signed_at
-signed16_reader =
-    made_reader number16_reader (record {
-      to = λ n lt. omega (arith, ints);
-      same = λ n lt. ap (to_be_bytes w16) (of_z-to_z w16 n lt);
-      of = λ z. cast_unsigned w16 z;
-      back = λ z fits. to_z-of_z w16 z fits;
-      of_fits = λ z fits. omega (arith, ints);
-    })
+signed16_reader = numbers.signed16_reader BadSite
 
 -- signed numbers of 64 bits
 pub signed64_reader : IsReader (FitsSigned w64) (signed_bytes w64) (signed_at w64)
-unfolding signed_at
-signed64_reader =
-    made_reader (number_reader w64 (2 ^ 64) wide64) (record {
-      to = λ n lt. omega (arith, ints);
-      same = λ n lt. ap (to_be_bytes w64) (of_z-to_z w64 n lt);
-      of = λ z. cast_unsigned w64 z;
-      back = λ z fits. to_z-of_z w64 z fits;
-      of_fits = λ z fits. omega (arith, ints);
-    })
+signed64_reader = numbers.signed64_reader BadSite
 
 -- Quantities.
 
@@ -223,7 +113,7 @@ bytes_again count text rest len =
 -- this many bytes that are read stand there
 bytes_takes : (count : ℕ) (bytes text rest : List ℕ) → IsBytes bytes → bytes_at count bytes ≡ Ok (text, rest) → Takes bytes text rest × (length text ≡ count)
 bytes_takes count bytes text rest fits e =
-    let g = there (ltb (length bytes) count) (take count bytes, drop count bytes) (text, rest) e in
+    let g = there (ltb (length bytes) count) BadSite (take count bytes, drop count bytes) (text, rest) e in
     let long = ltb-false _ _ g.0 in
     subst (λ (p : List ℕ × List ℕ). Takes bytes p.0 p.1 × (length p.0 ≡ count)) g.1
     (record { parts = sym (take-append-drop count bytes); rest_fits = IsBytes-drop count bytes fits }, omega (arith, length-take count bytes))

@@ -23,8 +23,10 @@ use Rattle.site_decoding.specs.Readers.{IsReader}
 use Rattle.farm_site.specs.Typed.{IsTypedGrid, IsTypedProduct}
 use Rattle.site_decoding.proofs.Grids.{is_grid-from, is_grid-true}
 use Rattle.site_decoding.proofs.HeadReaders.{name_length}
-use Rattle.site_decoding.proofs.ListReaders.{AreCounted, AreListed, all_as, counted_reader, list_reader, short_list_reader}
-use Rattle.site_decoding.proofs.NumberReaders.{density_reader, factor_reader, number16_reader, temperature_reader, text_reader, wide16, wide32}
+use Rattle.byte_readers.proofs.ListReaders.{AreCounted, all_as, counted_reader}
+use Rattle.byte_readers.proofs.NumberReaders.{wide16, wide32}
+use Rattle.site_decoding.proofs.ListReaders.{AreListed, list_reader, short_list_reader}
+use Rattle.site_decoding.proofs.NumberReaders.{density_reader, factor_reader, number16_reader, temperature_reader, text_reader}
 use Rattle.site_decoding.proofs.Readers.{made_reader, reader_as, tested_reader, then_reader}
 
 -- Factors.

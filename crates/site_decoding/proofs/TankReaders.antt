@@ -33,8 +33,10 @@ use Rattle.site_encoding.specs.Encoding.{amount_bytes, flag_byte, list_bytes, na
 use Rattle.farm_site.specs.Described.{AreTanks}
 use Rattle.site_decoding.specs.Readers.{IsReader}
 use Rattle.farm_site.specs.Typed.{IsTypedRoof, IsTypedTank}
-use Rattle.site_decoding.proofs.ListReaders.{AreListed, all_as, list_reader, option_reader, short_list_reader}
-use Rattle.site_decoding.proofs.NumberReaders.{IsNatural, flag_reader, height_reader, natural_reader, natural_within, number16_reader, signed64_reader, temperature_reader, wide16, wide32}
+use Rattle.byte_readers.proofs.ListReaders.{all_as}
+use Rattle.byte_readers.proofs.NumberReaders.{wide16, wide32}
+use Rattle.site_decoding.proofs.ListReaders.{AreListed, list_reader, option_reader, short_list_reader}
+use Rattle.site_decoding.proofs.NumberReaders.{IsNatural, flag_reader, height_reader, natural_reader, natural_within, number16_reader, signed64_reader, temperature_reader}
 use Rattle.site_decoding.proofs.ProductReaders.{items_fit, number_small, numbered_sound}
 use Rattle.site_decoding.proofs.Readers.{made_reader, reader_as, tested_reader, then_reader}
 

@@ -1,10 +1,12 @@
--- Readers of bytes from left to right: of bytes, numbers and texts, of what may be missing, of lists, and of one after another. A reader
--- gives a value and the bytes after it, and `BadSite` where bytes begin with no such value.
-use Rattle.std.specs.Prelude.{◌≡◌, ℕ, zero, suc, ◌==◌, Bool, true, false, nat_le, nat_lt, if◌then◌else◌, List, [], ◌∷◌, length, take, drop, Option, Some, None, Result, Ok, Err, ℤ, pos}
-use Rattle.std.specs.Int.{Width, byte_len, cast_signed, from_be_bytes}
-use Rattle.farm_base.specs.Steps.{◌>>=◌, IsRefusedAs}
+-- The readers of `byte_readers` for a site, with `BadSite` where bytes begin with no such value, and readers of texts, of what may be missing,
+-- and of lists.
+use Rattle.std.specs.Prelude.{◌≡◌, ℕ, ◌==◌, Bool, true, false, nat_le, nat_lt, if◌then◌else◌, List, length, take, drop, Option, Some, None, Result, Ok, Err, ℤ, pos}
+use Rattle.std.specs.Int.{Width}
+use Rattle.farm_base.specs.Steps.{IsRefusedAs}
+use Rattle.byte_readers.specs.ByteReaders as readers
 use Rattle.site_decoding.specs.declared.fault.SiteBytesFault.{SiteBytesFault}
 use Rattle.site_decoding.specs.declared.fault.SiteBytesFault.TheVariants.{BadSite, NoMemory}
+pub use Rattle.byte_readers.specs.ByteReaders.{then_at, ◌▸◌, after_at, made_at, counted_at}
 
 -- the fault of bytes that a call reports, where it isn't out of memory
 abbrev pub reported : SiteBytesFault → Option SiteBytesFault
@@ -18,33 +20,15 @@ Gives view (Err fault) read = IsRefusedAs (reported fault) read
 
 -- a reader of values
 abbrev pub Reader : Type 0 → Type 0
-Reader A = List ℕ → Result (A × List ℕ) SiteBytesFault
-
--- one value, and then another whose reader depends on the first
-abbrev pub then_at : {A B : Type 0} → Reader A → (A → Reader B) → Reader (A × B)
-then_at first second bytes = first bytes >>= λ a. second a.0 a.1 >>= λ b. Ok ((a.0, b.0), b.1)
-
-infixr 12 ◌▸◌
--- one value and then another
-abbrev pub ◌▸◌ : {A B : Type 0} → Reader A → Reader B → Reader (A × B)
-first ▸ second = then_at first (λ _. second)
-
--- what follows a value and is read by it
-abbrev pub after_at : {A B : Type 0} → Reader A → (A → Reader B) → Reader B
-after_at first second bytes = first bytes >>= λ a. second a.0 a.1
-
--- what is made of a value
-abbrev pub made_at : {A B : Type 0} → (A → B) → Reader A → Reader B
-made_at make read bytes = read bytes >>= λ a. Ok (make a.0, a.1)
+Reader = readers.Reader SiteBytesFault
 
 -- a value that passes a test
 abbrev pub tested_at : {A : Type 0} → (A → Bool) → Reader A → Reader A
-tested_at test read bytes = read bytes >>= λ a. if test a.0 then Ok a else Err BadSite
+tested_at test = readers.tested_at test (λ _. BadSite)
 
 -- a byte
 abbrev pub byte_at : Reader ℕ
-byte_at [] = Err BadSite
-byte_at (byte ∷ bytes) = Ok (byte, bytes)
+byte_at = readers.byte_at BadSite
 
 -- a byte up to this one
 unfoldable pub byte_up_to : ℕ → Reader ℕ
@@ -56,16 +40,15 @@ flag_at = made_at (λ byte. byte == 1) (byte_up_to 1)
 
 -- a number of a width, high byte first
 abbrev pub number_at : Width → Reader ℕ
-number_at w bytes =
-    if nat_lt (length bytes) (byte_len w) then Err BadSite else Ok (from_be_bytes w (take (byte_len w) bytes), drop (byte_len w) bytes)
+number_at = readers.number_at BadSite
 
 -- a whole number that isn't below 0
 unfoldable pub natural_at : Width → Reader ℤ
 natural_at w = made_at pos (number_at w)
 
 -- a signed number
-unfoldable pub signed_at : Width → Reader ℤ
-signed_at w = made_at (cast_signed w) (number_at w)
+abbrev pub signed_at : Width → Reader ℤ
+signed_at = readers.signed_at BadSite
 
 -- this many bytes
 abbrev pub bytes_at : ℕ → Reader (List ℕ)
@@ -83,11 +66,6 @@ option_after read true bytes = made_at Some read bytes
 -- a thing that may be missing
 abbrev pub option_at : {A : Type 0} → Reader A → Reader (Option A)
 option_at read = after_at flag_at (option_after read)
-
--- a list of this many
-abbrev pub counted_at : {A : Type 0} → Reader A → ℕ → Reader (List A)
-counted_at read zero bytes = Ok ([], bytes)
-counted_at read (suc count) bytes = made_at (λ items. items.0 ∷ items.1) (read ▸ counted_at read count) bytes
 
 -- a list after its count of one byte
 abbrev pub short_list_at : {A : Type 0} → Reader A → Reader (List A)

@@ -1,6 +1,6 @@
 -- The definitions of `site_decoding`, by subject.
 pub mod ByteReaders
 pub mod Decoding
-pub mod Readers
+pub use Rattle.byte_readers.specs.Readers
 pub mod Parts
 pub mod Sites

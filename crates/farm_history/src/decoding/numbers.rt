@@ -1,65 +1,23 @@
-//! Numbers, bytes and short lists at the front of bytes. Each call answers the value and the bytes after it. Where the bytes don't begin
+//! Moments, bytes and short lists at the front of bytes. Each call answers the value and the bytes after it. Where the bytes don't begin
 //! with such a value it answers how many bytes are left from the first bad one on, 0 where bytes are missing.
 
 ghost use Rattle.std.specs.Prelude.{◌≡◌, ◌≤◌, nat_le};
-ghost use Rattle.std.specs.Int.{w16, w32, w64};
-ghost use Rattle.farm_history.specs.Decoding.{Gives, byte_at, first_above, kind_at, list_at, made_at, moment_at, number_at, numbers_at, padded, signed_at};
+ghost use Rattle.byte_readers.specs.ByteReaders.{Gives, made_at};
+ghost use Rattle.farm_history.specs.Decoding.{byte_at, first_above, kind_at, list_at, moment_at, numbers_at, padded};
 ghost use Rattle.farm_history.specs.declared.limits.TheConstants.{LONGEST_LIST};
 
 use crate::{Few, LAST_MOMENT, LONGEST_LIST};
+use byte_readers::i64_at;
 
-/// A number of 16 bits.
-pub fn u16_at(bytes: &[u8]) -> Result<(u16, &[u8]), usize>
-    ensures number { Gives (λ x. (x.0, x.1.now)) result (number_at w16 bytes.now) }
-{
-    if bytes.len() < 2 {
-        return Err(0);
-    }
-    let (front, rest) = bytes.split_at(2);
-    Ok((u16::from_be_bytes([front[0], front[1]]), rest))
-}
-
-/// A number of 32 bits.
-pub fn u32_at(bytes: &[u8]) -> Result<(u32, &[u8]), usize>
-    ensures number { Gives (λ x. (x.0, x.1.now)) result (number_at w32 bytes.now) }
-{
-    if bytes.len() < 4 {
-        return Err(0);
-    }
-    let (front, rest) = bytes.split_at(4);
-    let number = u32::from_be_bytes([front[0], front[1], front[2], front[3]]);
-    Ok((number, rest))
-}
-
-/// A number of 64 bits.
-pub fn u64_at(bytes: &[u8]) -> Result<(u64, &[u8]), usize>
-    ensures number { Gives (λ x. (x.0, x.1.now)) result (number_at w64 bytes.now) }
-{
-    if bytes.len() < 8 {
-        return Err(0);
-    }
-    let (front, rest) = bytes.split_at(8);
-    let number = u64::from_be_bytes([
-        front[0], front[1], front[2], front[3], front[4], front[5], front[6], front[7],
-    ]);
-    Ok((number, rest))
-}
-
-/// A signed number of 64 bits.
-#[tactic(auto, unfolding(crate::specs::Decoding::signed_at))]
-pub fn i64_at(bytes: &[u8]) -> Result<(i64, &[u8]), usize>
-    ensures number { Gives (λ x. (x.0, x.1.now)) result (signed_at bytes.now) }
-{
-    let (number, rest) = u64_at(bytes)?;
-    Ok((number.cast_signed(), rest))
-}
+/// How many bytes are left where bytes are missing.
+pub const MISSING: usize = 0;
 
 // A byte that is at most this.
 fn byte_up_to(most: u8, bytes: &[u8]) -> Result<(u8, &[u8]), usize>
     ensures byte { Gives (λ x. (x.0, x.1.now)) result (byte_at (λ byte. nat_le byte most) bytes.now) }
 {
     match bytes {
-        [] => Err(0),
+        [] => Err(MISSING),
         [byte, rest @ ..] if *byte <= most => Ok((*byte, rest)),
         [_, ..] => Err(bytes.len()),
     }
@@ -82,7 +40,7 @@ pub fn moment_at(bytes: &[u8]) -> Result<(i64, &[u8]), usize>
     if let Some(left) = first_above(&LAST_MOMENT.to_be_bytes(), bytes) {
         return Err(left);
     }
-    i64_at(bytes)
+    i64_at(MISSING, bytes)
 }
 
 // How many bytes are left at the first that makes a number greater than the greatest, whatever follows.
@@ -121,7 +79,7 @@ fn values_at(count: u8, bytes: &[u8]) -> Result<([i64; 8], &[u8]), usize>
     let mut values = [0; 8];
     let mut rest = bytes;
     for index in 0..usize::from(count) {
-        let (number, after) = i64_at(rest)?;
+        let (number, after) = i64_at(MISSING, rest)?;
         values[index] = number;
         rest = after;
     }

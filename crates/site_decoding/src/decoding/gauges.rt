@@ -4,8 +4,10 @@ ghost use Rattle.site_decoding.specs.ByteReaders.{Gives};
 ghost use Rattle.site_decoding.specs.Decoding.{fields_at, flags_at, request_at};
 
 use super::lists::{Piece, option_at, short_list_at};
-use super::numbers::{byte_at, byte_up_to, signed16_at, text_at, u16_at, u32_at};
+use super::numbers::{byte_up_to, text_at};
 use crate::SiteBytesFault;
+use crate::SiteBytesFault::BadSite;
+use byte_readers::{i16_at, u8_at, u16_at, u32_at};
 use gauge_maps::{Field, GaugeMap, Gauges, LineMap, Request, Valid};
 use std::alloc::Global;
 
@@ -26,7 +28,7 @@ impl Piece for LineMap {
     #[tactic(auto, unfolding(crate::specs::Decoding::line_at))]
     fn read_at(alloc: Global, bytes: &[u8]) -> Result<(LineMap, &[u8]), SiteBytesFault> {
         let (host, rest) = text_at(alloc, bytes)?;
-        let (port, rest) = u16_at(rest)?;
+        let (port, rest) = u16_at(BadSite, rest)?;
         let (gauges, rest) = short_list_at(alloc, 44, rest)?;
         let gauges = Gauges::new(gauges);
         Ok((LineMap { host, port, gauges }, rest))
@@ -40,13 +42,13 @@ impl Piece for GaugeMap {
 
     #[tactic(auto, unfolding(crate::specs::Decoding::gauge_at))]
     fn read_at(alloc: Global, bytes: &[u8]) -> Result<(GaugeMap, &[u8]), SiteBytesFault> {
-        let (tank, rest) = u16_at(bytes)?;
+        let (tank, rest) = u16_at(BadSite, bytes)?;
         let (request, rest) = request_at(rest)?;
         let (fields, rest) = fields_at(alloc, rest)?;
-        let (ambient_fixed, rest) = signed16_at(rest)?;
+        let (ambient_fixed, rest) = i16_at(BadSite, rest)?;
         let (valid, rest) = option_at(alloc, rest)?;
-        let (deadband_mm, rest) = u16_at(rest)?;
-        let (deadband_centi, rest) = u16_at(rest)?;
+        let (deadband_mm, rest) = u16_at(BadSite, rest)?;
+        let (deadband_centi, rest) = u16_at(BadSite, rest)?;
         let gauge = GaugeMap {
             tank,
             unit: request.unit,
@@ -57,7 +59,7 @@ impl Piece for GaugeMap {
             temperature: fields.temperature,
             water: fields.water,
             ambient: fields.ambient,
-            ambient_fixed,
+            ambient_fixed: i64::from(ambient_fixed),
             valid,
             deadband_mm,
             deadband_centi,
@@ -71,10 +73,10 @@ impl Piece for GaugeMap {
 fn request_at(bytes: &[u8]) -> Result<(Request, &[u8]), SiteBytesFault>
     ensures reads { Gives (λ x. (x.0, x.1.now)) result (request_at bytes.now) }
 {
-    let (unit, rest) = byte_at(bytes)?;
-    let (function, rest) = byte_at(rest)?;
-    let (start, rest) = u16_at(rest)?;
-    let (quantity, rest) = byte_at(rest)?;
+    let (unit, rest) = u8_at(BadSite, bytes)?;
+    let (function, rest) = u8_at(BadSite, rest)?;
+    let (start, rest) = u16_at(BadSite, rest)?;
+    let (quantity, rest) = u8_at(BadSite, rest)?;
     let request = Request {
         unit,
         function,
@@ -109,11 +111,11 @@ impl Piece for Field {
 
     #[tactic(auto, unfolding(crate::specs::Decoding::field_at))]
     fn read_at(_: Global, bytes: &[u8]) -> Result<(Field, &[u8]), SiteBytesFault> {
-        let (offset, rest) = byte_at(bytes)?;
-        let (words, rest) = byte_at(rest)?;
+        let (offset, rest) = u8_at(BadSite, bytes)?;
+        let (words, rest) = u8_at(BadSite, rest)?;
         let ((swapped, signed), rest) = flags_at(rest)?;
-        let (mul, rest) = u32_at(rest)?;
-        let (div, rest) = u32_at(rest)?;
+        let (mul, rest) = u32_at(BadSite, rest)?;
+        let (div, rest) = u32_at(BadSite, rest)?;
         let field = Field {
             offset,
             words,
@@ -143,8 +145,8 @@ impl Piece for Valid {
 
     #[tactic(auto, unfolding(crate::specs::Decoding::valid_at))]
     fn read_at(_: Global, bytes: &[u8]) -> Result<(Valid, &[u8]), SiteBytesFault> {
-        let (offset, rest) = byte_at(bytes)?;
-        let (bit, rest) = byte_at(rest)?;
+        let (offset, rest) = u8_at(BadSite, bytes)?;
+        let (bit, rest) = u8_at(BadSite, rest)?;
         Ok((Valid { offset, bit }, rest))
     }
 }

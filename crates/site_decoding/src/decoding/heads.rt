@@ -6,9 +6,10 @@ ghost use Rattle.site_decoding.specs.ByteReaders.{Gives, byte_at, counted_at, te
 ghost use Rattle.site_decoding.specs.Decoding.{mode_of, name_at, row_at, rounding_at};
 ghost use Rattle.site_encoding.specs.declared.TheConstants.{FORMAT};
 
-use super::numbers::{byte_at, flag_at, text_at};
+use super::numbers::{flag_at, text_at};
 use crate::SiteBytesFault;
 use crate::SiteBytesFault::BadSite;
+use byte_readers::u8_at;
 use farm_rounding::{Mode, ROUNDING_ROWS, RoundTable};
 use farm_site::{Name, is_name};
 use site_encoding::FORMAT;
@@ -18,7 +19,7 @@ use std::alloc::Global;
 pub fn format_at(bytes: &[u8]) -> Result<(u8, &[u8]), SiteBytesFault>
     ensures reads { Gives (λ x. (x.0, x.1.now)) result (tested_at (λ format. format == FORMAT) byte_at bytes.now) }
 {
-    let (format, rest) = byte_at(bytes)?;
+    let (format, rest) = u8_at(BadSite, bytes)?;
     if format != FORMAT {
         return Err(BadSite);
     }
@@ -65,7 +66,7 @@ fn rows_at(bytes: &[u8]) -> Result<([(u8, Mode); ROUNDING_ROWS], &[u8]), SiteByt
 fn row_at(bytes: &[u8]) -> Result<((u8, Mode), &[u8]), SiteBytesFault>
     ensures reads { Gives (λ x. (x.0, x.1.now)) result (row_at bytes.now) }
 {
-    let (step, rest) = byte_at(bytes)?;
+    let (step, rest) = u8_at(BadSite, bytes)?;
     let (toward_zero, rest) = flag_at(rest)?;
     Ok(((step, mode_of(toward_zero)), rest))
 }

@@ -4,8 +4,10 @@ ghost use Rattle.std.specs.Prelude.{◌≡◌, ◌*◌, ◌<◌, ◌≤◌, ◌^
 ghost use Rattle.std.specs.Int.{w16, w32};
 ghost use Rattle.site_decoding.specs.ByteReaders.{Gives, counted_at, list_at, option_at, short_list_at};
 
-use super::numbers::{byte_at, flag_at, u16_at, u32_at};
+use super::numbers::flag_at;
 use crate::SiteBytesFault;
+use crate::SiteBytesFault::BadSite;
+use byte_readers::{u8_at, u16_at, u32_at};
 use std::alloc::Global;
 
 /// A thing that is read from bytes.
@@ -59,7 +61,7 @@ pub fn short_list_at<T: Piece>(
     requires { 0 < size }
     ensures reads { Gives (λ x. (x.0.items, x.1.now)) result (short_list_at T.reads bytes.now) }
 {
-    let (count, rest) = byte_at(bytes)?;
+    let (count, rest) = u8_at(BadSite, bytes)?;
     let (items, rest) = counted_at(alloc, usize::from(count), size, rest)?;
     Ok((items, rest))
 }
@@ -73,7 +75,7 @@ pub fn list16_at<T: Piece>(
     requires { 0 < size }
     ensures reads { Gives (λ x. (x.0.items, x.1.now)) result (list_at w16 T.reads bytes.now) }
 {
-    let (count, rest) = u16_at(bytes)?;
+    let (count, rest) = u16_at(BadSite, bytes)?;
     let (items, rest) = counted_at(alloc, usize::from(count), size, rest)?;
     Ok((items, rest))
 }
@@ -88,7 +90,7 @@ pub fn list32_at<T: Piece>(
     ensures reads { Gives (λ x. (x.0.items, x.1.now)) result (list_at w32 T.reads bytes.now) }
     ensures count { IfOk result (λ x. length x.0.items < 2 ^ 32) }
 {
-    let (count, rest) = u32_at(bytes)?;
+    let (count, rest) = u32_at(BadSite, bytes)?;
     let (items, rest) = counted_at(alloc, count as usize, size, rest)?;
     Ok((items, rest))
 }

@@ -1,33 +1,24 @@
 //! Bytes, numbers and texts at the front of bytes. Each call answers the value and the bytes after it.
 
 ghost use Rattle.std.specs.Prelude.{◌≡◌, Ok, Err, if◌then◌else◌};
-ghost use Rattle.std.specs.Int.{w16, w32, w64};
+ghost use Rattle.std.specs.Int.{w16, w32};
 ghost use Rattle.farm_fixed.specs.Range.{is_within};
-ghost use Rattle.site_decoding.specs.ByteReaders.{Gives, byte_at, byte_up_to, bytes_at, flag_at, natural_at, number_at, signed_at, text_at};
+ghost use Rattle.site_decoding.specs.ByteReaders.{Gives, byte_up_to, bytes_at, flag_at, natural_at, text_at};
 ghost use Rattle.site_decoding.specs.Decoding.{density_at, factor_at, height_at, temperature_at};
 
 use crate::SiteBytesFault;
 use crate::SiteBytesFault::BadSite;
+use byte_readers::{i16_at, u8_at, u16_at, u32_at};
 use farm_base::Items;
 use farm_fixed::{Centi, Dens, Fac5, Mm, Quantity, Unit};
 use std::alloc::Global;
-
-/// A byte.
-pub fn byte_at(bytes: &[u8]) -> Result<(u8, &[u8]), SiteBytesFault>
-    ensures reads { Gives (λ x. (x.0, x.1.now)) result (byte_at bytes.now) }
-{
-    match bytes {
-        [] => Err(BadSite),
-        [byte, rest @ ..] => Ok((*byte, rest)),
-    }
-}
 
 /// A byte that is at most this.
 #[tactic(auto, unfolding(crate::specs::ByteReaders::byte_up_to))]
 pub fn byte_up_to(most: u8, bytes: &[u8]) -> Result<(u8, &[u8]), SiteBytesFault>
     ensures reads { Gives (λ x. (x.0, x.1.now)) result (byte_up_to most bytes.now) }
 {
-    let (byte, rest) = byte_at(bytes)?;
+    let (byte, rest) = u8_at(BadSite, bytes)?;
     if byte > most {
         return Err(BadSite);
     }
@@ -43,49 +34,12 @@ pub fn flag_at(bytes: &[u8]) -> Result<(bool, &[u8]), SiteBytesFault>
     Ok((byte == 1, rest))
 }
 
-/// A number of 16 bits.
-pub fn u16_at(bytes: &[u8]) -> Result<(u16, &[u8]), SiteBytesFault>
-    ensures reads { Gives (λ x. (x.0, x.1.now)) result (number_at w16 bytes.now) }
-{
-    if bytes.len() < 2 {
-        return Err(BadSite);
-    }
-    let (front, rest) = bytes.split_at(2);
-    Ok((u16::from_be_bytes([front[0], front[1]]), rest))
-}
-
-/// A number of 32 bits.
-pub fn u32_at(bytes: &[u8]) -> Result<(u32, &[u8]), SiteBytesFault>
-    ensures reads { Gives (λ x. (x.0, x.1.now)) result (number_at w32 bytes.now) }
-{
-    if bytes.len() < 4 {
-        return Err(BadSite);
-    }
-    let (front, rest) = bytes.split_at(4);
-    let number = u32::from_be_bytes([front[0], front[1], front[2], front[3]]);
-    Ok((number, rest))
-}
-
-// A number of 64 bits.
-fn u64_at(bytes: &[u8]) -> Result<(u64, &[u8]), SiteBytesFault>
-    ensures reads { Gives (λ x. (x.0, x.1.now)) result (number_at w64 bytes.now) }
-{
-    if bytes.len() < 8 {
-        return Err(BadSite);
-    }
-    let (front, rest) = bytes.split_at(8);
-    let number = u64::from_be_bytes([
-        front[0], front[1], front[2], front[3], front[4], front[5], front[6], front[7],
-    ]);
-    Ok((number, rest))
-}
-
 /// A number of 16 bits that isn't below 0.
 #[tactic(auto, unfolding(crate::specs::ByteReaders::natural_at))]
 pub fn natural16_at(bytes: &[u8]) -> Result<(i64, &[u8]), SiteBytesFault>
     ensures reads { Gives (λ x. (x.0, x.1.now)) result (natural_at w16 bytes.now) }
 {
-    let (number, rest) = u16_at(bytes)?;
+    let (number, rest) = u16_at(BadSite, bytes)?;
     Ok((i64::from(number), rest))
 }
 
@@ -94,26 +48,8 @@ pub fn natural16_at(bytes: &[u8]) -> Result<(i64, &[u8]), SiteBytesFault>
 pub fn natural32_at(bytes: &[u8]) -> Result<(i64, &[u8]), SiteBytesFault>
     ensures reads { Gives (λ x. (x.0, x.1.now)) result (natural_at w32 bytes.now) }
 {
-    let (number, rest) = u32_at(bytes)?;
+    let (number, rest) = u32_at(BadSite, bytes)?;
     Ok((i64::from(number), rest))
-}
-
-/// A signed number of 16 bits.
-#[tactic(auto, unfolding(crate::specs::ByteReaders::signed_at))]
-pub fn signed16_at(bytes: &[u8]) -> Result<(i64, &[u8]), SiteBytesFault>
-    ensures reads { Gives (λ x. (x.0, x.1.now)) result (signed_at w16 bytes.now) }
-{
-    let (number, rest) = u16_at(bytes)?;
-    Ok((i64::from(number.cast_signed()), rest))
-}
-
-/// A signed number of 64 bits.
-#[tactic(auto, unfolding(crate::specs::ByteReaders::signed_at))]
-pub fn signed64_at(bytes: &[u8]) -> Result<(i64, &[u8]), SiteBytesFault>
-    ensures reads { Gives (λ x. (x.0, x.1.now)) result (signed_at w64 bytes.now) }
-{
-    let (number, rest) = u64_at(bytes)?;
-    Ok((number.cast_signed(), rest))
 }
 
 // This many units, if they are in the range of their quantity.
@@ -140,8 +76,8 @@ pub fn density_at(bytes: &[u8]) -> Result<(Dens, &[u8]), SiteBytesFault>
 pub fn temperature_at(bytes: &[u8]) -> Result<(Centi, &[u8]), SiteBytesFault>
     ensures reads { Gives (λ x. (x.0, x.1.now)) result (temperature_at bytes.now) }
 {
-    let (units, rest) = signed16_at(bytes)?;
-    Ok((ranged(units)?, rest))
+    let (units, rest) = i16_at(BadSite, bytes)?;
+    Ok((ranged(i64::from(units))?, rest))
 }
 
 /// A factor.
@@ -167,7 +103,7 @@ pub fn height_at(bytes: &[u8]) -> Result<(Mm, &[u8]), SiteBytesFault>
 pub fn text_at(alloc: Global, bytes: &[u8]) -> Result<(Items<u8>, &[u8]), SiteBytesFault>
     ensures reads { Gives (λ x. (x.0, x.1.now)) result (text_at bytes.now) }
 {
-    let (count, rest) = byte_at(bytes)?;
+    let (count, rest) = u8_at(BadSite, bytes)?;
     let (text, rest) = bytes_at(usize::from(count), rest)?;
     Ok((Items::new(text.to_vec(alloc)?), rest))
 }

@@ -6,9 +6,10 @@ ghost use Rattle.site_decoding.specs.ByteReaders.{Gives};
 ghost use Rattle.site_decoding.specs.Decoding.{grid_at, is_grid, party_at, product_at};
 
 use super::lists::{Piece, counted_at, list32_at};
-use super::numbers::{density_at, factor_at, temperature_at, text_at, u16_at};
+use super::numbers::{density_at, factor_at, temperature_at, text_at};
 use crate::SiteBytesFault;
 use crate::SiteBytesFault::BadSite;
+use byte_readers::u16_at;
 use farm_fixed::{Centi, Dens, Fac5};
 use farm_site::{Party, Product};
 use farm_vcf::Vcf;
@@ -51,7 +52,7 @@ impl Piece for Product {
 
     #[tactic(auto, unfolding(crate::specs::Decoding::product_at))]
     fn read_at(alloc: Global, bytes: &[u8]) -> Result<(Product, &[u8]), SiteBytesFault> {
-        let (number, rest) = u16_at(bytes)?;
+        let (number, rest) = u16_at(BadSite, bytes)?;
         let (name, rest) = text_at(alloc, rest)?;
         let (vcf, rest) = grid_at(alloc, rest)?;
         Ok((Product { number, name, vcf }, rest))
@@ -65,7 +66,7 @@ impl Piece for Party {
 
     #[tactic(auto, unfolding(crate::specs::Decoding::party_at))]
     fn read_at(alloc: Global, bytes: &[u8]) -> Result<(Party, &[u8]), SiteBytesFault> {
-        let (number, rest) = u16_at(bytes)?;
+        let (number, rest) = u16_at(BadSite, bytes)?;
         let (name, rest) = text_at(alloc, rest)?;
         Ok((Party { number, name }, rest))
     }

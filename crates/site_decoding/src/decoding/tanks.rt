@@ -6,11 +6,10 @@ ghost use Rattle.site_decoding.specs.ByteReaders.{Gives};
 ghost use Rattle.site_decoding.specs.Decoding.{amount_at, shell_at, spec_at, table_at};
 
 use super::lists::{Piece, list16_at, option_at};
-use super::numbers::{
-    flag_at, height_at, natural16_at, natural32_at, signed64_at, temperature_at, u16_at, u32_at,
-};
+use super::numbers::{flag_at, height_at, natural16_at, natural32_at, temperature_at};
 use crate::SiteBytesFault;
 use crate::SiteBytesFault::BadSite;
+use byte_readers::{i64_at, u16_at, u32_at};
 use farm_fixed::{Amount, Kg, Shell};
 use farm_site::Tank;
 use std::alloc::Global;
@@ -23,8 +22,8 @@ impl Piece for Tank {
 
     #[tactic(auto, unfolding(crate::specs::Decoding::tank_at))]
     fn read_at(alloc: Global, bytes: &[u8]) -> Result<(Tank, &[u8]), SiteBytesFault> {
-        let (number, rest) = u16_at(bytes)?;
-        let (product, rest) = u16_at(rest)?;
+        let (number, rest) = u16_at(BadSite, bytes)?;
+        let (product, rest) = u16_at(BadSite, rest)?;
         let (spec, rest) = match spec_at(alloc, rest) {
             Ok(read) => read,
             Err(fault) => return Err(fault),
@@ -95,7 +94,7 @@ impl Piece for Roof {
 
     #[tactic(auto, unfolding(crate::specs::Decoding::roof_at, crate::specs::ByteReaders::natural_at))]
     fn read_at(_: Global, bytes: &[u8]) -> Result<(Roof, &[u8]), SiteBytesFault> {
-        let (mass, rest) = u32_at(bytes)?;
+        let (mass, rest) = u32_at(BadSite, bytes)?;
         let mass = Kg::in_range(i128::from(mass));
         let (low, rest) = match height_at(rest) {
             Ok(read) => read,
@@ -144,7 +143,7 @@ fn table_of(rows: Vec<i64>) -> Result<CapTable, SiteBytesFault>
 fn amount_at(bytes: &[u8]) -> Result<(Amount, &[u8]), SiteBytesFault>
     ensures reads { Gives (λ x. (x.0, x.1.now)) result (amount_at bytes.now) }
 {
-    let (litres, rest) = signed64_at(bytes)?;
-    let (kg, rest) = signed64_at(rest)?;
+    let (litres, rest) = i64_at(BadSite, bytes)?;
+    let (kg, rest) = i64_at(BadSite, rest)?;
     Ok((Amount { litres, kg }, rest))
 }

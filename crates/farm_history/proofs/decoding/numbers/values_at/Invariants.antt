@@ -1,7 +1,7 @@
 -- The invariants of the loops of `values_at`.
 use Rattle.std.proofs.Common.{◌≡◌, ◌-◌, take, drop, length, replicate, pos}
 use Rattle.farm_history.specs.Decoding.{numbers_at}
-use Rattle.farm_history.proofs.Counted.{with_front}
+use Rattle.byte_readers.proofs.Counted.{with_front}
 use Rattle.farm_history.proofs.decoding.numbers.values_at.Given as goal
 
 -- the numbers so far and those that follow are all of them, and after those so far stand zeros

@@ -1,7 +1,7 @@
 -- Answers to the open goals of `read`.
 use Rattle.std.proofs.Common.{Ok, sym, ap, ◌∙◌, arith}
 use Rattle.farm_history.proofs.EntryReader.{entry_found, entry_only, entry_place}
-use Rattle.farm_history.proofs.Readers.{ok_is}
+use Rattle.byte_readers.proofs.Readers.{ok_is}
 use Rattle.farm_history.proofs.entry.Entry.read.Goals as goal
 
 pub overflow_sub-result : goal.overflow_sub-result

@@ -4,7 +4,8 @@ use Rattle.std.proofs.lemmas.List.{length-set, take_more_set}
 use Rattle.std.proofs.lemmas.Result.{err_from_is_err_and}
 use Rattle.site_decoding.specs.ByteReaders.{counted_at}
 use Rattle.site_decoding.specs.Decoding.{row_at}
-use Rattle.site_decoding.proofs.Counted.{goes_on, refused}
+use Rattle.byte_readers.proofs.Counted.{goes_on}
+use Rattle.site_decoding.proofs.Counted.{refused}
 use Rattle.site_decoding.proofs.decoding.heads.rows_at.Goals as goal
 
 pub returns-in_err-row : goal.returns-in_err-row

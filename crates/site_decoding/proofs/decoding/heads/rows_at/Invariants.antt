@@ -2,7 +2,7 @@
 use Rattle.std.proofs.Common.{◌≡◌, ◌-◌, length, take}
 use Rattle.site_decoding.specs.ByteReaders.{counted_at}
 use Rattle.site_decoding.specs.Decoding.{row_at}
-use Rattle.site_decoding.proofs.Counted.{with_front}
+use Rattle.byte_readers.proofs.Counted.{with_front}
 use Rattle.site_decoding.proofs.decoding.heads.rows_at.Given as goal
 
 -- the rows so far and those that follow are all of them

@@ -2,7 +2,8 @@
 use Rattle.std.proofs.Common.{◌≡◌, [], ◌∷◌, ◌++◌, length-append, arith, rules}
 use Rattle.std.proofs.lemmas.Result.{err_from_is_err_and}
 use Rattle.site_decoding.specs.ByteReaders.{counted_at}
-use Rattle.site_decoding.proofs.Counted.{goes_on, refused}
+use Rattle.byte_readers.proofs.Counted.{goes_on}
+use Rattle.site_decoding.proofs.Counted.{refused}
 use Rattle.site_decoding.proofs.decoding.lists.counted_at.Goals as goal
 
 pub returns-in_err-item-clause-reads : goal.returns-in_err-item-clause-reads

@@ -1,7 +1,7 @@
 -- The invariants of the loops of `counted_at`.
 use Rattle.std.proofs.Common.{◌≡◌, ◌-◌, length}
 use Rattle.site_decoding.specs.ByteReaders.{counted_at}
-use Rattle.site_decoding.proofs.Counted.{with_front}
+use Rattle.byte_readers.proofs.Counted.{with_front}
 use Rattle.site_decoding.proofs.decoding.lists.counted_at.Given as goal
 
 -- the things so far and those that follow are all of them
