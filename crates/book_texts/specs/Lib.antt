@@ -1,2 +1,3 @@
 -- The definitions of `book_texts`, by subject.
 pub mod Summaries
+pub mod DayReports

@@ -1,67 +1,87 @@
 -- The command of arguments, and what they name, by their form.
-use Rattle.std.proofs.Common.{◌≡◌, ◌≢◌, ℕ, List, [], ◌∷◌, Bool, true, false, cond, length, map, IfSome, Option, Some, None, codes, refl, sym, ap, subst, ◌∙◌, arith, ◌⊎◌, inl, inr}
+use Rattle.std.proofs.Common.{◌≡◌, ◌≢◌, ℕ, List, [], ◌∷◌, Bool, true, false, cond, length, map, Option, Some, None, ℤ, codes, refl, sym, ap, subst, ◌∙◌, arith, ◌⊎◌, inl, inr}
 use Rattle.std.specs.List.{All, flat_map}
-use Rattle.std.specs.Option.{option_map}
+use Rattle.std.specs.Option.{option_and_then}
 use Rattle.std.specs.Str.{bytes_eq}
 use Rattle.std.proofs.lemmas.Bool.Decides.{nat_tests}
 use Rattle.std.proofs.lemmas.List.Sorted.{All-permutation, IsPermutation-sym}
 use Rattle.std.proofs.lemmas.Slice.Eq.{bytes_eq-Decides}
+use Rattle.command_line.specs.declared.command_names.CommandName.{CommandName}
+use Rattle.command_line.specs.declared.command_names.CommandName.TheVariants as names
 use Rattle.command_line.specs.declared.commands.Subcommand.{Subcommand}
-use Rattle.command_line.specs.declared.commands.Subcommand.TheVariants.{Batch, Calc, Init, Serve, Table}
+use Rattle.command_line.specs.declared.commands.Subcommand.TheVariants.{Batch, Calc, Drill, Init, Report, Serve, Table}
 use Rattle.command_line.specs.declared.serve.ServeOptions.{ServeOptions}
-use Rattle.command_line.specs.Commands.{asks_to_serve, command_named, command_of, file_of, folder_of, is_serve, journal_file, option_names, site_folder, value_of, with_options}
-use Rattle.command_line.specs.Forms.{AreOptions, AreServeNumbers, IsForm, Written, command_name, spelling, value_among}
+use Rattle.command_line.specs.Commands.{asks_to_serve, command_by, command_named, command_of, file_of, folder_of, is_serve, journal_file, name_of, names_serve, option_names, site_folder, value_of, with_options}
+use Rattle.calendar_days.specs.Calendar.{IsFirstSecond}
+use Rattle.calendar_days.proofs.Texts.{has_day}
+use Rattle.command_line.specs.Forms.{AreOptions, AreDrillNumbers, AreServeNumbers, IsForm, Written, command_name, spelling, value_among}
+use Rattle.command_line.specs.Names.{name_named, name_text}
 use Rattle.command_line.specs.Options.{are_options, is_number, value_in, words_taken}
-use Rattle.command_line.specs.Serve.{serve_options}
+use Rattle.command_line.specs.declared.drill.DrillOptions.{DrillOptions}
 use Rattle.command_line.proofs.Forms.{AreNames, form_of, names_moved}
 use Rattle.command_line.proofs.Names.{is_one, names_of, none_is, some_is}
-use Rattle.command_line.proofs.Serving.{HaveNumbers, HaveValues, IsValueOf, numbers_found, numbers_written}
+use Rattle.command_line.proofs.Serving.{HaveNumbers, HaveValues, IsValueOf, found_in, named_by, numbers_found, numbers_written}
 use Rattle.command_line.proofs.Spellings.{Finds, all_found, no_value, taken_all, value_found}
 
 -- a word names a command: it is its name, and the words after it have its numbers
-record IsNamed (word : List ℕ) (words : List (List ℕ)) (command : Subcommand) : Type 0 where
-  name : word ≡ command_name command
-  numbers : HaveNumbers words command
+pub record IsNamed (word : List ℕ) (words : List (List ℕ)) (command : Subcommand) : Type 0 where
+  pub name : word ≡ command_name command
+  pub numbers : HaveNumbers words command
 
 -- a word is the first name and what is named is the first command, or it is the rest
-first_or : (word name : List ℕ) (first rest : Option Subcommand) (command : Subcommand) {P : Type 0} →
-    (word ≡ name → first ≡ Some command → P) → (rest ≡ Some command → P) →
-    cond {A = Option Subcommand} (bytes_eq word name) first rest ≡ Some command → P
-first_or word name first rest command {P} here later = by (bytes_eq word name) refl
+first_or : (word text : List ℕ) (first rest : Option CommandName) (name : CommandName) {P : Type 0} →
+    (word ≡ text → first ≡ Some name → P) → (rest ≡ Some name → P) →
+    cond {A = Option CommandName} (bytes_eq word text) first rest ≡ Some name → P
+first_or word text first rest name {P} here later = by (bytes_eq word text) refl
   where
-    by : (b : Bool) → bytes_eq word name ≡ b → cond {A = Option Subcommand} b first rest ≡ Some command → P
+    by : (b : Bool) → bytes_eq word text ≡ b → cond {A = Option CommandName} b first rest ≡ Some name → P
     by true f h = here (grind (arith, bytes_eq-Decides, f)) h
     by false f h = later h
 
--- a word that names a command with the numbers of words is so
-named_is : (word : List ℕ) (words : List (List ℕ)) (command : Subcommand) → command_named word words ≡ Some command → IsNamed word words command
-named_is word words command =
-    first_or word (codes "calc") _ _ command (named Calc tt)
-    (first_or word (codes "init") _ _ command (named Init tt)
-    (first_or word (codes "table") _ _ command (named Table tt)
-    (first_or word (codes "batch") _ _ command (named Batch tt)
-    (first_or word (codes "serve") _ _ command (served (serve_options words) refl)
-    (λ none. absurd (cc))))))
+-- a word that names a command is its name
+name_is : (word : List ℕ) (name : CommandName) → name_named word ≡ Some name → word ≡ name_text name
+name_is word name =
+    first_or word (codes "calc") _ _ name (named names.Calc)
+    (first_or word (codes "init") _ _ name (named names.Init)
+    (first_or word (codes "table") _ _ name (named names.Table)
+    (first_or word (codes "batch") _ _ name (named names.Batch)
+    (first_or word (codes "serve") _ _ name (named names.Serve)
+    (first_or word (codes "report") _ _ name (named names.Report)
+    (first_or word (codes "drill") _ _ name (named names.Drill)
+    (λ none. absurd (cc))))))))
   where
-    named : (other : Subcommand) → HaveNumbers words other → word ≡ command_name other → Some other ≡ Some command → IsNamed word words command
-    named other have name is =
-        let same : other ≡ command = cc in
-        subst (IsNamed word words) same (record { name = name; numbers = have })
-
-    served : (o : Option ServeOptions) → serve_options words ≡ o → word ≡ codes "serve" → option_map (λ options. Serve options) o ≡ Some command → IsNamed word words command
-    served None read name is = absurd (cc)
-    served (Some serve) read name is = named (Serve serve) read name is
+    named : (other : CommandName) → word ≡ name_text other → Some other ≡ Some name → word ≡ name_text name
+    named other text is =
+        let same : other ≡ name = cc in
+        text ∙ ap name_text same
 
 -- its name names it
+text_names : (name : CommandName) → name_named (name_text name) ≡ Some name
+text_names names.Calc = refl
+text_names names.Init = refl
+text_names names.Table = refl
+text_names names.Batch = refl
+text_names names.Serve = refl
+text_names names.Report = refl
+text_names names.Drill = refl
+
+-- a word that names a command with the numbers of words is so
+pub named_is : (word : List ℕ) (words : List (List ℕ)) (command : Subcommand) → command_named word words ≡ Some command → IsNamed word words command
+named_is word words command = by (name_named word) refl
+  where
+    by : (o : Option CommandName) → name_named word ≡ o → option_and_then (λ name. command_by name (found_in words)) o ≡ Some command → IsNamed word words command
+    by None is e = absurd (cc)
+    by (Some name) is e =
+        let same : name ≡ name_of command = named_by name (found_in words) command e in
+        record { name = name_is word name is ∙ ap name_text same; numbers = ap (λ n. command_by n (found_in words)) (sym same) ∙ e }
+
+-- its name names it with the numbers of words
 name_names : (command : Subcommand) (words : List (List ℕ)) → HaveNumbers words command → command_named (command_name command) words ≡ Some command
-name_names Calc words have = refl
-name_names Init words have = refl
-name_names Table words have = refl
-name_names Batch words have = refl
-name_names (Serve serve) words have = ap (option_map (λ options. Serve options)) have
+name_names command words have =
+    ap (option_and_then (λ name. command_by name (found_in words))) (text_names (name_of command)) ∙ have
 
 -- words are options where these take all of them
-taken_by_test : (o : Option ℕ) (n : ℕ) → is_number o n ≡ true → o ≡ Some n
+pub taken_by_test : (o : Option ℕ) (n : ℕ) → is_number o n ≡ true → o ≡ Some n
 taken_by_test None n e = absurd (cc)
 taken_by_test (Some m) n e = ap Some (grind (arith, nat_tests, e))
 
@@ -140,6 +160,8 @@ folder_is Init options words form = value_of_option Init options words form (cod
 folder_is Table options words form = value_of_option Table options words form (codes "site") refl
 folder_is Batch options words form = value_of_none Batch options words form (codes "site") refl
 folder_is (Serve serve) options words form = value_of_none (Serve serve) options words form (codes "site") refl
+folder_is (Report second) options words form = value_of_none (Report second) options words form (codes "site") refl
+folder_is (Drill drill) options words form = value_of_none (Drill drill) options words form (codes "site") refl
 
 file_is : (command : Subcommand) (options : List Written) (words : List (List ℕ)) → IsForm command options words → file_of (Some command) words ≡ value_among (codes "journal") options
 file_is Calc options words form = value_of_none Calc options words form (codes "journal") refl
@@ -147,6 +169,8 @@ file_is Init options words form = value_of_option Init options words form (codes
 file_is Table options words form = value_of_none Table options words form (codes "journal") refl
 file_is Batch options words form = value_of_option Batch options words form (codes "journal") refl
 file_is (Serve serve) options words form = value_of_option (Serve serve) options words form (codes "journal") refl
+file_is (Report second) options words form = value_of_option (Report second) options words form (codes "journal") refl
+file_is (Drill drill) options words form = value_of_none (Drill drill) options words form (codes "journal") refl
 
 -- the site's folder is the value of that option
 pub site_from_form : (command : Subcommand) (options : List Written) (words : List (List ℕ)) → IsForm command options words → site_folder words ≡ value_among (codes "site") options
@@ -164,28 +188,36 @@ no_command words none = by (command_of words) refl
     by None e = refl
     by (Some command) e = let form = form_from_command command words e in absurd (none command form.0 form.1)
 
--- a result that is the command of arguments has their form
-pub form_of_result : (words : List (List ℕ)) (result : Option Subcommand) → result ≡ command_of words → IfSome result (λ command. (options : List Written) × IsForm command options words)
-form_of_result words None is = tt
-form_of_result words (Some command) is = form_from_command command words (sym is)
+-- the name of a command is `serve` if and only if it is written so
+serve_is : (name : CommandName) → names_serve name ≡ bytes_eq (name_text name) (codes "serve")
+serve_is names.Calc = refl
+serve_is names.Init = refl
+serve_is names.Table = refl
+serve_is names.Batch = refl
+serve_is names.Serve = refl
+serve_is names.Report = refl
+serve_is names.Drill = refl
 
--- a command is `serve` if and only if its name is
-serve_is : (command : Subcommand) → is_serve command ≡ bytes_eq (command_name command) (codes "serve")
-serve_is Calc = refl
-serve_is Init = refl
-serve_is Table = refl
-serve_is Batch = refl
-serve_is (Serve serve) = refl
+-- a command is `serve` if and only if the first word is
+pub serve_of_command : (words : List (List ℕ)) (command : Subcommand) → command_of words ≡ Some command → is_serve command ≡ asks_to_serve words
+serve_of_command words command is =
+    let form = form_from_command command words is in
+    serve_is (name_of command) ∙ ap asks_to_serve (sym form.1.spelled)
 
--- a result that is the command of arguments is `serve` if and only if the first word is
-pub serve_of_result : (words : List (List ℕ)) (result : Option Subcommand) → result ≡ command_of words → IfSome result (λ command. is_serve command ≡ asks_to_serve words)
-serve_of_result words None is = tt
-serve_of_result words (Some command) is =
-    let form = form_from_command command words (sym is) in
-    serve_is command ∙ ap asks_to_serve (sym form.1.spelled)
+-- the second of `report` is the first of a day
+pub day_of_command : (words : List (List ℕ)) (second : ℤ) → command_of words ≡ Some (Report second) → IsFirstSecond second
+day_of_command words second is =
+    let form = form_from_command (Report second) words is in
+    has_day (value_among (codes "day") form.0) second form.1.numbers
 
 -- the numbers of `serve` are those of a form
-pub numbers_of_result : (words : List (List ℕ)) (serve : ServeOptions) → Some (Serve serve) ≡ command_of words → (options : List Written) × AreServeNumbers serve options
-numbers_of_result words serve is =
-    let form = form_from_command (Serve serve) words (sym is) in
+pub numbers_of_serve : (words : List (List ℕ)) (serve : ServeOptions) → command_of words ≡ Some (Serve serve) → (options : List Written) × AreServeNumbers serve options
+numbers_of_serve words serve is =
+    let form = form_from_command (Serve serve) words is in
+    (form.0, form.1.numbers)
+
+-- and those of `drill`
+pub numbers_of_drill : (words : List (List ℕ)) (drill : DrillOptions) → command_of words ≡ Some (Drill drill) → (options : List Written) × AreDrillNumbers drill options
+numbers_of_drill words drill is =
+    let form = form_from_command (Drill drill) words is in
     (form.0, form.1.numbers)

@@ -7,3 +7,6 @@ pub mod Spellings
 pub mod Names
 pub mod Serving
 pub mod Arguments
+pub mod ClapWalks
+pub mod Testing
+pub mod ReadValues

@@ -1,13 +1,15 @@
 -- The names of options: those of a command may stand in one form, and a test says whether one of them is a given name.
-use Rattle.std.proofs.Common.{◌≡◌, ◌≢◌, ℕ, ◌==◌, List, [], ◌∷◌, Bool, true, false, cond, if◌then◌else◌, refl, arith}
+use Rattle.std.proofs.Common.{◌≡◌, ◌≢◌, ℕ, ◌==◌, List, [], ◌∷◌, map, Bool, true, false, cond, if◌then◌else◌, refl, arith}
 use Rattle.std.specs.List.{All, IsDistinct}
 use Rattle.std.specs.Str.{bytes_eq}
 use Rattle.std.proofs.lemmas.Bool.Decides.{nat_tests}
 use Rattle.std.proofs.lemmas.List.Elements.{All-cons, All-head, All-nil, All-tail}
 use Rattle.std.proofs.lemmas.Slice.Eq.{bytes_eq-Decides}
 use Rattle.command_line.specs.declared.commands.Subcommand.{Subcommand}
-use Rattle.command_line.specs.declared.commands.Subcommand.TheVariants.{Batch, Calc, Init, Serve, Table}
-use Rattle.command_line.specs.Commands.{option_names}
+use Rattle.command_line.specs.declared.command_names.CommandName.{CommandName}
+use Rattle.command_line.specs.declared.command_names.CommandName.TheVariants as names
+use Rattle.command_line.specs.Commands.{name_of, option_names}
+use Rattle.command_line.specs.Names.{option_text, options_of}
 use Rattle.command_line.proofs.Beginnings.{IsPlain}
 use Rattle.command_line.proofs.Forms.{AreNames}
 
@@ -37,17 +39,22 @@ all_plain (name ∷ names) e = by (is_plain name) refl e (all_plain names)
     by true f h rest = All-cons IsPlain name names (plain_by name f) (rest h)
     by false f h rest = absurd (cc)
 
--- the options of a command may stand in one form
-pub names_of : (command : Subcommand) → AreNames (option_names command)
+-- the options of a command of each name may stand in one form
+pub names_by : (name : CommandName) → AreNames (map option_text (options_of name))
 unfolding IsDistinct
-names_of Calc = record { plain = all_plain (option_names Calc) refl; distinct = tt }
-names_of Init = record { plain = all_plain (option_names Init) refl; distinct = ((refl, tt), (tt, tt)) }
-names_of Table = record { plain = all_plain (option_names Table) refl; distinct = (tt, tt) }
-names_of Batch = record { plain = all_plain (option_names Batch) refl; distinct = (tt, tt) }
-names_of (Serve options) = record {
-  plain = all_plain (option_names (Serve options)) refl;
+names_by names.Calc = record { plain = all_plain (map option_text (options_of names.Calc)) refl; distinct = tt }
+names_by names.Init = record { plain = all_plain (map option_text (options_of names.Init)) refl; distinct = ((refl, tt), (tt, tt)) }
+names_by names.Table = record { plain = all_plain (map option_text (options_of names.Table)) refl; distinct = (tt, tt) }
+names_by names.Batch = record { plain = all_plain (map option_text (options_of names.Batch)) refl; distinct = (tt, tt) }
+names_by names.Serve = record {
+  plain = all_plain (map option_text (options_of names.Serve)) refl;
   distinct = ((refl, (refl, (refl, tt))), ((refl, (refl, tt)), ((refl, tt), (tt, tt))));
 }
+names_by names.Report = record { plain = all_plain (map option_text (options_of names.Report)) refl; distinct = ((refl, tt), (tt, tt)) }
+names_by names.Drill = record { plain = all_plain (map option_text (options_of names.Drill)) refl; distinct = ((refl, tt), (tt, tt)) }
+
+pub names_of : (command : Subcommand) → AreNames (option_names command)
+names_of command = names_by (name_of command)
 
 -- one of the names is this one, by a test
 abbrev pub is_one : List ℕ → List (List ℕ) → Bool

@@ -1,12 +1,15 @@
--- The form of arguments: the name of a command, and after it each of its options once, in any order, with its numbers.
+-- The form of arguments: the name of a command, and after it each of its options once, in any order, with its numbers and its day.
 use Rattle.std.specs.Prelude.{◌≡◌, ◌≢◌, ℕ, ◌+◌, ◌≤◌, Bool, if◌then◌else◌, List, [], ◌∷◌, ◌++◌, codes, map, IsPermutation}
 use Rattle.std.specs.List.{All, flat_map}
 use Rattle.std.specs.Str.{bytes_eq}
-use Rattle.command_line.specs.Commands.{option_names}
-use Rattle.command_line.specs.Limits.{greatest_port, least_port, least_workers, most_rounds, most_workers}
+use Rattle.calendar_days.specs.DayTexts.{IsDayText}
+use Rattle.command_line.specs.Commands.{name_of, option_names}
+use Rattle.command_line.specs.Limits.{greatest_port, greatest_seed, least_port, least_workers, most_drilled, most_rounds, most_workers}
+use Rattle.command_line.specs.Names.{name_text}
 use Rattle.command_line.specs.Numbers.{IsNumberBetween}
 use Rattle.command_line.specs.declared.commands.Subcommand.{Subcommand}
-use Rattle.command_line.specs.declared.commands.Subcommand.TheVariants.{Batch, Calc, Init, Serve, Table}
+use Rattle.command_line.specs.declared.commands.Subcommand.TheVariants.{Batch, Calc, Drill, Init, Report, Serve, Table}
+use Rattle.command_line.specs.declared.drill.DrillOptions.{DrillOptions}
 use Rattle.command_line.specs.declared.serve.ServeOptions.{ServeOptions}
 
 -- an option as it is written: its name, its value, and whether both are one word
@@ -31,13 +34,9 @@ pub record AreOptions (names : List (List ℕ)) (options : List Written) : Type 
   pub each_once : IsPermutation names (map (λ option. option.name) options)
   pub values : All (λ option. IsValue option.value) options
 
--- the name of a command
+-- the name of a command as it is written
 abbrev pub command_name : Subcommand → List ℕ
-command_name Calc = codes "calc"
-command_name Init = codes "init"
-command_name Table = codes "table"
-command_name Batch = codes "batch"
-command_name (Serve options) = codes "serve"
+command_name command = name_text (name_of command)
 
 -- the value of the option of this name, an empty text where none of the options has it
 abbrev pub value_among : List ℕ → List Written → List ℕ
@@ -51,13 +50,21 @@ pub record AreServeNumbers (serve : ServeOptions) (options : List Written) : Typ
   pub rounds : IsNumberBetween 0 most_rounds (value_among (codes "rounds") options) serve.rounds
   pub ports : serve.port + serve.workers ≤ greatest_port + 1
 
--- the numbers of a command are those of the options that have their names; only `serve` has numbers
+-- the numbers of `drill` are those of the options that have their names
+pub record AreDrillNumbers (drill : DrillOptions) (options : List Written) : Type 0 where
+  pub seed : IsNumberBetween 0 greatest_seed (value_among (codes "seed") options) drill.seed
+  pub count : IsNumberBetween 0 most_drilled (value_among (codes "count") options) drill.count
+
+-- the numbers of a command are those of the options that have their names: `serve` and `drill` have some, and the number of `report`
+-- is the first second of its day
 abbrev pub AreNumbers : Subcommand → List Written → Type 0
 AreNumbers Calc options = Unit {0}
 AreNumbers Init options = Unit {0}
 AreNumbers Table options = Unit {0}
 AreNumbers Batch options = Unit {0}
 AreNumbers (Serve serve) options = AreServeNumbers serve options
+AreNumbers (Report second) options = IsDayText (value_among (codes "day") options) second
+AreNumbers (Drill drill) options = AreDrillNumbers drill options
 
 -- words are the name of a command and the spellings of these options one after another; the options are those of the command,
 -- and its numbers theirs

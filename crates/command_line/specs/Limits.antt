@@ -24,3 +24,11 @@ most_workers = 8
 -- the greatest number of rounds
 abbrev pub most_rounds : ℕ
 most_rounds = 100000000
+
+-- the greatest seed
+abbrev pub greatest_seed : ℕ
+greatest_seed = 18446744073709551615
+
+-- the greatest count of a drill
+abbrev pub most_drilled : ℕ
+most_drilled = 60000

@@ -3,7 +3,6 @@ use Rattle.std.specs.Prelude.{◌≡◌, ℕ, ◌≤◌, ◌&&◌, Bool, IsTrue,
 use Rattle.std.specs.Str.Parse.{digits_value}
 use Rattle.farm_base.specs.Bytes.{is_all_digits}
 use Rattle.command_line.specs.Limits.{most_number_digits}
-use Rattle.command_line.specs.Options.{value_in}
 
 -- a number is written as 1 to 20 decimal digits
 abbrev pub is_numeral : List ℕ → Bool
@@ -17,10 +16,6 @@ is_between least most number = leb least number && leb number most
 unfoldable pub number_between : ℕ → ℕ → List ℕ → Option ℕ
 number_between least most text =
     if is_numeral text && is_between least most (digits_value 10 text) then Some (digits_value 10 text) else None
-
--- the number that the option of this name has among words, if it is within these limits
-abbrev pub number_in : List ℕ → ℕ → ℕ → List (List ℕ) → Option ℕ
-number_in name least most words = number_between least most (value_in name words)
 
 -- a text is this number: 1 to 20 decimal digits, and within these limits
 pub record IsNumberBetween (least most : ℕ) (text : List ℕ) (number : ℕ) : Type 0 where

@@ -17,3 +17,9 @@ pub const MOST_WORKERS: u64 = 8;
 
 /// The greatest number of rounds.
 pub const MOST_ROUNDS: u64 = 100_000_000;
+
+/// The greatest seed.
+pub const GREATEST_SEED: u64 = 18_446_744_073_709_551_615;
+
+/// The greatest count of a drill.
+pub const MOST_DRILLED: u64 = 60_000;

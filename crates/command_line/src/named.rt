@@ -1,12 +1,17 @@
 //! What the arguments name.
 
-ghost use Rattle.std.specs.Prelude.{◌≡◌, List, [], IfSome, IsSome, codes, map, string_bytes};
-ghost use Rattle.command_line.specs.Commands.{journal_file, site_folder, value_of};
+ghost use Rattle.std.specs.Prelude.{◌≡◌, true, List, [], Some, IfOk, IfSome, IsSome, codes, map, option_map, string_bytes};
+ghost use Rattle.clap.specs.Words.{app_of, takes};
+ghost use Rattle.command_line.specs.Commands.{command_of, journal_file, name_of, site_folder};
 ghost use Rattle.command_line.specs.Forms.{IsForm, Written, value_among};
+ghost use Rattle.command_line.specs.Reading.{matched_value, read_value};
 ghost use Rattle.command_line.specs.declared.commands.Subcommand.{Subcommand};
 
-use crate::commands::Subcommand;
-use crate::options::value_in;
+use crate::command_names::CommandName;
+use crate::option_names::OptionName;
+use crate::reading::{command_for, matched_value, matches_of, words_for};
+use clap::{ArgMatches, Command};
+use farm_base::NoMemory;
 use std::alloc::Global;
 
 /// The site's folder and the journal's file that the arguments name, with which `main` opens them.
@@ -21,50 +26,63 @@ pub fn places(alloc: Global, words: &[String]) -> Option<(String, String)>
     ensures no_form { IfSome result (λ places. ((command : Subcommand) (options : List Written) → IsForm command options (map string_bytes words.now) → ⊥) → (string_bytes places.0 ≡ []) × (string_bytes places.1 ≡ [])) }
     ensures unnamed { site_folder (map string_bytes words.now) ≡ [] → journal_file (map string_bytes words.now) ≡ [] → IsSome result }
 {
-    let site = owned(alloc, site_folder(words))?;
-    let journal = owned(alloc, journal_file(words))?;
-    Some((site, journal))
+    read_places(alloc, words)
 }
 
-// A text as one of its own. An empty one takes no memory.
-fn owned(alloc: Global, text: &str) -> Option<String>
-    ensures text { IfSome result (λ owned. string_bytes owned ≡ text.now) }
-    ensures empty { text.now ≡ [] → IsSome result }
+// They as they are read.
+fn read_places(alloc: Global, words: &[String]) -> Option<(String, String)>
+    ensures site { IfSome result (λ places. string_bytes places.0 ≡ site_folder (map string_bytes words.now)) }
+    ensures journal { IfSome result (λ places. string_bytes places.1 ≡ journal_file (map string_bytes words.now)) }
+    ensures unnamed { site_folder (map string_bytes words.now) ≡ [] → journal_file (map string_bytes words.now) ≡ [] → IsSome result }
 {
-    if text.is_empty() {
-        return Some(String::new(alloc));
-    }
-    String::from_str(alloc, text).ok()
-}
-
-// The site's folder that the arguments name, an empty text where they name none.
-fn site_folder(words: &[String]) -> &str
-    ensures { result.now ≡ site_folder (map string_bytes words.now) }
-{
-    match Subcommand::of_words(words) {
-        Some(Subcommand::Init | Subcommand::Table) => value_of("site", words),
-        Some(Subcommand::Calc | Subcommand::Batch | Subcommand::Serve(_)) | None => "",
+    let Some(name) = CommandName::of_words(words) else {
+        return Some((String::new(alloc), String::new(alloc)));
+    };
+    match name {
+        CommandName::Calc | CommandName::Drill => Some((String::new(alloc), String::new(alloc))),
+        _ => places_of(alloc, name, words).ok(),
     }
 }
 
-// The journal's file that the arguments name, an empty text where they name none.
-fn journal_file(words: &[String]) -> &str
-    ensures { result.now ≡ journal_file (map string_bytes words.now) }
+// Those of a command of this name.
+fn places_of(
+    alloc: Global,
+    name: CommandName,
+    words: &[String],
+) -> Result<(String, String), NoMemory>
+    requires name { option_map name_of (command_of (map string_bytes words.now)) ≡ Some name }
+    ensures site { IfOk result (λ places. string_bytes places.0 ≡ site_folder (map string_bytes words.now)) }
+    ensures journal { IfOk result (λ places. string_bytes places.1 ≡ journal_file (map string_bytes words.now)) }
 {
-    match Subcommand::of_words(words) {
-        Some(Subcommand::Init | Subcommand::Batch | Subcommand::Serve(_)) => {
-            value_of("journal", words)
-        }
-        Some(Subcommand::Calc | Subcommand::Table) | None => "",
-    }
+    let spelled = words_for(alloc, name, words)?;
+    let mut command = command_for(alloc, name)?;
+    let places = parsed_places(alloc, &mut command, spelled.as_slice());
+    drop(command);
+    places
 }
 
-// The value of an option after the first word, an empty text where there is no option.
-fn value_of<'a>(name: &str, words: &'a [String]) -> &'a str
-    ensures { result.now ≡ value_of name.now (map string_bytes words.now) }
+// Those in words that `clap` takes.
+fn parsed_places<'a, 'w>(
+    alloc: Global,
+    command: &mut Command<'a>,
+    words: &'a [&'w str],
+) -> Result<(String, String), NoMemory>
+    requires taken { takes (app_of command.old) (map (λ word. word.now) words.now) ≡ true }
+    ensures site { IfOk result (λ places. string_bytes places.0 ≡ read_value (app_of command.old) (map (λ word. word.now) words.now) (codes "site")) }
+    ensures journal { IfOk result (λ places. string_bytes places.1 ≡ read_value (app_of command.old) (map (λ word. word.now) words.now) (codes "journal")) }
 {
-    match words {
-        [_, options @ ..] => value_in(name, options),
-        [] => "",
-    }
+    let matches = matches_of(command, words)?;
+    let places = matched_places(alloc, &matches);
+    drop(matches);
+    places
+}
+
+// Those that matches have.
+fn matched_places(alloc: Global, matches: &ArgMatches) -> Result<(String, String), NoMemory>
+    ensures site { IfOk result (λ places. string_bytes places.0 ≡ matched_value matches.now (codes "site")) }
+    ensures journal { IfOk result (λ places. string_bytes places.1 ≡ matched_value matches.now (codes "journal")) }
+{
+    let site = String::from_str(alloc, matched_value(matches, OptionName::Site))?;
+    let journal = String::from_str(alloc, matched_value(matches, OptionName::Journal))?;
+    Ok((site, journal))
 }

@@ -1,10 +1,11 @@
 //! The numbers of the code are those of the definitions.
 
 ghost use Rattle.std.specs.Prelude.{◌≡◌};
-ghost use Rattle.command_line.specs.Limits.{greatest_port, least_port, least_workers, most_number_digits, most_rounds, most_workers};
+ghost use Rattle.command_line.specs.Limits.{greatest_port, greatest_seed, least_port, least_workers, most_drilled, most_number_digits, most_rounds, most_workers};
 
 use crate::limits::{
-    GREATEST_PORT, LEAST_PORT, LEAST_WORKERS, MOST_NUMBER_DIGITS, MOST_ROUNDS, MOST_WORKERS,
+    GREATEST_PORT, GREATEST_SEED, LEAST_PORT, LEAST_WORKERS, MOST_DRILLED, MOST_NUMBER_DIGITS,
+    MOST_ROUNDS, MOST_WORKERS,
 };
 
 /// Does nothing: its contract is that each number that the definitions state is the code's.
@@ -15,4 +16,6 @@ pub fn defined_numbers()
     ensures least_workers { LEAST_WORKERS ≡ least_workers }
     ensures most_workers { MOST_WORKERS ≡ most_workers }
     ensures most_rounds { MOST_ROUNDS ≡ most_rounds }
+    ensures greatest_seed { GREATEST_SEED ≡ greatest_seed }
+    ensures most_drilled { MOST_DRILLED ≡ most_drilled }
 {}

@@ -1,7 +1,10 @@
 //! Options among the arguments of a command.
 
 ghost use Rattle.std.specs.Prelude.{◌≡◌, ◌≤◌, IfSome, length, map, option_map, string_bytes};
+ghost use Rattle.command_line.specs.Names.{option_text};
 ghost use Rattle.command_line.specs.Options.{after_name, are_options, option_in, spelled_by, spelled_next, text_after, value_in, words_taken};
+
+use crate::option_names::OptionName;
 
 // An option that is spelled.
 #[derive(Clone, Copy)]
@@ -14,21 +17,21 @@ struct SpelledOption<'a> {
 
 /// Whether words are these options, each once and in any order, and nothing else.
 #[tactic(auto, unfolding(crate::specs::Options::are_options))]
-pub fn are_options(names: &[&str], words: &[String]) -> bool
-    requires { length names.now ≤ 8 }
-    ensures { result ≡ are_options (map (λ name. name.now) names.now) (map string_bytes words.now) }
+pub fn are_options(options: &[OptionName], words: &[String]) -> bool
+    requires { length options.now ≤ 8 }
+    ensures { result ≡ are_options (map option_text options.now) (map string_bytes words.now) }
 {
-    words_taken(names, words) == Some(words.len())
+    words_taken(options, words) == Some(words.len())
 }
 
 // The number of words that options take; `None` where one of them isn't there.
-fn words_taken(names: &[&str], words: &[String]) -> Option<usize>
-    requires { length names.now ≤ 8 }
-    ensures { result ≡ words_taken 0 (map (λ name. name.now) names.now) (map string_bytes words.now) }
+fn words_taken(options: &[OptionName], words: &[String]) -> Option<usize>
+    requires { length options.now ≤ 8 }
+    ensures { result ≡ words_taken 0 (map option_text options.now) (map string_bytes words.now) }
 {
     let mut taken = 0;
-    for name in names {
-        taken += option_in(name, words)?.words;
+    for option in options {
+        taken += option_in(option.text(), words)?.words;
     }
     Some(taken)
 }

@@ -1,10 +1,13 @@
 //! The options of the command `serve`.
 
-ghost use Rattle.std.specs.Prelude.{◌≡◌, map, string_bytes};
+ghost use Rattle.std.specs.Prelude.{◌≡◌};
+ghost use Rattle.command_line.specs.Reading.{matched_value};
 ghost use Rattle.command_line.specs.Serve.{serve_options};
 
-use crate::limits::{GREATEST_PORT, LEAST_PORT, LEAST_WORKERS, MOST_ROUNDS, MOST_WORKERS};
-use crate::numbers::number_in;
+use crate::limits::GREATEST_PORT;
+use crate::option_names::OptionName;
+use crate::reading::matched_number;
+use clap::ArgMatches;
 
 /// The numbers of the command `serve`.
 #[derive(Clone, Copy, Debug, PartialEq, Eq)]
@@ -18,15 +21,15 @@ pub struct ServeOptions {
 }
 
 impl ServeOptions {
-    /// Those that words have, which stand after the name of the command; `None` where one isn't there, isn't 1 to 20 decimal
-    /// digits, or isn't within its limits, or where the last post has no port.
+    /// Those that matches have; `None` where one isn't there, isn't 1 to 20 decimal digits, or isn't within its limits, or where
+    /// the last post has no port.
     #[tactic(auto, unfolding(crate::specs::Serve::serve_options))]
-    pub fn among(words: &[String]) -> Option<ServeOptions>
-        ensures { result ≡ serve_options (map string_bytes words.now) }
+    pub(crate) fn matched(matches: &ArgMatches) -> Option<ServeOptions>
+        ensures options { result ≡ serve_options (matched_value matches.now) }
     {
-        let port = number_in("port", LEAST_PORT, GREATEST_PORT, words)?;
-        let workers = number_in("workers", LEAST_WORKERS, MOST_WORKERS, words)?;
-        let rounds = number_in("rounds", 0, MOST_ROUNDS, words)?;
+        let port = matched_number(matches, OptionName::Port)?;
+        let workers = matched_number(matches, OptionName::Workers)?;
+        let rounds = matched_number(matches, OptionName::Rounds)?;
         if port + workers > GREATEST_PORT + 1 {
             return None;
         }

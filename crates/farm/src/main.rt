@@ -4,9 +4,10 @@
 //! each command reads and prints.
 #![tactic(auto)]
 
-ghost use Rattle.std.specs.Prelude.{◌≡◌, ◌⊎◌, IfSome, None, Some, map, string_bytes};
+ghost use Rattle.std.specs.Prelude.{◌≡◌, ◌⊎◌, IfSome, None, Some, ℤ, map, string_bytes};
 ghost use Rattle.command_line.specs.Commands.{command_of, journal_file, site_folder};
-ghost use Rattle.command_line.specs.declared.commands.Subcommand.TheVariants.{Batch, Calc, Init, Serve, Table};
+ghost use Rattle.command_line.specs.declared.commands.Subcommand.TheVariants.{Batch, Calc, Drill, Init, Report, Serve, Table};
+ghost use Rattle.command_line.specs.declared.drill.DrillOptions.{DrillOptions};
 ghost use Rattle.command_line.specs.declared.serve.ServeOptions.{ServeOptions};
 
 use command_line::places;
@@ -42,6 +43,10 @@ fn run_arguments<W: Threads + Wait + Sync>(rt: &HostRuntime, waiting: &W, words:
         (result ≡ 0) ⊎ (result ≡ 3) ⊎ (result ≡ 4) ⊎ (result ≡ 5) ⊎ (result ≡ 6) ⊎ (result ≡ 7) }
     ensures serve { (options : ServeOptions) → command_of (map string_bytes words.now) ≡ Some (Serve options) →
         (result ≡ 0) ⊎ (result ≡ 3) ⊎ (result ≡ 5) ⊎ (result ≡ 6) ⊎ (result ≡ 7) }
+    ensures report { (day : ℤ) → command_of (map string_bytes words.now) ≡ Some (Report day) →
+        (result ≡ 0) ⊎ (result ≡ 3) ⊎ (result ≡ 5) ⊎ (result ≡ 6) ⊎ (result ≡ 7) }
+    ensures drill { (options : DrillOptions) → command_of (map string_bytes words.now) ≡ Some (Drill options) →
+        (result ≡ 0) ⊎ (result ≡ 6) ⊎ (result ≡ 7) }
     ensures usage { command_of (map string_bytes words.now) ≡ None → (result ≡ 1) ⊎ (result ≡ 6) ⊎ (result ≡ 7) }
 {
     let mut input = StdSource::new(rt.stdin());

@@ -209,8 +209,8 @@ impl<const LIMIT: usize> Book<LIMIT> {
         }
     }
 
-    // The site and the entries.
-    fn past(&self) -> Past<'_>
+    /// The site and the entries, to look among them.
+    pub fn past(&self) -> Past<'_>
         ensures history { history_of result.site.now result.entries.now ≡ self.now.history }
         ensures sound { IsSound LIMIT self.now.history }
         ensures readable { IsReadable self.now.history }

@@ -7,3 +7,5 @@ pub mod BatchEnds
 pub mod DisksLeft
 pub mod NoDesks
 pub mod InitRuns
+pub mod ReportRuns
+pub mod DrillRuns

@@ -1,10 +1,13 @@
 -- What a run of the program does, by what its ports are known to hold and by the counts of their faults.
-use Rattle.std.specs.Prelude.{◌≡◌, ◌⊎◌, ℕ, Bool, true, false, List, [], ◌∷◌, Option, Some, None, Result, Ok, Err}
+use Rattle.std.specs.Prelude.{◌≡◌, ◌⊎◌, ℕ, ◌+◌, ◌≤◌, Bool, true, false, List, [], ◌∷◌, Option, Some, None, Result, Ok, Err}
 use Rattle.farm_base.specs.Counts.{Count, HasRisen, IsQuiet}
 use Rattle.farm_base.specs.Known.{WhereKnown, Stream, Adds}
 use Rattle.farm_ports.specs.Folders.{File}
+use Rattle.calendar_days.specs.Calendar.{IsFirstSecond}
+use Rattle.command_line.specs.Limits.{greatest_port, most_drilled, most_rounds}
 use Rattle.command_line.specs.declared.commands.Subcommand.{Subcommand}
-use Rattle.command_line.specs.declared.commands.Subcommand.TheVariants.{Batch, Calc, Init, Serve, Table}
+use Rattle.command_line.specs.declared.commands.Subcommand.TheVariants.{Batch, Calc, Drill, Init, Report, Serve, Table}
+use Rattle.command_line.specs.declared.serve.ServeOptions.{ServeOptions}
 use Rattle.calc_input.specs.declared.refusal.Refused.{Refused}
 use Rattle.calc_input.specs.RefusedLine.{IsRefusal}
 use Rattle.site_keys.specs.Faults.{IsMissing}
@@ -14,6 +17,33 @@ use Rattle.run_reports.specs.Reports.{EndsWith, Output, Says}
 use Rattle.run_reports.specs.Texts.{no_memory_line, port_fault_line}
 use Rattle.farm_run.specs.Texts.{usage_line, refusal_text, site_refused_text}
 
+-- whether the values of a command's options are read
+abbrev pub needs_values : Option Subcommand → Bool
+needs_values None = false
+needs_values (Some Calc) = false
+needs_values (Some Init) = false
+needs_values (Some Table) = false
+needs_values (Some Batch) = false
+needs_values (Some (Serve options)) = true
+needs_values (Some (Report day)) = true
+needs_values (Some (Drill options)) = true
+
+-- the last post of `serve` has a port, and its rounds are within their limit
+pub record AreServed (options : ServeOptions) : Type 0 where
+  pub ports : options.port + options.workers ≤ greatest_port + 1
+  pub rounds : options.rounds ≤ most_rounds
+
+-- the values of a command are such as its options may have
+abbrev pub AreValues : Option Subcommand → Type 0
+AreValues None = Unit {0}
+AreValues (Some Calc) = Unit {0}
+AreValues (Some Init) = Unit {0}
+AreValues (Some Table) = Unit {0}
+AreValues (Some Batch) = Unit {0}
+AreValues (Some (Serve options)) = AreServed options
+AreValues (Some (Report day)) = IsFirstSecond day
+AreValues (Some (Drill options)) = options.count ≤ most_drilled
+
 -- whether a command makes calls on the input
 abbrev pub uses_input : Option Subcommand → Bool
 uses_input None = false
@@ -22,6 +52,8 @@ uses_input (Some Init) = false
 uses_input (Some Table) = false
 uses_input (Some Batch) = true
 uses_input (Some (Serve options)) = false
+uses_input (Some (Report day)) = false
+uses_input (Some (Drill options)) = false
 
 -- whether a command makes calls on the folder
 abbrev pub uses_folder : Option Subcommand → Bool
@@ -31,6 +63,8 @@ uses_folder (Some Init) = true
 uses_folder (Some Table) = true
 uses_folder (Some Batch) = false
 uses_folder (Some (Serve options)) = false
+uses_folder (Some (Report day)) = false
+uses_folder (Some (Drill options)) = false
 
 -- whether a command makes calls on the disk
 abbrev pub uses_disk : Option Subcommand → Bool
@@ -40,6 +74,8 @@ uses_disk (Some Init) = true
 uses_disk (Some Table) = false
 uses_disk (Some Batch) = true
 uses_disk (Some (Serve options)) = true
+uses_disk (Some (Report day)) = true
+uses_disk (Some (Drill options)) = false
 
 -- whether a command makes calls on listeners and links
 abbrev pub uses_posts : Option Subcommand → Bool
@@ -49,6 +85,8 @@ uses_posts (Some Init) = false
 uses_posts (Some Table) = false
 uses_posts (Some Batch) = false
 uses_posts (Some (Serve options)) = true
+uses_posts (Some (Report day)) = false
+uses_posts (Some (Drill options)) = false
 
 -- what was left of an input as the run began, if it is still known at the end
 abbrev pub given : Option Stream → Option Stream → Option (List ℕ)

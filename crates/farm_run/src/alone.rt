@@ -1,24 +1,30 @@
 //! The run of each command but `serve`, over the ports and the disk that it is handed.
 
-ghost use Rattle.std.specs.Prelude.{◌≡◌, ◌≤◌, ◌⊎◌, map, string_bytes, false, None, Some, Ok, Err, IfOk, IfSome, IsSome};
+ghost use Rattle.std.specs.Prelude.{◌≡◌, ◌≤◌, ◌⊎◌, map, string_bytes, false, None, Some, Ok, Err, IfOk, IfSome, IsSome, ℤ};
 ghost use Rattle.farm_base.specs.Counts.{count_of};
 ghost use Rattle.farm_base.specs.Known.{Stays};
 ghost use Rattle.farm_report.specs.Figures.{figures_text};
 ghost use Rattle.farm_report.specs.Issued.{issued_text};
-ghost use Rattle.command_line.specs.Commands.{asks_to_serve, command_of};
+ghost use Rattle.command_line.specs.Commands.{asks_to_serve, command_of, is_serve};
+ghost use Rattle.command_line.specs.declared.drill.DrillOptions.{DrillOptions};
 ghost use Rattle.calc_input.specs.declared.refusal.Refused.{Refused};
 ghost use Rattle.farm_run.specs.OutputTexts.{calc_of, calc_text};
 ghost use Rattle.farm_run.specs.BatchRuns.{BatchRun};
 ghost use Rattle.run_reports.specs.Disks.{IsLater};
+ghost use Rattle.farm_run.specs.DrillRuns.{DrillRun};
 ghost use Rattle.farm_run.specs.InitRuns.{InitRun};
+ghost use Rattle.farm_run.specs.ReportRuns.{ReportRun};
 ghost use Rattle.farm_run.specs.Texts.{refusal_text};
 ghost use Rattle.run_reports.specs.Reports.{Delivers, LacksMemory, output_of};
-ghost use Rattle.farm_run.specs.Runs.{Answers, CalcRun, StopsAtMissing, TableRun, UsageRun, given, uses_disk, uses_folder, uses_input};
+ghost use Rattle.farm_run.specs.Runs.{Answers, AreValues, CalcRun, StopsAtMissing, TableRun, UsageRun, given, uses_disk, uses_folder, uses_input};
 
 use crate::batch_run::batch;
+use crate::drill_run::drill;
 use crate::init_run::init;
+use crate::report_run::report;
 use crate::statuses::{NO_COMMAND, REFUSED, SITE_REFUSED};
 use crate::texts::{USAGE_LINE, refusal_text, site_refused_text};
+use crate::words::command_in;
 use calc_input::{MOST_INPUT_BYTES, NoFigures, figures_of_input};
 use command_line::Subcommand;
 use farm_base::NoMemory;
@@ -44,6 +50,10 @@ use std::alloc::Global;
 ///   of its own. Its statuses are 0 if every line was answered, or a Stop was entered, and nothing is in doubt; 3 if the disk has no
 ///   whole journal; 4 at a line too many; 5 if the disk failed before the desk was recovered, or an entry is in doubt at the end; 6 if
 ///   a port failed and 7 without memory.
+/// - `report` recovers the desk of the journal on the disk and prints the report of a day. It writes nothing. Its statuses are 0 if the report
+///   was printed whole, 3 if the disk has no whole journal, 5 if the disk failed, 6 if the output failed and 7 without memory.
+/// - `drill` makes movements in memory that follow from a seed, and prints the summary of their books. Its statuses are 0 if it was printed
+///   whole, 6 if the output failed and 7 without memory.
 /// - Arguments that are no command print the usage line, and end with 1.
 ///
 /// It returns, whatever the words are, and takes no runtime: `run` calls it for every command but `serve`. The least status that holds is
@@ -72,6 +82,10 @@ pub fn run_alone<S: Source, K: Sink, F: Folder, D: Disk, C: Clock>(
     ensures batch { command_of (map string_bytes words.now) ≡ Some Subcommand.Batch → IfSome result.disk (λ left.
         BatchRun D.trace D.moment D.faults (C.may_give clock.now) disk left (S.stream input.old) (S.stream input.new)
         (count_of S.faults input.old input.new) (output_of K.held K.faults output.old output.new) result.status) }
+    ensures report { (day : ℤ) → command_of (map string_bytes words.now) ≡ Some (Subcommand.Report day) → IfSome result.disk (λ left.
+        ReportRun D.trace D.faults day disk left (output_of K.held K.faults output.old output.new) result.status) }
+    ensures drill { (options : DrillOptions) → command_of (map string_bytes words.now) ≡ Some (Subcommand.Drill options) →
+        DrillRun options.seed options.count (output_of K.held K.faults output.old output.new) result.status }
 
     // Over a folder that lists no failure and an output that didn't fail, `table` ends with 6 only if a file is missing.
     ensures table_missing { command_of (map string_bytes words.now) ≡ Some Subcommand.Table → F.lists_no_failure folder.old →
@@ -90,11 +104,68 @@ pub fn run_alone<S: Source, K: Sink, F: Folder, D: Disk, C: Clock>(
     ensures disk_kept { uses_disk (command_of (map string_bytes words.now)) ≡ false → result.disk ≡ Some disk }
     ensures disk_later { IfSome result.disk (λ left. IsLater (D.trace disk) (D.trace left) (D.moment disk) (D.moment left) (count_of D.faults disk left)) }
 {
-    let status = match Subcommand::of_words(words) {
+    match command_in(alloc, words) {
+        Ok(command) => run_command(alloc, command, input, output, folder, disk, clock),
+        Err(_) => Done {
+            status: report_no_memory(output),
+            disk: Some(disk),
+        },
+    }
+}
+
+/// Runs a command that isn't `serve`, or what arguments that are none do, as `run_alone` says.
+pub(crate) fn run_command<S: Source, K: Sink, F: Folder, D: Disk, C: Clock>(
+    alloc: Global,
+    command: Option<Subcommand>,
+    input: &mut S,
+    output: &mut K,
+    folder: &mut F,
+    disk: D,
+    clock: &C,
+) -> Done<D>
+    requires alone { IfSome command (λ command. is_serve command ≡ false) }
+    requires values { AreValues command }
+    ensures usage { command ≡ None → UsageRun (output_of K.held K.faults output.old output.new) result.status }
+    ensures calc { command ≡ Some Subcommand.Calc →
+        CalcRun (given (S.stream input.old) (S.stream input.new)) (count_of S.faults input.old input.new)
+        (output_of K.held K.faults output.old output.new) result.status }
+    ensures table { command ≡ Some Subcommand.Table →
+        TableRun (F.files folder.new) (count_of F.faults folder.old folder.new) (output_of K.held K.faults output.old output.new) result.status }
+    ensures init { command ≡ Some Subcommand.Init → IfSome result.disk (λ left.
+        InitRun D.trace D.faults (F.files folder.new) (count_of F.faults folder.old folder.new) disk left
+        (output_of K.held K.faults output.old output.new) result.status) }
+    ensures batch { command ≡ Some Subcommand.Batch → IfSome result.disk (λ left.
+        BatchRun D.trace D.moment D.faults (C.may_give clock.now) disk left (S.stream input.old) (S.stream input.new)
+        (count_of S.faults input.old input.new) (output_of K.held K.faults output.old output.new) result.status) }
+    ensures report { (day : ℤ) → command ≡ Some (Subcommand.Report day) → IfSome result.disk (λ left.
+        ReportRun D.trace D.faults day disk left (output_of K.held K.faults output.old output.new) result.status) }
+    ensures drill { (options : DrillOptions) → command ≡ Some (Subcommand.Drill options) →
+        DrillRun options.seed options.count (output_of K.held K.faults output.old output.new) result.status }
+
+    // Over a folder that lists no failure and an output that didn't fail, `table` ends with 6 only if a file is missing.
+    ensures table_missing { command ≡ Some Subcommand.Table → F.lists_no_failure folder.old →
+        StopsAtMissing (F.files folder.new) (output_of K.held K.faults output.old output.new) result.status }
+
+    // A port that the command doesn't use gets no call, and no count ever falls.
+    ensures input_kept { uses_input command ≡ false → input.new ≡ input.old }
+    ensures folder_kept { uses_folder command ≡ false → folder.new ≡ folder.old }
+    ensures files { Stays (F.files folder.old) (F.files folder.new) }
+    ensures input_never_falls { S.faults input.old ≤ S.faults input.new }
+    ensures output_never_falls { K.faults output.old ≤ K.faults output.new }
+    ensures folder_never_falls { F.faults folder.old ≤ F.faults folder.new }
+
+    // The disk is handed back, by a command that doesn't use it as it was.
+    ensures handed_back { IsSome result.disk }
+    ensures disk_kept { uses_disk command ≡ false → result.disk ≡ Some disk }
+    ensures disk_later { IfSome result.disk (λ left. IsLater (D.trace disk) (D.trace left) (D.moment disk) (D.moment left) (count_of D.faults disk left)) }
+{
+    let status = match command {
         Some(Subcommand::Init) => return init(alloc, output, folder, disk),
         Some(Subcommand::Batch) => return batch(alloc, input, output, disk, clock),
+        Some(Subcommand::Report(day)) => return report(alloc, output, disk, day),
         Some(Subcommand::Calc) => calc(alloc, input, output),
         Some(Subcommand::Table) => table(alloc, folder, output),
+        Some(Subcommand::Drill(options)) => drill(alloc, output, options),
         Some(Subcommand::Serve(_)) => unreachable!(),
         None => print_usage(output),
     };
@@ -104,8 +175,8 @@ pub fn run_alone<S: Source, K: Sink, F: Folder, D: Disk, C: Clock>(
     }
 }
 
-/// Arguments that are no command. A failing output changes nothing: they are no command all the same.
-pub(crate) fn print_usage<K: Sink>(output: &mut K) -> u8
+// Arguments that are no command. A failing output changes nothing: they are no command all the same.
+fn print_usage<K: Sink>(output: &mut K) -> u8
     ensures usage_run { UsageRun (output_of K.held K.faults output.old output.new) result }
     ensures never_falls { K.faults output.old ≤ K.faults output.new }
 {

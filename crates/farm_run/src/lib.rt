@@ -7,10 +7,13 @@
 
 mod alone;
 mod batch_run;
+mod drill_run;
 mod init_run;
 mod program;
+mod report_run;
 mod statuses;
 mod texts;
+mod words;
 
 pub use alone::run_alone;
 pub use program::run;

@@ -1,23 +1,27 @@
 //! What the program does.
 
-ghost use Rattle.std.specs.Prelude.{◌≡◌, ◌≤◌, map, string_bytes, false, None, Some, IfSome, IsSome};
+ghost use Rattle.std.specs.Prelude.{◌≡◌, ◌≤◌, map, string_bytes, false, None, Some, IfSome, IsSome, ℤ};
 ghost use Rattle.farm_base.specs.Counts.{count_of};
 ghost use Rattle.farm_base.specs.Known.{Stays};
 ghost use Rattle.command_line.specs.Commands.{command_of};
+ghost use Rattle.command_line.specs.declared.drill.DrillOptions.{DrillOptions};
 ghost use Rattle.command_line.specs.declared.serve.ServeOptions.{ServeOptions};
 ghost use Rattle.run_reports.specs.Disks.{IsLater};
 ghost use Rattle.run_reports.specs.Reports.{output_of};
 ghost use Rattle.serve_run.specs.ServeRuns.{ServeRun};
 ghost use Rattle.farm_run.specs.BatchRuns.{BatchRun};
+ghost use Rattle.farm_run.specs.DrillRuns.{DrillRun};
 ghost use Rattle.farm_run.specs.InitRuns.{InitRun};
+ghost use Rattle.farm_run.specs.ReportRuns.{ReportRun};
 ghost use Rattle.farm_run.specs.Runs.{CalcRun, StopsAtMissing, TableRun, UsageRun, given, uses_disk, uses_folder, uses_input, uses_posts};
 
-use crate::alone::{print_usage, run_alone};
-use command_line::{Subcommand, asks_to_serve};
+use crate::alone::run_command;
+use crate::words::command_in;
+use command_line::Subcommand;
 use farm_disk::Disk;
 use farm_listeners::Listener;
 use farm_ports::{Clock, Folder, Link, Sink, Source};
-use run_reports::Done;
+use run_reports::{Done, report_no_memory};
 use serve_run::{RunLine, RunPost};
 use std::alloc::Global;
 use std::sync::Wait;
@@ -68,9 +72,13 @@ pub fn run<
     ensures batch { command_of (map string_bytes words.now) ≡ Some Subcommand.Batch → IfSome result.disk (λ left.
         BatchRun D.trace D.moment D.faults (C.may_give clock.now) disk left (S.stream input.old) (S.stream input.new)
         (count_of S.faults input.old input.new) (output_of K.held K.faults output.old output.new) result.status) }
+    ensures report { (day : ℤ) → command_of (map string_bytes words.now) ≡ Some (Subcommand.Report day) → IfSome result.disk (λ left.
+        ReportRun D.trace D.faults day disk left (output_of K.held K.faults output.old output.new) result.status) }
     ensures serve { (options : ServeOptions) → command_of (map string_bytes words.now) ≡ Some (Subcommand.Serve options) → IfSome result.disk (λ left.
         ServeRun D.trace D.moment D.faults L.events L.faults M.calls M.faults (C.may_give clock.now) options.port options.workers options.rounds
         desks.old desks.new links.old links.new disk left (output_of K.held K.faults output.old output.new) result.status) }
+    ensures drill { (options : DrillOptions) → command_of (map string_bytes words.now) ≡ Some (Subcommand.Drill options) →
+        DrillRun options.seed options.count (output_of K.held K.faults output.old output.new) result.status }
 
     // Over a folder that lists no failure and an output that didn't fail, `table` ends with 6 only if a file is missing.
     ensures table_missing { command_of (map string_bytes words.now) ≡ Some Subcommand.Table → F.lists_no_failure folder.old →
@@ -91,7 +99,16 @@ pub fn run<
     ensures disk_kept { uses_disk (command_of (map string_bytes words.now)) ≡ false → result.disk ≡ Some disk }
     ensures disk_later { IfSome result.disk (λ left. IsLater (D.trace disk) (D.trace left) (D.moment disk) (D.moment left) (count_of D.faults disk left)) }
 {
-    match Subcommand::of_words(words) {
+    let command = match command_in(alloc, words) {
+        Ok(command) => command,
+        Err(_) => {
+            return Done {
+                status: report_no_memory(output),
+                disk: Some(disk),
+            };
+        }
+    };
+    match command {
         Some(Subcommand::Serve(options)) => serve_run::serve(
             rt,
             alloc,
@@ -104,10 +121,6 @@ pub fn run<
             options.workers,
             options.rounds,
         ),
-        None if asks_to_serve(words) => Done {
-            status: print_usage(output),
-            disk: Some(disk),
-        },
-        _ => run_alone(alloc, words, input, output, folder, disk, clock),
+        _ => run_command(alloc, command, input, output, folder, disk, clock),
     }
 }

@@ -1,5 +1,5 @@
 -- What a Closing issues: its place and number aside, on figures that are in range.
-use Rattle.std.proofs.Common.{◌≡◌, ◌≢◌, ℕ, Bool, true, false, if◌then◌else◌, Option, Some, None, option_and_then, refl, ap, ◌∙◌, arith}
+use Rattle.std.proofs.Common.{◌≡◌, ◌≢◌, ℕ, Bool, true, false, if◌then◌else◌, Option, Some, None, option_and_then, option_map, refl, ap, sym, ◌∙◌, arith}
 use Rattle.std.specs.Prelude.{IfSome}
 use Rattle.std.proofs.lemmas.Int.{ints}
 use Rattle.farm_chain.specs.Volumes.{AreInRange}
@@ -7,13 +7,15 @@ use Rattle.farm_fixed.specs.declared.records.Quantities.{Quantities}
 use Rattle.farm_movement.specs.Closing.{second_side, side_of, ticket_of}
 use Rattle.farm_movement.specs.declared.leg.Leg.{Leg}
 use Rattle.farm_ticket.specs.Amounts.{change, differences}
+use Rattle.farm_ticket.specs.Reversing.{reversal}
 use Rattle.farm_ticket.specs.declared.side.Way.{Way}
 use Rattle.farm_ticket.specs.declared.side.Way.TheVariants.{Inward, Outward}
 use Rattle.farm_history.specs.declared.command.Command.{Command}
 use Rattle.farm_history.specs.declared.command.Command.TheVariants.{Closing}
-use Rattle.farm_history.specs.History.{History}
+use Rattle.farm_history.specs.declared.entry.Entry.{Entry}
+use Rattle.farm_history.specs.History.{History, before, entry_at}
 use Rattle.farm_history.specs.Postings.{postings_issued, postings_of_ticket}
-use Rattle.farm_history.specs.Tickets.{ToClose, any_goes_wrong, closed, issued_by_closing, next_number}
+use Rattle.farm_history.specs.Tickets.{ToClose, any_goes_wrong, closed, closing_ticket, issued_by_closing, next_number}
 use Rattle.history_lookups.specs.Bounds.{IsAtMost, IsClosedInRange, IsSmallSide, IsSmallTicket, most_moved}
 use Rattle.history_lookups.specs.Closings.{closed_by}
 
@@ -47,6 +49,40 @@ unnumbered history place command = by (closed_by history command) ∙ ap posting
         postings_issued (option_and_then (closed 0 0) close) ≡ postings_issued (option_and_then (closed place (next_number history)) close)
     by None = refl
     by (Some close) = closed_same place (next_number history) close
+
+-- a ticket that reverses another doesn't tell the number of that
+same_reversal : (place number at issued : ℕ) (close : ToClose) →
+    reversal place number (ticket_of close.0 at 0 close.1 close.2) ≡ reversal place number (ticket_of close.0 at issued close.1 close.2)
+unfolding ticket_of reversal
+same_reversal place number at issued close = refl
+
+-- so it is where there may be no ticket
+reversed_same : (place number at issued : ℕ) (close : ToClose) →
+    option_map (reversal place number) (closed at 0 close) ≡ option_map (reversal place number) (closed at issued close)
+reversed_same place number at issued close = by (any_goes_wrong close)
+  where
+    by : (test : Bool) → option_map (reversal place number) (if test then None else Some (ticket_of close.0 at 0 close.1 close.2))
+        ≡ option_map (reversal place number) (if test then None else Some (ticket_of close.0 at issued close.1 close.2))
+    by true = refl
+    by false = ap Some (same_reversal place number at issued close)
+
+-- the ticket that reverses that of a Closing, of which the number isn't counted
+pub unnumbered_reversed : (history past : History) (place number at : ℕ) (entry : Entry) → entry_at history at ≡ Some entry → past ≡ before history at →
+    option_map (reversal place number) (option_and_then (closed at 0) (closed_by past entry.cmd))
+    ≡ option_map (reversal place number) (closing_ticket history at)
+unfolding closing_ticket
+unnumbered_reversed history past place number at entry there is =
+    let back = before history at in
+    ap (λ h. option_map (reversal place number) (option_and_then (closed at 0) (closed_by h entry.cmd))) is
+    ∙ by (closed_by back entry.cmd)
+    ∙ ap (option_map (reversal place number)) (closing_issues back at entry.cmd)
+    ∙ ap (λ found. option_map (reversal place number) (option_and_then (λ e. issued_by_closing back at e.cmd) found)) (sym there)
+  where
+    by : (close : Option ToClose) →
+        option_map (reversal place number) (option_and_then (closed at 0) close)
+        ≡ option_map (reversal place number) (option_and_then (closed at (next_number (before history at))) close)
+    by None = refl
+    by (Some close) = reversed_same place number at (next_number (before history at)) close
 
 -- what moved between figures in range is at most what a tank holds
 side_small : (leg : Leg) (closing : Quantities) → AreInRange leg.opening → AreInRange closing → IsSmallSide (side_of leg closing)

@@ -15,7 +15,7 @@ use Rattle.farm_ticket.specs.declared.side.Way.{Way}
 use Rattle.farm_ticket.specs.declared.side.Way.TheVariants.{Inward, Outward}
 use Rattle.farm_history.specs.Postings.{amount_moved, less, opposite, opposite_posting, outside_posting, postings_of_sides, postings_of_ticket, unnamed}
 use Rattle.farm_history.proofs.PostingSums.{nothing, opposite_plus, passing_more, where_passed}
-use Rattle.history_lookups.specs.Bounds.{AreSmallPostings, IsAtMost, IsSmallSide, IsSmallTicket, most_moved}
+use Rattle.history_lookups.specs.Bounds.{AreSmallPostings, IsAtMost, IsSmallSide, IsSmallTicket, MoveAtMost, PostAtMost, most_moved}
 use Rattle.history_lookups.proofs.Bounds.{at_most_more, less_at_most, nothing_at_most, opposite_at_most}
 
 -- an amount where a test passes is within the bound of the amount
@@ -121,3 +121,7 @@ opposites_small postings small = record {
   together = λ tank.
       subst (IsAtMost most_moved) (sym (opposites_at tank postings)) (opposite_at_most most_moved (amount_of (at_tank tank postings)) (small.together tank));
 }
+
+-- postings of which each is small move little
+pub small_moves : (most : ℕ) (postings : List Posting) → PostAtMost most postings → MoveAtMost most postings
+small_moves most postings small = λ index default below moves. small index default below

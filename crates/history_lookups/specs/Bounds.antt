@@ -1,5 +1,5 @@
 -- How great what moves, what is posted and what a tank holds may be: whole litres and whole kilograms.
-use Rattle.std.specs.Prelude.{◌≡◌, ◌≢◌, ℕ, ◌*◌, ◌^◌, ◌≤◌, All, IfSome, List, Some}
+use Rattle.std.specs.Prelude.{◌≡◌, ◌≢◌, ℕ, ◌*◌, ◌^◌, ◌≤◌, All, IfSome, IsFalse, List, Some}
 use Rattle.std.specs.Int.RustNames.{unsigned_abs}
 use Rattle.farm_chain.specs.Volumes.{AreInRange}
 use Rattle.farm_fixed.specs.Limits.{most_net}
@@ -11,6 +11,7 @@ use Rattle.farm_stock.specs.declared.posting.Posting.{Posting}
 use Rattle.farm_ticket.specs.Tickets.{Ticket}
 use Rattle.farm_ticket.specs.declared.side.Side.{Side}
 use Rattle.farm_movement.specs.Movements.{OpenMove}
+use Rattle.farm_history.specs.Conservation.{is_gain}
 use Rattle.farm_history.specs.Postings.{amount_moved}
 use Rattle.farm_history.specs.Tickets.{ToClose}
 
@@ -39,6 +40,10 @@ PostAtMost most postings = All (λ posting. IsAtMost most posting.amount) postin
 pub record AreSmallPostings (postings : List Posting) : Type 0 where
   pub each : PostAtMost (2 * most_moved) postings
   pub together : (tank : ℕ) → IsAtMost most_moved (amount_of (at_tank tank postings))
+
+-- each posting is of at most this much, but for gains
+abbrev pub MoveAtMost : ℕ → List Posting → Type 0
+MoveAtMost most postings = All (λ posting. IsFalse (is_gain posting.kind) → IsAtMost most posting.amount) postings
 
 -- with a gain the book of a tank holds at most what a tank holds
 pub record IsGainOf (tank : ℕ) (books : List TankBook) (gain : Amount) : Type 0 where

@@ -63,6 +63,14 @@ impl Ledger {
         post_all(&mut self.books[..self.count], posted);
     }
 
+    /// The books, in the order of the tanks.
+    pub fn books(&self) -> &[TankBook]
+        ensures books { result.now ≡ self.now }
+        ensures few { length result.now ≤ MOST_TANKS }
+    {
+        &self.books[..self.count]
+    }
+
     /// What a tank holds by its book. `None` exactly where it isn't there.
     pub fn book_of(&self, tank: u16) -> Option<Amount>
         ensures book { result ≡ book_of tank self.now }

@@ -18,5 +18,7 @@ mod tickets;
 pub use figures::{Pairs, tank_of};
 pub use gauging::gauged;
 pub use last_places::{is_gauging_of, is_sample_of};
+pub use ledger::Ledger;
 pub use past::Past;
-pub use tickets::{ToClose, goes_wrong};
+pub use postings::Posted;
+pub use tickets::{ToClose, goes_wrong, issues_ticket};

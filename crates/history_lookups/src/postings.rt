@@ -1,7 +1,7 @@
 //! What entries post to the books of tanks.
 
-ghost use Rattle.std.specs.Prelude.{◌≡◌, ℕ, ◌+◌, IfSome, map};
-ghost use Rattle.history_lookups.specs.Bounds.{AreSmallPostings, IsAtMost, IsGainOf, IsSmallSide, IsSmallTicket, PostAtMost, most_posted};
+ghost use Rattle.std.specs.Prelude.{◌≡◌, ℕ, ◌+◌, ◌*◌, IfSome, map};
+ghost use Rattle.history_lookups.specs.Bounds.{AreSmallPostings, IsAtMost, IsGainOf, IsSmallSide, IsSmallTicket, MoveAtMost, PostAtMost, most_moved, most_posted};
 ghost use Rattle.history_lookups.specs.Ledgers.{AreBooksOf, AreBounded, books_after, listed_postings};
 ghost use Rattle.history_lookups.specs.Pasts.{IsReadable, history_of};
 ghost use Rattle.farm_history.specs.History.{last_place};
@@ -37,13 +37,15 @@ pub enum Posted {
 }
 
 impl Past<'_> {
-    // What a command posts after these entries, where the ledger has the books after them.
+    /// What a command posts after these entries, if the ledger has the books after them. But for a gain each posting is of at most twice
+    /// what a tank holds by its figures.
     #[tactic(auto, unfolding(farm_history::specs::Postings::posted_by))]
-    pub(crate) fn posted_by(&self, ledger: &Ledger, command: &Command) -> Posted
+    pub fn posted_by(&self, ledger: &Ledger, command: &Command) -> Posted
         requires readable { IsReadable (history_of self.now.site.now self.now.entries.now) }
         requires books { AreBooksOf (history_of self.now.site.now self.now.entries.now) ledger.now }
         ensures posted { listed_postings result ≡ posted_by (history_of self.now.site.now self.now.entries.now) (postings_of (history_of self.now.site.now self.now.entries.now)) command.now }
         ensures small { PostAtMost most_posted (listed_postings result) }
+        ensures moved { MoveAtMost (2 * most_moved) (listed_postings result) }
         ensures bounded { AreBounded (last_place (history_of self.now.site.now self.now.entries.now) + 1) (books_after (listed_postings result) ledger.now) }
     {
         match command {
@@ -95,6 +97,7 @@ impl Past<'_> {
         requires books { AreBooksOf (history_of self.now.site.now self.now.entries.now) ledger.now }
         ensures posted { listed_postings result ≡ gain_posted tank (gain_after (history_of self.now.site.now self.now.entries.now) (postings_of (history_of self.now.site.now self.now.entries.now)) tank gauged.now) }
         ensures small { PostAtMost most_posted (listed_postings result) }
+        ensures moved { MoveAtMost (2 * most_moved) (listed_postings result) }
         ensures bounded { AreBounded (last_place (history_of self.now.site.now self.now.entries.now) + 1) (books_after (listed_postings result) ledger.now) }
     {
         match self.gain_after(ledger, tank, gauged) {

@@ -49,8 +49,8 @@ impl Past<'_> {
         past.gain_after(&past.ledger(), *tank, gauged)
     }
 
-    // The books of the tanks after these entries.
-    fn ledger(&self) -> Ledger
+    /// The books of the tanks after these entries, by one pass over them.
+    pub fn ledger(&self) -> Ledger
         requires readable { IsReadable (history_of self.now.site.now self.now.entries.now) }
         ensures books { AreBooksOf (history_of self.now.site.now self.now.entries.now) result }
     {

@@ -1,13 +1,13 @@
 //! Tickets among entries: what a movement was opened on, what it is closed on, and what a Closing or a Reverse issues.
 
-ghost use Rattle.std.specs.Prelude.{◌≡◌, ◌↔◌, IfSome, IsSome};
+ghost use Rattle.std.specs.Prelude.{◌≡◌, ◌↔◌, IfSome, IsSome, option_and_then, option_map};
 ghost use Rattle.farm_chain.specs.Volumes.{AreInRange};
-ghost use Rattle.farm_ticket.specs.Reversing.{SidesAddUp};
+ghost use Rattle.farm_ticket.specs.Reversing.{SidesAddUp, reversal};
 ghost use Rattle.history_lookups.specs.Bounds.{IsClosedInRange, IsOpenedInRange};
 ghost use Rattle.history_lookups.specs.Closings.{closed_by};
 ghost use Rattle.history_lookups.specs.Pasts.{IsReadable, history_of};
 ghost use Rattle.farm_history.specs.Commands.{issues_ticket};
-ghost use Rattle.farm_history.specs.History.{last_place};
+ghost use Rattle.farm_history.specs.History.{before, last_place};
 ghost use Rattle.farm_history.specs.Tickets.{any_goes_wrong, closed, closing_ticket, figures_at_closing, issued_by, issued_by_closing, leg_at, movement_of, next_number, plan_to_close, ticket_at, tickets_in, to_close};
 
 use crate::Past;
@@ -30,6 +30,44 @@ impl Past<'_> {
     {
         let entry = self.entry_at(place)?;
         self.before(place).issued_by(place, &entry.cmd)
+    }
+
+    /// The ticket of the entry at a place, if its number is this: `None` as for `ticket_at`. No entries are counted for it.
+    #[tactic(auto, unfolding(farm_history::specs::Tickets::ticket_at))]
+    pub fn ticket_numbered(&self, place: u32, number: u32) -> Option<Ticket>
+        requires readable { IsReadable (history_of self.now.site.now self.now.entries.now) }
+        ensures ticket { number ≡ next_number (before (history_of self.now.site.now self.now.entries.now) place) →
+            result ≡ ticket_at (history_of self.now.site.now self.now.entries.now) place }
+    {
+        let entry = self.entry_at(place)?;
+        let past = self.before(place);
+        match &entry.cmd {
+            Command::Reverse { ticket } => past.reversal_numbered(place, number, *ticket),
+            command => past.closing_numbered(place, number, command),
+        }
+    }
+
+    // The ticket that a Closing issues at a place with this number, after these entries. `None` for another command.
+    fn closing_numbered(&self, place: u32, number: u32, command: &Command) -> Option<Ticket>
+        requires readable { IsReadable (history_of self.now.site.now self.now.entries.now) }
+        ensures ticket { result ≡ option_and_then (closed place number) (closed_by (history_of self.now.site.now self.now.entries.now) command.now) }
+        ensures adds_up { IfSome result SidesAddUp }
+    {
+        let (movement, first, second) = self.closed_by(command)?;
+        closed(place, number, movement, first, second)
+    }
+
+    // The ticket that reverses that of a Closing, issued at a place with this number. It doesn't tell the number of the other.
+    #[tactic(auto, unfolding(farm_history::specs::Tickets::closing_ticket))]
+    fn reversal_numbered(&self, place: u32, number: u32, reversed: u32) -> Option<Ticket>
+        requires readable { IsReadable (history_of self.now.site.now self.now.entries.now) }
+        ensures ticket { result ≡ option_map (reversal place number) (closing_ticket (history_of self.now.site.now self.now.entries.now) reversed) }
+    {
+        let entry = self.entry_at(reversed)?;
+        let unnumbered = self
+            .before(reversed)
+            .closing_numbered(reversed, 0, &entry.cmd)?;
+        Some(unnumbered.reversal(place, number))
     }
 
     // The ticket that a command issues at a place, after these entries.
@@ -83,8 +121,8 @@ impl Past<'_> {
         }
     }
 
-    // The number of the next ticket.
-    fn next_number(&self) -> u32
+    /// The number of the next ticket: one more than Closings and Reverses.
+    pub fn next_number(&self) -> u32
         requires readable { IsReadable (history_of self.now.site.now self.now.entries.now) }
         ensures number { result ≡ next_number (history_of self.now.site.now self.now.entries.now) }
     {
@@ -217,8 +255,8 @@ pub fn goes_wrong(movement: OpenMove, first: Quantities, second: Option<Quantiti
     movement.close(0, 0, first, second).is_err()
 }
 
-// Whether a command issues a ticket.
-fn issues_ticket(command: &Command) -> bool
+/// Whether a command issues a ticket: a Closing or a Reverse.
+pub fn issues_ticket(command: &Command) -> bool
     ensures issues { result ≡ issues_ticket command.now }
 {
     matches!(command, Command::Closing { .. } | Command::Reverse { .. })

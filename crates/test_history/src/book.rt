@@ -28,8 +28,8 @@ pub fn entry(key: u64, cmd: Command) -> Entry
     }
 }
 
-// What is answered to an entry, which is committed where it is accepted.
-fn answer(book: &mut Book<4>, entry: Entry) -> Result<Reply, NoMemory>
+/// What is answered to an entry, which is committed where it is accepted.
+pub fn answer<const LIMIT: usize>(book: &mut Book<LIMIT>, entry: Entry) -> Result<Reply, NoMemory>
     requires well_formed { IsWellFormed entry }
     requires moment { last_moment book.old.history ≤ℤ entry.at }
 {

@@ -1,11 +1,14 @@
-//! Tests of texts of pieces, tickets, movements, keys, stocks, entries, the book and requests: what no clause of `text_pieces`, `farm_ticket`,
-//! `farm_movement`, `key_index`, `farm_stock`, `farm_history`, `farm_book` and `farm_http` says.
+//! Tests of texts of pieces, days, tickets, movements, keys, stocks, entries, the book, requests and reports of a day: what no clause of
+//! `text_pieces`, `calendar_days`, `farm_ticket`, `farm_movement`, `key_index`, `farm_stock`, `farm_history`, `farm_book`, `farm_http` and
+//! `book_texts` says.
 #![tactic(auto)]
 
 #[cfg(test)]
 mod book;
 #[cfg(test)]
 mod commands;
+#[cfg(test)]
+mod days;
 #[cfg(test)]
 mod entries;
 #[cfg(test)]

@@ -1,7 +1,7 @@
 //! Types that may go to another thread, and be looked at by two.
 
 use boxed_disk::BoxedDisk;
-use command_line::{ServeOptions, Subcommand};
+use command_line::{CommandName, DrillOptions, ServeOptions, Subcommand};
 use desk_posts::{PostEnd, PostRoom};
 use farm_desk::{Answer, CreateFault, Desk, Opened, RecoverFault};
 use farm_disk::MemDisk;
@@ -28,7 +28,9 @@ fn commands_and_what_their_runs_work_with_may_go_to_another_thread(
     shared::<Done<MemDisk>>();
     shared::<BoxedDisk<MemDisk>>();
     shared::<Subcommand>();
+    shared::<CommandName>();
     shared::<ServeOptions>();
+    shared::<DrillOptions>();
     shared::<PostRoom>();
     shared::<PostEnd>();
     Ok(())

@@ -1,7 +1,7 @@
 //! The words after the program's name.
 
 use crate::running::{Answer, answer, check_answer, words_of};
-use command_line::{ServeOptions, Subcommand, places};
+use command_line::{CommandName, ServeOptions, Subcommand, places};
 use farm_ports::Gather;
 use farm_run::report_no_memory;
 use std::alloc::Global;
@@ -92,7 +92,10 @@ fn served(alloc: Global, written: (&str, &str, &str)) -> Result<Option<Subcomman
         rounds,
     ];
     let owned = words_of(alloc, &words)?;
-    let command = Subcommand::of_words(&owned);
+    let command = match CommandName::of_words(&owned) {
+        Some(name) => Some(Subcommand::read(alloc, name, &owned)?),
+        None => None,
+    };
     drop(owned);
     Ok(command)
 }

@@ -1,0 +1,16 @@
+-- The invariants of the loops of `post_through`.
+use Rattle.std.proofs.Common.{◌≡◌, ◌-◌, ◌≤◌, map}
+use Rattle.history_lookups.specs.Ledgers.{AreBooksTo}
+use Rattle.history_lookups.specs.Pasts.{history_of}
+use Rattle.day_balances.specs.Balances.{postings_after}
+use Rattle.day_balances.specs.TankDays.{AreWithin, moved_after, most_moved_by}
+use Rattle.day_balances.proofs.balances.post_through.Given as goal
+
+-- so far the entries after the first ones are posted to the ledger and to the days
+abbrev pub invariant-loop-index : goal.invariant-loop-index
+invariant-loop-index l = record {
+  from : l.before ≤ l.index;
+  books : AreBooksTo (history_of l.past.site.now l.past.entries.now) l.index l.ledger;
+  moved : l.days ≡ map (moved_after (postings_after (history_of l.past.site.now l.past.entries.now) l.before (l.index - l.before))) l.initial.days;
+  bounded : AreWithin (most_moved_by l.index) l.days;
+}

@@ -1,0 +1,2 @@
+-- The lemmas of `farm`, by topic.
+pub mod RunStatuses
