@@ -1,4 +1,4 @@
-//! Days of a new desk: the posts and lines that serve it, and what that leaves.
+//! Days of a desk: the posts and lines that serve it, and what that leaves.
 
 use crate::desks::{PORT, RowLine, RowPost, served};
 use crate::making::{lines, posts};
@@ -25,12 +25,16 @@ pub struct PostDay {
     pub idle: u32,
     /// Whether its connections wait until one of another post was answered.
     pub waits: bool,
-    /// What its connections ask, one request each.
+    /// What a look at the stock of tank 101 has to end with before its connections ask anything else; nothing if they don't look.
+    pub until: &'static [u8],
+    /// What its connections ask, each in one piece.
     pub requests: &'static [&'static [u8]],
     /// How it ends.
     pub end: PostEnd,
     /// How many connections it hands back, each answered by 200.
     pub answered: usize,
+    /// What the last page on each of them ends with.
+    pub told: &'static [u8],
     /// What its caller enters, in order.
     pub entered: &'static [Entered],
 }
@@ -64,9 +68,11 @@ pub struct LineDay {
     pub entered: &'static [Entered],
 }
 
-/// A day of a new desk. Its callers are numbered from 0, first the desk posts and then the lines.
+/// A day of a desk. Its callers are numbered from 0, first the desk posts and then the lines.
 #[derive(Clone, Copy)]
 pub struct Day {
+    /// Whether the desk was opened with a receipt into tank 101; else it is new.
+    pub receipt: bool,
     /// The desk posts.
     pub posts: &'static [PostDay],
     /// The lines, which are the first ones of the site.
@@ -97,6 +103,7 @@ fn check_post<R: Print>(
     for talk in visits.talks() {
         let is_answered = talk.written().starts_with(b"HTTP/1.1 200 OK\r\n");
         checks.same_at(name, is_answered, true);
+        checks.same_at(name, talk.written().ends_with(day.told), true);
     }
 }
 
@@ -137,7 +144,7 @@ fn check_wire<R: Print>(checks: &mut Checks<'_, R>, name: &str, wire: &Wire, day
     }
 }
 
-// The entries of a caller are these, in their order.
+// Of the entries since a desk was opened those of a caller are these, in their order.
 fn check_entered<R: Print>(
     checks: &mut Checks<'_, R>,
     name: &str,
@@ -155,6 +162,14 @@ fn check_entered<R: Print>(
     checks.same_at(name, None, left.next());
 }
 
+// The entries since the desk of a day was opened, with three entries if it had a receipt.
+fn since_opened<'a>(day: &Day, entries: &'a [Entry]) -> &'a [Entry] {
+    match entries {
+        [_, _, _, since @ ..] if day.receipt => since,
+        _ => entries,
+    }
+}
+
 // Entries, posts and lines are as the row of the day says.
 fn check_end<R: Print>(
     checks: &mut Checks<'_, R>,
@@ -166,6 +181,7 @@ fn check_end<R: Print>(
 ) {
     checks.same_at(name, entries.len(), day.entries);
     checks.same_at(name, any_failed(posts), day.failed);
+    let entries = since_opened(day, entries);
     let mut port = PORT;
     let mut caller = 0u32;
     for (post, day) in posts.iter().zip(day.posts) {
@@ -181,7 +197,7 @@ fn check_end<R: Print>(
     }
 }
 
-// Posts and lines serve a new desk, and leave what the row of the day says.
+// Posts and lines serve a desk, and leave what the row of the day says.
 fn check_served<R: Threads + Wait + Sync + Print>(
     checks: &mut Checks<'_, R>,
     rt: &R,
@@ -191,7 +207,7 @@ fn check_served<R: Threads + Wait + Sync + Print>(
     posts: &mut [RowPost<'_>],
     lines: &mut [RowLine<'_>],
 ) -> Result<(), Fail> {
-    let desk = served(rt, alloc, posts, lines, day.rounds)?;
+    let desk = served(rt, alloc, day.receipt, posts, lines, day.rounds)?;
     check_end(checks, name, day, desk.book().entries(), posts, lines);
     drop(desk);
     Ok(())

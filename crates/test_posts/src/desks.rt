@@ -9,9 +9,11 @@ use boxed_disk::BoxedDisk;
 use farm_base::NoMemory;
 use farm_desk::Desk;
 use farm_disk::{Disk, MemDisk};
+use farm_history::{Ask, Command, Gauged, Plan};
 use farm_ports::{Files, Fixed};
 use farm_serve::{DeskPost, LinePost, serve};
 use farm_site::Site;
+use farm_ticket::Way;
 use site_file::ReadSite;
 use std::alloc::Global;
 use std::sync::Wait;
@@ -70,6 +72,43 @@ temperature = { offset = 1, signed = true, mul = 10 }
 deadband_mm = 1
 "#;
 
+// A sample of tank 101, a gauge's reading of it, and a receipt that is opened on both: the first three entries.
+const SAMPLE: Ask = Ask::Do {
+    account: 1,
+    key: 1,
+    cmd: Command::Sample {
+        tank: 101,
+        density: 8_500,
+        sw: 0,
+    },
+};
+
+const READING: Ask = Ask::Do {
+    account: 1,
+    key: 2,
+    cmd: Command::Gauge {
+        tank: 101,
+        level: 5_000,
+        water: 0,
+        temperature: 2_000,
+        ambient: 1_500,
+    },
+};
+
+const OPENING: Ask = Ask::Do {
+    account: 1,
+    key: 3,
+    cmd: Command::Opening(Plan::Outside {
+        way: Way::Inward,
+        tank: 101,
+        party: 7,
+        gauged: Gauged {
+            reading: 2,
+            sample: 1,
+        },
+    }),
+};
+
 // Adds the lines at the end of the first file, `site.toml`.
 fn add_lines(files: &mut [(String, Vec<u8>)]) -> Result<(), NoMemory> {
     if let Some((_name, text)) = files.first_mut() {
@@ -115,16 +154,50 @@ fn new_desk(alloc: Global) -> Result<RowDesk, Fail>
     }
 }
 
-/// A new desk that these posts and lines served.
+// The disk that a desk with these three entries leaves.
+fn disk_of_receipt(alloc: Global) -> Result<RowDisk, Fail> {
+    let mut desk = new_desk(alloc)?;
+    desk.ask(0, NOW, &SAMPLE);
+    desk.ask(0, NOW, &READING);
+    desk.ask(0, NOW, &OPENING);
+    let (disk, _doubt) = desk.finish();
+    Ok(disk)
+}
+
+// A desk that was opened with a receipt into tank 101, which is three entries.
+fn desk_with_receipt(alloc: Global) -> Result<RowDesk, Fail>
+    ensures new { IfOk result (λ desk. IsJustMade (λ boxed. ⟦<MemDisk as Disk>⟧.moment boxed.disk.value) (λ boxed. ⟦<MemDisk as Disk>⟧.faults boxed.disk.value)
+        desk (last_place desk.history)) }
+{
+    match Desk::recover(alloc, disk_of_receipt(alloc)?) {
+        Ok(desk) => Ok(desk),
+        Err((_disk, fault)) => Err(fault)?,
+    }
+}
+
+// A desk as a day finds it.
+fn desk_of(alloc: Global, receipt: bool) -> Result<RowDesk, Fail>
+    ensures new { IfOk result (λ desk. IsJustMade (λ boxed. ⟦<MemDisk as Disk>⟧.moment boxed.disk.value) (λ boxed. ⟦<MemDisk as Disk>⟧.faults boxed.disk.value)
+        desk (last_place desk.history)) }
+{
+    if receipt {
+        desk_with_receipt(alloc)
+    } else {
+        new_desk(alloc)
+    }
+}
+
+/// A desk that these posts and lines served, either new or opened with a receipt.
 pub fn served<R: Threads + Wait + Sync>(
     rt: &R,
     alloc: Global,
+    receipt: bool,
     desks: &mut [RowPost<'_>],
     lines: &mut [RowLine<'_>],
     rounds: u8,
 ) -> Result<RowDesk, Fail> {
     let clock = Fixed::new(alloc, NOW)?;
-    let desk = new_desk(alloc)?;
+    let desk = desk_of(alloc, receipt)?;
     if desks.len() > MOST_POSTS || lines.len() > desk.book().site().lines.get().len() {
         drop(desk);
         return Err("too many posts".into());

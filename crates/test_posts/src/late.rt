@@ -1,4 +1,7 @@
-//! Connections, listeners and links in memory, some of which wait until a connection was answered. They share a word that says whether one was.
+//! Connections, listeners and links in memory, some of which wait until a connection was answered, and connections that look at a stock until it
+//! has a reading. Those that wait share a word that says whether a connection was answered.
+
+ghost use Rattle.std.specs.Prelude.{◌≡◌, ◌≤◌, length};
 
 use farm_listeners::{Accepted, Listener, Talk, Visits};
 use farm_ports::{Failed, Link, Port, Sink, Source, Wire};
@@ -19,12 +22,66 @@ fn was_answered(answered: &AtomicBool) -> bool {
     false
 }
 
-/// A connection in memory. One that waits gives its bytes once another one was answered, and else its end.
+// A look at the stock of tank 101.
+const STOCK: &[u8] = b"GET /stock/101 HTTP/1.1\r\n\r\n";
+
+// How often a connection looks at most, and how long it rests after a look: together for about as long as who waits.
+const STOCKS: u32 = 5_000;
+
+const REST: u32 = LOOKS / STOCKS;
+
+// Rests for a while.
+fn rest() {
+    for _ in 0..REST {
+        hint::spin_loop();
+    }
+}
+
+// Copies the beginning of bytes, as much as there is room for, and says how much that is.
+fn copy_beginning(bytes: &[u8], into: &mut [u8]) -> usize
+    ensures { result ≤ length into.old }
+{
+    let count = bytes.len().min(into.len());
+    into[..count].copy_from_slice(&bytes[..count]);
+    count
+}
+
+/// A connection in memory. One that waits gives its bytes once another one was answered, and else its end. One that looks asks for the stock of
+/// tank 101 before anything else, again and again but not forever, until a page ends with a text; the pages of its looks aren't kept.
 #[derive(Drop)]
 pub struct LateTalk<'a> {
     talk: Talk,
     waits: bool,
+    // The end of the page that it looks for, empty once it came.
+    until: &'static [u8],
+    // How often it may still look.
+    looks: u32,
     answered: &'a AtomicBool,
+}
+
+impl LateTalk<'_> {
+    // The next look, or the end after the last one.
+    fn look(&mut self, into: &mut [u8]) -> usize
+        ensures within { result ≤ length into.old }
+        ensures talk { self.new.talk ≡ self.old.talk }
+    {
+        if self.looks == 0 {
+            return 0;
+        }
+        self.looks -= 1;
+        copy_beginning(STOCK, into)
+    }
+
+    // Takes note of a page that answers a look.
+    fn see(&mut self, page: &[u8])
+        ensures talk { self.new.talk ≡ self.old.talk }
+    {
+        if page.ends_with(self.until) {
+            self.until = b"";
+        } else {
+            rest();
+        }
+    }
 }
 
 impl Port for LateTalk<'_> {
@@ -42,12 +99,19 @@ impl Source for LateTalk<'_> {
         if self.waits && !was_answered(self.answered) {
             return Ok(0);
         }
+        if !self.until.is_empty() {
+            return Ok(self.look(into));
+        }
         self.talk.take(into)
     }
 }
 
 impl Sink for LateTalk<'_> {
     fn put(&mut self, bytes: &[u8]) -> Result<usize, Failed> {
+        if !self.until.is_empty() {
+            self.see(bytes);
+            return Ok(bytes.len());
+        }
         let count = self.talk.put(bytes)?;
         self.answered.store(true, Ordering::SeqCst);
         Ok(count)
@@ -60,16 +124,25 @@ pub struct LateVisits<'a> {
     visits: Visits,
     idle: u32,
     waits: bool,
+    until: &'static [u8],
     answered: &'a AtomicBool,
 }
 
 impl<'a> LateVisits<'a> {
-    /// A listener that is idle at this many accepts before it is this one, and whose connections wait or not.
-    pub fn new(visits: Visits, idle: u32, waits: bool, answered: &'a AtomicBool) -> Self {
+    /// A listener that is idle at this many accepts before it is this one, and whose connections wait or not, and look until a page ends with
+    /// a text or, if it is empty, don't look.
+    pub fn new(
+        visits: Visits,
+        idle: u32,
+        waits: bool,
+        until: &'static [u8],
+        answered: &'a AtomicBool,
+    ) -> Self {
         LateVisits {
             visits,
             idle,
             waits,
+            until,
             answered,
         }
     }
@@ -102,6 +175,8 @@ impl<'a> Listener for LateVisits<'a> {
             Accepted::Conn(talk) => Ok(Accepted::Conn(LateTalk {
                 talk,
                 waits: self.waits,
+                until: self.until,
+                looks: STOCKS,
                 answered: self.answered,
             })),
             Accepted::Idle => Ok(Accepted::Idle),

@@ -29,7 +29,7 @@ fn copies_of(alloc: Global, pieces: &[&[u8]]) -> Result<Vec<Vec<u8>>, NoMemory> 
     Ok(copies)
 }
 
-// A connection that asks one thing.
+// A connection that asks in one piece.
 fn talk(alloc: Global, request: &[u8]) -> Result<Talk, NoMemory> {
     let pieces = copies_of(alloc, &[request])?;
     Talk::new(alloc, pieces, Vec::new(alloc), Vec::new(alloc))
@@ -55,7 +55,7 @@ pub fn posts<'a>(
     let mut posts = Vec::new(alloc);
     for day in days {
         let visits = visits(alloc, day)?;
-        let late = LateVisits::new(visits, day.idle, day.waits, answered);
+        let late = LateVisits::new(visits, day.idle, day.waits, day.until, answered);
         posts.push(Post::new(late))?;
     }
     Ok(posts)

@@ -19,9 +19,11 @@ pub const NOBODY: PostDay = PostDay {
     fails: &[],
     idle: 0,
     waits: false,
+    until: b"",
     requests: &[],
     end: PostEnd::Ended,
     answered: 0,
+    told: b"",
     entered: &[],
 };
 
@@ -48,8 +50,9 @@ const IDLE: PostDay = PostDay {
     ..NOBODY
 };
 
-/// A day without lines, at whose end no listener failed.
+/// A day of a new desk without lines, at whose end no listener failed.
 pub const NO_LINE: Day = Day {
+    receipt: false,
     posts: &[],
     lines: &[],
     rounds: 0,
