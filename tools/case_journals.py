@@ -108,6 +108,9 @@ def journals(site):
     return {
         "few_made": journal(site),
         "few_stopped": journal(site, entry(1, STOP)),
+        "few_cut_in_site": journal(site, entry(1, STOP))[:171],
+        "few_cut_in_record": journal(site, entry(1, STOP))[:201],
+        "few_cut_before_gate": journal(site, entry(1, STOP))[:202],
         "few_gauged": journal(site, first, entry(2, gauge(7))),
         "few_falling": journal(site, first, entry(2, gauge(7), MOMENT - 1)),
         "few_unknown_tank": journal(site, first, entry(2, sample(8))),

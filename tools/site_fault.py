@@ -362,7 +362,7 @@ def said_of(folder, said):
 
 
 def main():
-    if len(sys.argv) not in (2, 3):
+    if len(sys.argv) not in (2, 3) or sys.argv[1] == "--help":
         sys.exit(__doc__)
     lines = said_of(sys.argv[1], sys.argv[2] if len(sys.argv) == 3 else sys.stdin.read())
     if lines is None:

@@ -258,7 +258,7 @@ def print_slips(folder):
 
 
 def main():
-    if len(sys.argv) != 2:
+    if len(sys.argv) != 2 or sys.argv[1] == "--help":
         print(__doc__)
         return 2
     return print_slips(sys.argv[1])

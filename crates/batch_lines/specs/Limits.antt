@@ -6,8 +6,8 @@ abbrev pub line_feed : ℕ
 line_feed = 10
 
 -- the most bytes of a line, without its line feed
-abbrev pub longest_line : ℕ
-longest_line = 65536
+abbrev pub most_request_line_bytes : ℕ
+most_request_line_bytes = 65536
 
 -- the most bytes of all lines, with their line feeds
 abbrev pub most_bytes : ℕ

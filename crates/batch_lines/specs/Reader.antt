@@ -2,7 +2,7 @@
 use Rattle.std.specs.Prelude.{◌≡◌, ◌≢◌, ◌⊎◌, ℕ, ◌+◌, ◌≤◌, nat_lt, Bool, true, false, if◌then◌else◌, List, [], ◌∷◌, ◌++◌, length, Option, None, Some, Result, Ok, Err}
 use Rattle.farm_base.specs.Counts.{Count, HasRisen}
 use Rattle.farm_base.specs.Known.{Stream, Takes, WhereKnown}
-use Rattle.batch_lines.specs.Limits.{line_feed, longest_line, most_bytes}
+use Rattle.batch_lines.specs.Limits.{line_feed, most_request_line_bytes, most_bytes}
 use Rattle.batch_lines.specs.declared.reader.Cut.{Cut}
 use Rattle.batch_lines.specs.declared.reader.Cut.TheVariants.{Line, Last, End, Long, Failed}
 use Rattle.batch_lines.specs.declared.reader.Moved.{Moved}
@@ -23,7 +23,7 @@ AtEnd stream = WhereKnown stream (λ known. known.left ≡ [])
 
 -- what is kept of a line: all of it, or nothing where it is too long
 abbrev pub kept : List ℕ → Option (List ℕ)
-kept line = if nat_lt longest_line (length line) then None else Some line
+kept line = if nat_lt most_request_line_bytes (length line) then None else Some line
 
 -- a reader has read this of a line
 pub record Holds (reader : ReaderState) (line : List ℕ) : Type 0 where

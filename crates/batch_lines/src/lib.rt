@@ -8,6 +8,6 @@ mod limits;
 mod number_laws;
 mod reader;
 
-pub use limits::{LINE_FEED, LONGEST_LINE, MOST_BYTES};
+pub use limits::{LINE_FEED, MOST_BYTES, MOST_REQUEST_LINE_BYTES};
 pub use number_laws::defined_numbers;
 pub use reader::{Cut, LineReader};

@@ -4,7 +4,7 @@
 pub const LINE_FEED: u8 = b'\n';
 
 /// The most bytes of a line, without its line feed.
-pub const LONGEST_LINE: usize = 65_536;
+pub const MOST_REQUEST_LINE_BYTES: usize = 65_536;
 
 /// The most bytes of all lines, with their line feeds.
 pub const MOST_BYTES: usize = 1_073_741_824;

@@ -1,12 +1,12 @@
 //! Lines out of a source, one after another.
 
 ghost use Rattle.std.specs.Prelude.{◌≡◌, ◌≢◌, ◌+◌, ◌≤◌, ℕ, List, [], length, take, drop, option_map, IfOk, OnErr, OnOk, Ok};
-ghost use Rattle.farm_base.specs.Counts.{HasCause, count_of};
+ghost use Rattle.farm_base.specs.Counts.{Counts, CountsIf, count_of};
 ghost use Rattle.farm_base.specs.Known.{Takes};
 ghost use Rattle.batch_lines.specs.declared.limits.TheConstants.{MOST_BYTES};
 ghost use Rattle.batch_lines.specs.Reader.{AtEnd, Extends, Holds, LooksOn, Moves, Reads, TakesOn};
 
-use crate::limits::{LINE_FEED, LONGEST_LINE, MOST_BYTES};
+use crate::limits::{LINE_FEED, MOST_BYTES, MOST_REQUEST_LINE_BYTES};
 use farm_base::NoMemory;
 use farm_ports::{Failed, Source};
 use memchr::memchr;
@@ -56,19 +56,19 @@ pub struct LineReader {
 impl Model for LineReader {
     ghost use Rattle.std.specs.Prelude.{◌≡◌, ◌-◌, ◌≤◌, take, drop, nat_lt, if◌then◌else◌, None, Some, vec_len};
     ghost use Rattle.batch_lines.specs.Reader.{ReaderState};
-    ghost use Rattle.batch_lines.specs.declared.limits.TheConstants.{LONGEST_LINE, MOST_BYTES};
+    ghost use Rattle.batch_lines.specs.declared.limits.TheConstants.{MOST_REQUEST_LINE_BYTES, MOST_BYTES};
 
     ghost Value = { ReaderState };
 
     ghost view = { λ reader. record {
       in_hand = take (reader.end - reader.start) (drop reader.start reader.piece.items);
-      line = if nat_lt LONGEST_LINE reader.length then None else Some (take reader.length reader.line.items);
+      line = if nat_lt MOST_REQUEST_LINE_BYTES reader.length then None else Some (take reader.length reader.line.items);
       length = reader.length;
       passed = reader.passed;
     } };
 
     ghost invariant = { λ reader. (reader.start ≤ reader.end) × (reader.end ≤ vec_len reader.piece) × (vec_len reader.piece ≡ 8192)
-        × (vec_len reader.line ≡ LONGEST_LINE) × (reader.length ≤ reader.passed) × (reader.passed ≤ MOST_BYTES) };
+        × (vec_len reader.line ≡ MOST_REQUEST_LINE_BYTES) × (reader.length ≤ reader.passed) × (reader.passed ≤ MOST_BYTES) };
 }
 
 impl LineReader {
@@ -81,7 +81,7 @@ impl LineReader {
             piece: vec![in alloc; 0; PIECE]?,
             start: 0,
             end: 0,
-            line: vec![in alloc; 0; LONGEST_LINE]?,
+            line: vec![in alloc; 0; MOST_REQUEST_LINE_BYTES]?,
             length: 0,
             passed: 0,
         })
@@ -97,8 +97,7 @@ impl LineReader {
     /// Reads a line.
     pub fn read<S: Source>(&mut self, input: &mut S) -> Cut
         ensures reads { Reads self.old self.new (S.stream input.old) (S.stream input.new) (count_of S.faults input.old input.new) result }
-        ensures never_falls { S.faults input.old ≤ S.faults input.new }
-        ensures quiet { result ≢ Cut.Failed → S.faults input.new ≡ S.faults input.old }
+        ensures counts { CountsIf (result ≡ Cut.Failed) (S.faults input.old) (S.faults input.new) }
     {
         self.length = 0;
         let mut moved = self.cut();
@@ -124,8 +123,7 @@ impl LineReader {
     pub fn has_more<S: Source>(&mut self, input: &mut S) -> Result<bool, Failed>
         ensures looks { LooksOn self.old (S.stream input.old) (S.stream input.new) (count_of S.faults input.old input.new) result }
         ensures keeps { OnOk result (TakesOn self.old self.new (S.stream input.old) (S.stream input.new)) }
-        ensures never_falls { S.faults input.old ≤ S.faults input.new }
-        ensures quiet { OnOk result (S.faults input.new ≡ S.faults input.old) }
+        ensures counts { Counts (S.faults input.old) (S.faults input.new) result }
     {
         if self.start < self.end {
             return Ok(true);
@@ -143,8 +141,7 @@ impl LineReader {
         ensures line { self.new.line ≡ self.old.line }
         ensures held { (line : List ℕ) → Holds self.old line → Holds self.new line }
         ensures passed { self.new.passed ≡ self.old.passed }
-        ensures cause { HasCause (S.faults input.old) (S.faults input.new) result }
-        ensures quiet { OnOk result (S.faults input.new ≡ S.faults input.old) }
+        ensures counts { Counts (S.faults input.old) (S.faults input.new) result }
     {
         let count = input.take(&mut self.piece)?;
         self.start = 0;
@@ -182,7 +179,7 @@ impl LineReader {
     {
         let before = self.length;
         self.length += count;
-        if self.length <= LONGEST_LINE {
+        if self.length <= MOST_REQUEST_LINE_BYTES {
             let kept = &self.piece[self.start..self.start + count];
             self.line[before..self.length].copy_from_slice(kept);
         }

@@ -1,5 +1,5 @@
 -- The lines of tanks and of tickets, one after another.
-use Rattle.std.proofs.Common.{◌≡◌, ℕ, suc, ◌+◌, ◌-◌, ◌<◌, ◌≤◌, Bool, true, false, if◌then◌else◌, List, [], ◌∷◌, ◌++◌, length, map, take, drop, get_or, All, ℤ, refl, ap, ap₂, sym, ◌∙◌, append_assoc, arith}
+use Rattle.std.proofs.Common.{◌≡◌, ℕ, suc, ◌+◌, ◌-◌, ◌<◌, ◌≤◌, Bool, true, false, if◌then◌else◌, List, [], ◌∷◌, ◌++◌, length, map, take, drop, get_or, All, ℤ, refl, ap, ap₂, sym, ◌∙◌, subst, append_assoc, arith}
 use Rattle.std.proofs.lemmas.List.{append-nil, length-drop, length-take-le, take_more}
 use Rattle.std.proofs.lemmas.List.Elements.{All-head, All-tail}
 use Rattle.calendar_days.specs.DayTexts.{IsDayText, day_text}
@@ -138,40 +138,45 @@ each_meant history day (tank ∷ tanks) meant =
     let Meant : Tank → Type 0 = λ tank. IsDayBalance history day tank.number (day_balance history day tank) in
     (All-head Meant tank tanks meant, each_meant history day tanks (All-tail Meant tank tanks meant))
 
--- the report of a day is one in the words of the rule
-pub report_meant : (history : History) (day : ℤ) (written : List ℕ) (before through : ℕ) → written ≡ day_text day → IsDayText written day →
-    before ≡ count_before day history.entries → through ≡ count_through day history.entries → before ≤ through → through ≤ last_place history →
-    AreParted day history.entries (take before history.entries) (take (through - before) (drop before history.entries)) (drop through history.entries) →
+-- the report of a day is one in the words of the rule, where the entries that were searched are those of the history
+pub report_meant : (history : History) (entries : List Entry) (day : ℤ) (written : List ℕ) (before through : ℕ) → entries ≡ history.entries →
+    written ≡ day_text day → IsDayText written day → before ≡ count_before day entries → through ≡ count_through day entries → before ≤ through →
+    through ≤ length entries → AreParted day entries (take before entries) (take (through - before) (drop before entries)) (drop through entries) →
     All (λ tank. IsDayBalance history day tank.number (day_balance history day tank)) history.site.tanks →
     IsDayReport history day (day_report_text history day)
 unfolding day_report_text
-report_meant history day written before through text of_day before_is through_is order within parted meant =
-    let entries = history.entries in
-    let count : length (take before entries) ≡ before = length-take-le before entries (omega (arith, order, within)) in
+report_meant history entries day written before through same text of_day before_is through_is order within parted meant =
+    let earlier = take before entries in
+    let of_the_day = take (through - before) (drop before entries) in
+    let later = drop through entries in
+    let count : length earlier ≡ before = length-take-le before entries (omega (arith, order, within)) in
     let rest : length (drop before entries) ≡ length entries - before = length-drop before entries in
-    let count_of : length (take (through - before) (drop before entries)) ≡ through - before =
+    let count_of : length of_the_day ≡ through - before =
     length-take-le (through - before) (drop before entries) (omega (arith, rest, within)) in
     record {
       written = written;
       of_day = of_day;
       balances = day_balances history day;
       each = each_meant history day history.site.tanks meant;
-      earlier = take before entries;
-      entries = take (through - before) (drop before entries);
-      later = drop through entries;
-      parted = parted;
+      earlier = earlier;
+      entries = of_the_day;
+      later = later;
+      parted = subst (λ (all : List Entry). AreParted day all earlier of_the_day later) same parted;
       lines =
           ap₂ (λ (day_line : List ℕ) (lines : List ℕ). head_lines history.site.name day_line ++ lines) (sym text)
-          (ap₂ (λ from to. report_lines history (day_balances history day) from (to - from)) (sym before_is) (sym through_is)
+          (ap₂ (λ from to. report_lines history (day_balances history day) from (to - from)) (sym (before_is ∙ ap (count_before day) same))
+          (sym (through_is ∙ ap (count_through day) same))
           ∙ ap₂ (report_lines history (day_balances history day)) (sym count) (sym count_of));
     }
 
--- the text of the parts of a report
-pub report_is : (history : History) (day : ℤ) (written : List ℕ) (balances : List Balance) (before through : ℕ) → written ≡ day_text day →
-    balances ≡ day_balances history day → before ≡ count_before day history.entries → through ≡ count_through day history.entries →
+-- the text of the parts of a report, where the entries that were searched are those of the history
+pub report_is : (history : History) (entries : List Entry) (day : ℤ) (written : List ℕ) (balances : List Balance) (before through : ℕ) →
+    entries ≡ history.entries → written ≡ day_text day → balances ≡ day_balances history day → before ≡ count_before day entries →
+    through ≡ count_through day entries →
     head_lines history.site.name written ++ report_lines history balances before (through - before) ≡ day_report_text history day
 unfolding day_report_text
-report_is history day written balances before through text balances_are before_is through_is =
+report_is history entries day written balances before through same text balances_are before_is through_is =
     ap₂ (λ (day_line : List ℕ) (lines : List ℕ). head_lines history.site.name day_line ++ lines) text
     (ap (λ (b : List Balance). report_lines history b before (through - before)) balances_are
-    ∙ ap₂ (λ from to. report_lines history (day_balances history day) from (to - from)) before_is through_is)
+    ∙ ap₂ (λ from to. report_lines history (day_balances history day) from (to - from)) (before_is ∙ ap (count_before day) same)
+    (through_is ∙ ap (count_through day) same))

@@ -1,4 +1,4 @@
-//! The report of a day.
+//! The report of a day: the balance of each tank and of all of them, and the line of each ticket.
 
 ghost use Rattle.std.specs.Prelude.{◌≡◌, ◌+◌, ◌-◌, ◌≤◌, ◌++◌, if◌then◌else◌, length};
 ghost use Rattle.calendar_days.specs.Calendar.{IsFirstSecond};
@@ -6,7 +6,7 @@ ghost use Rattle.farm_base.specs.Appended.{Appends};
 ghost use Rattle.farm_history.specs.Commands.{issues_ticket};
 ghost use Rattle.farm_history.specs.History.{before, last_place};
 ghost use Rattle.farm_history.specs.Tickets.{next_number, ticket_at};
-ghost use Rattle.history_lookups.specs.Pasts.{IsReadable, history_of};
+ghost use Rattle.history_lookups.specs.Pasts.{IsReadable};
 ghost use Rattle.text_pieces.specs.Pieces.{Lengthens};
 ghost use Rattle.book_texts.specs.DayReports.{IsDayReport, amount_line, balance_lines, day_report_text, head_lines, report_lines, tank_balance_lines, line_of_ticket, tanks_balance_lines, ticket_lines, total_lines};
 
@@ -53,12 +53,12 @@ fn write_report(
     places: DayPlaces,
     out: &mut Vec<u8>,
 ) -> Result<(), NoMemory>
-    requires readable { IsReadable (history_of past.now.site.now past.now.entries.now) }
-    requires as_many { length balances.now ≡ length past.now.site.now.tanks }
+    requires readable { IsReadable past.now }
+    requires as_many { length balances.now ≡ length past.now.site.tanks }
     requires order { places.before ≤ places.through }
-    requires within { places.through ≤ last_place (history_of past.now.site.now past.now.entries.now) }
-    ensures lines { Lengthens out.old.items out.new.items (head_lines past.now.site.now.name day.now
-        ++ report_lines (history_of past.now.site.now past.now.entries.now) balances.now places.before (places.through - places.before)) result }
+    requires within { places.through ≤ last_place past.now }
+    ensures lines { Lengthens out.old.items out.new.items (head_lines past.now.site.name day.now
+        ++ report_lines past.now balances.now places.before (places.through - places.before)) result }
 {
     write_head(past.site.name.get(), day, out)?;
     write_lines(past, balances, places, out)
@@ -72,12 +72,11 @@ fn write_lines(
     places: DayPlaces,
     out: &mut Vec<u8>,
 ) -> Result<(), NoMemory>
-    requires readable { IsReadable (history_of past.now.site.now past.now.entries.now) }
-    requires as_many { length balances.now ≡ length past.now.site.now.tanks }
+    requires readable { IsReadable past.now }
+    requires as_many { length balances.now ≡ length past.now.site.tanks }
     requires order { places.before ≤ places.through }
-    requires within { places.through ≤ last_place (history_of past.now.site.now past.now.entries.now) }
-    ensures lines { Lengthens out.old.items out.new.items
-        (report_lines (history_of past.now.site.now past.now.entries.now) balances.now places.before (places.through - places.before)) result }
+    requires within { places.through ≤ last_place past.now }
+    ensures lines { Lengthens out.old.items out.new.items (report_lines past.now balances.now places.before (places.through - places.before)) result }
 {
     write_tanks(past.site.tanks.get(), balances.get(), out)?;
     write_total(&balances.total(), out)?;
@@ -174,10 +173,10 @@ fn write_tickets(
     through: usize,
     out: &mut Vec<u8>,
 ) -> Result<(), NoMemory>
-    requires readable { IsReadable (history_of past.now.site.now past.now.entries.now) }
+    requires readable { IsReadable past.now }
     requires order { before ≤ through }
-    requires within { through ≤ last_place (history_of past.now.site.now past.now.entries.now) }
-    ensures lines { Lengthens out.old.items out.new.items (ticket_lines (history_of past.now.site.now past.now.entries.now) before (through - before)) result }
+    requires within { through ≤ last_place past.now }
+    ensures lines { Lengthens out.old.items out.new.items (ticket_lines past.now before (through - before)) result }
 {
     let mut number = first(past, before).next_number();
     for index in before..through {
@@ -189,9 +188,9 @@ fn write_tickets(
 
 // Appends the line of the ticket of a place, if it has one, whose number is this.
 fn write_ticket(past: &Past<'_>, place: u32, number: u32, out: &mut Vec<u8>) -> Result<(), NoMemory>
-    requires readable { IsReadable (history_of past.now.site.now past.now.entries.now) }
-    requires number { number ≡ next_number (before (history_of past.now.site.now past.now.entries.now) place) }
-    ensures line { Lengthens out.old.items out.new.items (line_of_ticket (ticket_at (history_of past.now.site.now past.now.entries.now) place)) result }
+    requires readable { IsReadable past.now }
+    requires number { number ≡ next_number (before past.now place) }
+    ensures line { Lengthens out.old.items out.new.items (line_of_ticket (ticket_at past.now place)) result }
 {
     match past.ticket_numbered(place, number) {
         Some(ticket) => ticket.write(out),
@@ -212,8 +211,8 @@ fn number_after(number: u32, command: &Command) -> u32
 
 // The site and its first entries.
 fn first<'p>(past: &Past<'p>, count: usize) -> Past<'p>
-    requires within { count ≤ last_place (history_of past.now.site.now past.now.entries.now) }
-    ensures first { history_of result.site.now result.entries.now ≡ before (history_of past.now.site.now past.now.entries.now) (count + 1) }
+    requires within { count ≤ last_place past.now }
+    ensures first { result ≡ before past.now (count + 1) }
 {
     Past {
         site: past.site,

@@ -1,4 +1,4 @@
-//! The summary of a book.
+//! The summary of a book: the number of its entries, and what each tank and the terminal hold, a line each.
 
 ghost use Rattle.std.specs.Prelude.{◌≡◌};
 ghost use Rattle.book_texts.specs.Summaries.{IsSummary, entries_line, line_of_tank, summary_text, tank_line, tank_lines, total_line};
@@ -32,7 +32,7 @@ pub fn summary<const LIMIT: usize>(book: &Book<LIMIT>, out: &mut Vec<u8>) -> Res
     written
 }
 
-// The tanks of the site, which stand in rising order of their numbers.
+// The tanks of the site, in rising order of their numbers.
 fn tanks_of<const LIMIT: usize>(book: &Book<LIMIT>) -> &[Tank]
     ensures tanks { result.now ≡ book.now.history.site.tanks }
     ensures rising { AreRising book.now.history.site }
@@ -131,7 +131,7 @@ fn write_total(total: Amount, out: &mut Vec<u8>) -> Result<(), NoMemory>
     )
 }
 
-// What a look-up answers that a tank holds. `None` exactly where the site has no such tank.
+// What a look-up answers that a tank holds. `None` if and only if the site has no such tank.
 #[tactic(auto, unfolding(farm_history::specs::Desk::looked_up))]
 fn look_at_stock<const LIMIT: usize>(book: &Book<LIMIT>, tank: u16) -> Option<Amount>
     ensures stock { result ≡ book_of book.now.history tank }

@@ -1,4 +1,4 @@
-//! A disk on the heap.
+//! A disk on the heap: a call on it is the same call on the disk in the box.
 
 ghost use Rattle.std.specs.Prelude.{◌≡◌, IfErr, IfOk};
 

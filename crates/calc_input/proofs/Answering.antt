@@ -41,7 +41,7 @@ unfolding over_line
 same_line_over front rest long =
     ap (λ bytes. earlier_line (count_by (λ byte. byte == 10) bytes + 1) (form_of (lines_of bytes))) (take-append-le MOST_INPUT_BYTES front rest long)
 
--- an input over the limit is answered as its front is
+-- an input over the limit is answered as its prefix over the limit is
 pub front_decides : FrontDecides
 front_decides front rest over =
     let whole : MOST_INPUT_BYTES < length (front ++ rest) = omega (arith, over, length-append front rest) in

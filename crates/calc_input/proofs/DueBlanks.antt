@@ -33,7 +33,7 @@ found_used (line ∷ lines) number found is = by (is_blank_line line) refl is (f
         let same : number ≡ found = cc in
         (zero, omega arith, record { before = λ earlier within. absurd (omega arith); here = used })
 
--- where it finds none, each line is blank
+-- if it finds none, each line is blank
 pub all_blank : (lines : List (List ℕ)) (number : ℕ) → first_used number lines ≡ None → (index : ℕ) → is_blank_line (line_at lines index) ≡ true
 all_blank [] number none index = refl
 all_blank (line ∷ lines) number none index = by (is_blank_line line) refl none (all_blank lines (number + 1)) index
@@ -71,7 +71,7 @@ used_after_form lines last number is =
       here = sym (ap is_blank_line (line_after lines last number late)) ∙ used.here;
     }
 
--- where there isn't one, each line after them is blank
+-- if none exists, each line after them is blank
 pub blank_after_form : (lines : List (List ℕ)) (last : ℕ) → first_used (last + 1) (drop last lines) ≡ None →
     (number : ℕ) → last < number → is_blank_line (line_numbered lines number) ≡ true
 blank_after_form lines last none number late =

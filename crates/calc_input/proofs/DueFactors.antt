@@ -107,7 +107,7 @@ any_line lines first many width index within block on whole =
       whole = λ other last its_block. subst Q (one_first_block width other (listed_front many first lines) block its_block) whole;
     }
 
--- a line that isn't a row isn't due
+-- a line that isn't a row isn't an expected one
 not_a_row : (lines : List (List ℕ)) (first many : ℕ) → length (listed_front many first lines) < many → ¬ (IsFactorLine lines first many (length (listed_front many first lines)))
 not_a_row lines first many short = λ line.
     let none = no_row_after many first lines short in
@@ -177,7 +177,7 @@ found_short_block lines first many width number some counted block before short 
           λ line. short (line.whole width (omega arith) block),
         )
 
--- where rows break off, the fault of the factors is reported at the line of the break
+-- if rows break off, the fault of the factors is reported at the line of the break
 found_break : (lines : List (List ℕ)) (first many number : ℕ) → 1 ≤ many → IsFirstBreak (listed_front many first lines) number → FindsFactors lines first many (Err (first + min number many))
 found_break lines first many number some break = by break.breaks
   where

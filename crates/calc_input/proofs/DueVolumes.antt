@@ -116,7 +116,7 @@ FindsVolumes lines n least count (Ok rows) = (index : ℕ) → index < count →
 FindsVolumes lines n least count (Err number) =
     (index : ℕ) × (index < count) × (number ≡ n + index + 1) × ((earlier : ℕ) → earlier < index → IsVolumeAt lines n least earlier) × ¬ (IsVolumeAt lines n least index)
 
--- one line more at the front
+-- one more line before them
 volumes_more : (lines : List (List ℕ)) (n : ℕ) (least row : ℤ) (count : ℕ) → row_of least (line_at lines n) ≡ Some row → (answer : Result (List ℤ) ℕ) →
     FindsVolumes lines (n + 1) row count answer → FindsVolumes lines n least (suc count) (with_row row answer)
 volumes_more lines n least row count is (Ok rows) found = λ index within. by index within

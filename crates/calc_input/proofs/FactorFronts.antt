@@ -16,7 +16,7 @@ more_by : (count n : ℕ) (row : Listed) (lines : List (List ℕ)) → listed_of
 unfolding listed_front
 more_by count n row lines is_row = ap (λ r. listed_then r (listed_front count (n + 1) lines)) is_row
 
--- where line `i` of the factors is a row, the rows from there on are this one and those after it
+-- if line `i` of the factors is a row, the rows from there on are this one and those after it
 one_row_more : (count first i : ℕ) (row : Listed) (lines : List (List ℕ)) → i < count → listed_of (line_at lines (first + i)) ≡ Some row →
     listed_front (count - i) (first + i) lines ≡ row ∷ listed_front (count - (i + 1)) (first + (i + 1)) lines
 one_row_more count first i row lines within is_row =
@@ -31,7 +31,7 @@ stop_by : (count n : ℕ) (lines : List (List ℕ)) → listed_of (line_at lines
 unfolding listed_front
 stop_by count n lines no_row = ap (λ r. listed_then r (listed_front count (n + 1) lines)) no_row
 
--- where it is no row, there are no rows from there on
+-- if it is no row, there are no rows from there on
 no_row_here : (count first i : ℕ) (lines : List (List ℕ)) → i < count → listed_of (line_at lines (first + i)) ≡ None → listed_front (count - i) (first + i) lines ≡ []
 no_row_here count first i lines within no_row =
     let P : ℕ → Type 0 = λ left. listed_front left (first + i) lines ≡ [] in
@@ -70,7 +70,7 @@ begins count first row lines grown some is_row grows one =
       factors = one;
     }
 
--- a line more is a row that goes on
+-- a further line is a row that continues the grid
 pub grows_on : (count first i : ℕ) (row : Listed) (lines : List (List ℕ)) (grown next : Grown) → IsGrowing count first i lines grown → i < count →
     listed_of (line_at lines (first + i)) ≡ Some row → grown_by grown row ≡ Some next → length next.factors ≡ length grown.factors + 1 → IsGrowing count first (i + 1) lines next
 grows_on count first i row lines grown next so_far within is_row on more =
@@ -104,7 +104,7 @@ refused_end count first i rows number grid true within read is =
     rw test (ap Err same)
 refused_end count first i rows number grid false within read is = refused_row count first i number rows within is
 
--- a line that is no row that goes on is the refused one, where it is no row
+-- a line that doesn't continue the grid is the refused one: if it is no row
 pub stops_without : (count first i : ℕ) (lines : List (List ℕ)) (grown : Grown) → IsGrowing count first i lines grown → i < count → listed_of (line_at lines (first + i)) ≡ None →
     grid_from count first lines ≡ Err (first + i + 1)
 stops_without count first i lines grown so_far within no_row =
@@ -112,7 +112,7 @@ stops_without count first i lines grown so_far within no_row =
     grid_is_at count first lines (so_far.row ∷ so_far.rest) _ so_far.front (so_far.grows ∙ ap (grown_on grown) left)
     ∙ refused_end count first i (length (so_far.row ∷ so_far.rest)) (length grown.factors + 1) (grid_of grown) (grown.column == 0) within (omega (arith, so_far.counted, ap length left)) (omega (arith, so_far.factors))
 
--- and where it breaks the grid
+-- and if it breaks the grid
 pub stops_at : (count first i : ℕ) (row : Listed) (lines : List (List ℕ)) (grown : Grown) → IsGrowing count first i lines grown → i < count → listed_of (line_at lines (first + i)) ≡ Some row →
     grown_by grown row ≡ None → grid_from count first lines ≡ Err (first + i + 1)
 stops_at count first i row lines grown so_far within is_row off =
@@ -122,13 +122,13 @@ stops_at count first i row lines grown so_far within is_row off =
     (so_far.grows ∙ ap (grown_on grown) left ∙ ap (λ g. grown_then g (length grown.factors + 1) (λ g. grown_on g more)) off)
     ∙ refused_row count first i (length grown.factors + 1) (length (so_far.row ∷ so_far.rest)) within (omega (arith, so_far.factors))
 
--- a line that isn't a row that goes on, by what it is
+-- a line that doesn't continue the grid, by what it is
 pub stops_by : (count first i : ℕ) (lines : List (List ℕ)) (grown : Grown) (row : Option Listed) → IsGrowing count first i lines grown → i < count → listed_of (line_at lines (first + i)) ≡ row →
     grown_line grown row ≡ None → grid_from count first lines ≡ Err (first + i + 1)
 stops_by count first i lines grown None so_far within is off = stops_without count first i lines grown so_far within is
 stops_by count first i lines grown (Some row) so_far within is off = stops_at count first i row lines grown so_far within is off
 
--- a line that goes on, by what it is
+-- a line that continues the grid, by what it is
 pub goes_by : (count first i : ℕ) (lines : List (List ℕ)) (grown next : Grown) (row : Option Listed) → IsGrowing count first i lines grown → i < count → listed_of (line_at lines (first + i)) ≡ row →
     grown_line grown row ≡ Some next → length next.factors ≡ length grown.factors + 1 → IsGrowing count first (i + 1) lines next
 goes_by count first i lines grown next None so_far within is on more = cc on

@@ -1,4 +1,4 @@
--- First blocks: rows have one, that of the first rows is cut off where they end, and a row goes on in all rows as in those up to it.
+-- First blocks: rows have one; that of the first rows is cut off at their end; a row continues the blocks of all rows as those up to it.
 use Rattle.std.proofs.Common.{◌≡◌, ◌⊎◌, inl, inr, ℕ, zero, suc, ◌+◌, ◌-◌, ◌%◌, ◌<◌, ◌≤◌, Bool, true, false, nat_lt, min, List, [], ◌∷◌, length, take, refl, sym, subst, ◌∙◌, arith}
 use Rattle.std.proofs.lemmas.Bool.Decides.{nat_tests}
 use Rattle.std.proofs.lemmas.List.{length-take}

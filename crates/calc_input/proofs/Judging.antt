@@ -4,11 +4,11 @@ use Rattle.std.specs.Option.{IsSome}
 use Rattle.farm_base.specs.Steps.{or_fault}
 use Rattle.calc_input.specs.Lines.{is_blank_line}
 
--- nothing is there
+-- None is no value
 pub none_there : (A : Type 0) → IsSome {T = A} None → ⊥
 none_there A is = cc
 
--- what is there
+-- Some is a value
 pub some_there : {A : Type 0} (o : Option A) (x : A) → o ≡ Some x → IsSome o
 some_there o x is = rw is refl
 
@@ -25,7 +25,7 @@ step_taken number (Some y) x is = cc
 pub same_count : (o : Option ℕ) (known other : ℕ) → o ≡ Some known → o ≡ Some other → known ≡ other
 same_count o known other first second = cc
 
--- The first number at which something doesn't hold, where each before it has it.
+-- The first number at which something doesn't hold: it holds at each before it.
 pub record IsFirstFailing (P : ℕ → Type 0) (number : ℕ) : Type 0 where
   pub from_one : 1 ≤ number
   pub before : (earlier : ℕ) → 1 ≤ earlier → earlier < number → P earlier

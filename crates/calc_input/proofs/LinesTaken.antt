@@ -3,13 +3,13 @@ use Rattle.std.proofs.Common.{◌≡◌, ℕ, ◌+◌, List, [], drop, ap, ◌�
 use Rattle.std.proofs.lemmas.List.{drop-drop, get_or-drop}
 use Rattle.calc_input.specs.Lines.{line_at}
 
--- where the first n lines were taken, the next one is line n
+-- if the first n lines were taken, the next one is line n
 pub line_due : (all lines : List (List ℕ)) (n : ℕ) → lines ≡ drop n all → line_at lines 0 ≡ line_at all n
 line_due all lines n left =
     let same : n + 0 ≡ n = omega arith in
     ap (λ ls. line_at ls 0) left ∙ get_or-drop n all 0 [] ∙ ap (line_at all) same
 
--- and where m lines more are taken, n + m were
+-- and if m further lines are taken, n + m were
 pub taken_more : (all lines : List (List ℕ)) (n m taken : ℕ) → lines ≡ drop n all → taken ≡ n + m → drop m lines ≡ drop taken all
 taken_more all lines n m taken left sum = ap (drop m) left ∙ drop-drop m n all ∙ ap (λ k. drop k all) (let back : n + m ≡ taken = omega (arith, sum) in back)
 
@@ -20,7 +20,7 @@ pub record AreTaken (all volumes counted factors : List (List ℕ)) (count many 
   pub after_factors : line_at factors 0 ≡ line_at all (count + many + 2)
   pub after_levels : drop 1 factors ≡ drop (count + many + 3) all
 
--- so they are where `count` volumes, a line, and `many` factors are taken after the first line
+-- so they are if `count` volumes, a line, and `many` factors are taken after the first line
 pub taken_in_order : (all first volumes counted factors : List (List ℕ)) (count many : ℕ) → first ≡ drop 1 all → volumes ≡ drop count first → counted ≡ drop 1 volumes → factors ≡ drop many counted →
     AreTaken all volumes counted factors count many
 taken_in_order all first volumes counted factors count many one more then last =

@@ -9,7 +9,7 @@ use Rattle.farm_base.proofs.BoolTests.{ltb-false, ltb-true}
 use Rattle.farm_base.specs.Bytes.{parts_at}
 use Rattle.calc_input.specs.Lines.{ended_lines, lines_of}
 
--- the first line feed is within, where there is one
+-- the first line feed is within, if one exists
 found_within : (n m : ℕ) (b : Bool) (end : ℕ) → nat_lt n m ≡ b → cond b (Some n) None ≡ Some end → (n ≡ end) × (n < m)
 found_within n m true end test found = let same : n ≡ end = cc in (same, ltb-true n m test)
 found_within n m false end test found = cc
@@ -44,7 +44,7 @@ parts_after line (part ∷ parts) some = refl
 pub ended_line_first : (line after : List ℕ) → ended_lines (line ∷ parts_at 10 after) ≡ strip_carriage_return line ∷ ended_lines (parts_at 10 after)
 ended_line_first line after = parts_after line (parts_at 10 after) (omega (arith, length-slice_split (λ byte. byte == 10) after))
 
--- what stands after n bytes, as a range gives it
+-- what follows n bytes, as a range gives it
 pub whole_rest : (n : ℕ) (bytes : List ℕ) → take (length bytes - n) (drop n bytes) ≡ drop n bytes
 whole_rest n bytes = take_all (length bytes - n) (drop n bytes) (omega (arith, length-drop n bytes))
 
@@ -53,7 +53,7 @@ length-ended_lines : (parts : List (List ℕ)) → length (ended_lines parts) �
 length-ended_lines [] = refl
 length-ended_lines (part ∷ parts) = omega (arith, length-ended_lines parts)
 
--- an input has at most one line more than bytes
+-- an input has at most one more line than bytes
 pub few_lines : (bytes : List ℕ) → length (lines_of bytes) ≤ length bytes + 1
 unfolding lines_of
 few_lines bytes =

@@ -1,4 +1,4 @@
--- An input that is answered has each line in form, and one that is refused for its form has one refused line, which is named.
+-- Each line of an answered input is well formed. An input that is refused for its form has one refused line, which is named.
 use Rattle.std.proofs.Common.{◌≡◌, ℕ, ◌<◌, ◌≤◌, Bool, true, false, cond, nat_lt, min, List, length, take, Result, Ok, Err, refl, sym, subst, arith}
 use Rattle.std.proofs.lemmas.Bool.Decides.{nat_tests}
 use Rattle.std.proofs.lemmas.List.{take_all}
@@ -71,7 +71,7 @@ of_form bytes short (Err number) judged = record {
   here = λ line. judged.here (due_within bytes number short line);
 }
 
--- An input over the limit: the line of the first byte over it, or an earlier one that isn't due.
+-- An input over the limit: the line of the first byte over it, or an earlier one that isn't as expected.
 of_over : (bytes : List ℕ) → MOST_INPUT_BYTES < length bytes → (answer : Result Input ℕ) → Judges (IsDueIn (begins_table (lines_of (take MOST_INPUT_BYTES bytes))) (lines_of (take MOST_INPUT_BYTES bytes))) answer →
     IsRefusedLine bytes (earlier_line (line_of_offset MOST_INPUT_BYTES bytes) answer)
 of_over bytes over (Ok form) judged = record {

@@ -30,7 +30,7 @@ unfolding rows_from
 more_by count n before row rows lines is_row =
     ap (λ r. onto rows (rows_then r n (λ next. rows_from count (n + 1) next lines))) is_row ∙ onto_more rows row (rows_from count (n + 1) row lines)
 
--- where line `i` of the table is a row, the rows from there on are this one and those after it
+-- if line `i` of the table is a row, the rows from there on are this one and those after it
 pub one_row_more : (count i : ℕ) (before row : ℤ) (rows : List ℤ) (lines : List (List ℕ)) → i < count → row_of before (line_at lines (i + 1)) ≡ Some row →
     onto rows (rows_from (count - i) (i + 1) before lines) ≡ onto (rows ++ row ∷ []) (rows_from (count - (i + 1)) (i + 1 + 1) row lines)
 one_row_more count i before row rows lines within is_row =
@@ -44,7 +44,7 @@ refused_by : (count n : ℕ) (before : ℤ) (rows : List ℤ) (lines : List (Lis
 unfolding rows_from
 refused_by count n before rows lines no_row = ap (λ r. onto rows (rows_then r n (λ next. rows_from count (n + 1) next lines))) no_row
 
--- where it is no row, the fault is at this line
+-- if it is no row, the fault is at this line
 pub no_row_here : (count i : ℕ) (before : ℤ) (rows : List ℤ) (lines : List (List ℕ)) → i < count → row_of before (line_at lines (i + 1)) ≡ None →
     onto rows (rows_from (count - i) (i + 1) before lines) ≡ Err (i + 1 + 1)
 no_row_here count i before rows lines within no_row =
@@ -128,7 +128,7 @@ rest_good count n before (first ∷ rest) row good (Ok more) known is =
     } in
     subst (λ (r : ℤ). P r rest) head (subst (λ (rs : List ℤ). P row rs) tail whole)
 
--- rows that are read are such rows, where those after the first are
+-- rows that are read are such rows, if those after the first are
 first_good : (count n : ℕ) (before : ℤ) (lines : List (List ℕ)) (rows : List ℤ) (read : Option ℤ) → row_of before (line_at lines n) ≡ read →
     ((row : ℤ) (more : List ℤ) → rows_from count (n + 1) row lines ≡ Ok more → AreRows count row more) →
     rows_then read n (λ row. rows_from count (n + 1) row lines) ≡ Ok rows → AreRows (suc count) before rows
@@ -149,7 +149,7 @@ falling_behind : (before row : ℤ) (rows : List ℤ) (b : Bool) → int_lt row 
 falling_behind before row rows true test none = cc
 falling_behind before row rows false test none = none
 
--- rows of which none is below the one before it have no falling row
+-- rows none of which is below the one before it have no falling row
 falling_none : (before : ℤ) (rows : List ℤ) → ((n : ℕ) → first_falling n before rows ≡ None) → falling_row rows ≡ None
 falling_none before [] rising = refl
 falling_none before (row ∷ rows) rising = falling_behind before row rows (int_lt row before) refl (rising 0)

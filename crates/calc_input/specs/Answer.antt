@@ -27,7 +27,7 @@ refused_at line cause = record { line = line; cause = cause }
 unfoldable pub figures_of_volumes : Volumes → Result Quantities ChainRule
 figures_of_volumes v = calculated_figures usual_rows v.tov v.fw v.shell v.liquid v.ambient v.floating v.sample v.vcf
 
--- a roof of no mass is no roof
+-- a roof without mass is no roof
 abbrev pub roof_on : Roof → Option Roof
 roof_on roof = if int_eq roof.mass (pos 0) then None else Some roof
 
@@ -60,12 +60,12 @@ answer_of_form (Err line) = Err (refused_at line Form)
 abbrev pub line_of_offset : ℕ → List ℕ → ℕ
 line_of_offset offset bytes = count_by (λ byte. byte == 10) (take offset bytes) + 1
 
--- the number of a line that is out of form, where line `over` is at the latest
+-- the line that is refused: the malformed one, if any, but line `over` at the latest
 abbrev pub earlier_line : ℕ → Result Input ℕ → ℕ
 earlier_line over (Ok form) = over
 earlier_line over (Err line) = min line over
 
--- where an input over the limit is refused: at the line of the first byte over it, or at a line before that is out of form
+-- the line at which an input over the limit is refused: that of the first byte over it, or a malformed one before
 unfoldable pub over_line : List ℕ → ℕ
 over_line bytes = earlier_line (line_of_offset most_input_bytes bytes) (form_of (lines_of (take most_input_bytes bytes)))
 
@@ -75,6 +75,6 @@ answer_of bytes =
     if nat_lt most_input_bytes (length bytes) then Err (refused_at (over_line bytes) Form)
     else answer_of_form (form_of (lines_of bytes))
 
--- an input over the limit is answered as its front is, if that is over the limit too
+-- an input over the limit is answered as each of its prefixes over the limit is
 abbrev pub FrontDecides : Type 0
 FrontDecides = (front rest : List ℕ) → most_input_bytes < length front → answer_of (front ++ rest) ≡ answer_of front

@@ -18,7 +18,7 @@ listed_in fields = None
 unfoldable pub listed_of : List ℕ → Option Listed
 listed_of line = listed_in (parts_at 44 line)
 
--- a row, where the line is one, before the rows after it
+-- a row, if the line is one, before the rows after it
 abbrev pub listed_then : Option Listed → List Listed → List Listed
 listed_then None rows = []
 listed_then (Some row) rows = row ∷ rows
@@ -41,7 +41,7 @@ grid_from count n lines =
     let front = listed_front count n lines in
     grid_at count n (length front) (grid_of_rows front)
 
--- the rows so far with the row that a line is, None where it is no row that goes on
+-- the rows so far with the row that a line is; None if it is no row that continues them
 abbrev pub grown_line : Grown → Option Listed → Option Grown
 grown_line grown None = None
 grown_line grown (Some row) = grown_by grown row

@@ -1,4 +1,4 @@
--- The words of an input line as what they stand for.
+-- The words of an input line as the values that they spell.
 use Rattle.std.specs.Prelude.{ℕ, ◌&&◌, if◌then◌else◌, List, [], length, Option, Some, None, nat_le, nat_lt, slice_index_or, ℤ, pos}
 use Rattle.std.specs.Int.RustNames.{unsigned_abs}
 use Rattle.std.specs.Result.{result_ok}
@@ -10,7 +10,7 @@ use Rattle.farm_fixed.specs.Parsing.{quantity_of}
 use Rattle.farm_fixed.specs.Limits.{least_density, least_factor, least_temperature, least_units, most_coefficient, most_density, most_factor, most_height, most_litres, most_roof_mass, most_share, most_temperature, most_units}
 use Rattle.calc_input.specs.Limits.{most_digits}
 
--- a value that is there and in the range
+-- a value, if it is given and in the range
 abbrev pub within : ℤ → ℤ → Option ℤ → Option ℤ
 within least most None = None
 within least most (Some value) = if is_within least most value then Some value else None

@@ -3,7 +3,7 @@ use Rattle.std.specs.Prelude.{ℕ, ◌+◌, Bool, if◌then◌else◌, List, [],
 use Rattle.std.specs.Str.{bytes_eq}
 use Rattle.farm_base.specs.Steps.{◌>>=◌, or_fault}
 use Rattle.farm_vcf.specs.Limits.{most_factors}
-use Rattle.strap_table.specs.Limits.{fewest_rows, most_rows}
+use Rattle.strap_table.specs.Limits.{least_rows, most_rows}
 use Rattle.calc_input.specs.declared.volumes_line.Volumes.{Volumes}
 use Rattle.calc_input.specs.declared.forms.TableInput.{TableInput}
 use Rattle.calc_input.specs.declared.forms.Input.{Input}
@@ -17,20 +17,20 @@ use Rattle.calc_input.specs.TableRows.{counted, rows_from}
 use Rattle.calc_input.specs.FactorRows.{grid_from}
 use Rattle.calc_input.specs.LevelsLine.{IsGauged, levels_of}
 
--- what a fault of the code says: the number of the refused line, and nothing where there was no memory
+-- what a fault of the code says: the number of the refused line, and nothing if there was no memory
 abbrev pub refused_line : FormFault → Option ℕ
 refused_line NoMemory = None
 refused_line (Line number) = Some number
 
 -- the number of volumes that the first line gives
 abbrev pub volume_count : List (List ℕ) → Option ℕ
-volume_count lines = counted (codes "table") fewest_rows most_rows (words_of (line_at lines 0))
+volume_count lines = counted (codes "table") least_rows most_rows (words_of (line_at lines 0))
 
 -- the number of factors that the line after the volumes gives
 abbrev pub factor_count : ℕ → List (List ℕ) → Option ℕ
 factor_count count lines = counted (codes "factors") 1 most_factors (words_of (line_at lines (count + 1)))
 
--- the number of the first line that isn't blank, where the first of these lines has a number
+-- the number of the first line that isn't blank; the first of these lines has the given number
 abbrev pub first_used : ℕ → List (List ℕ) → Option ℕ
 first_used number [] = None
 first_used number (line ∷ lines) = if is_blank_line line then first_used (number + 1) lines else Some number
@@ -40,7 +40,7 @@ abbrev pub unless_used : {A : Type 0} → Option ℕ → A → Result A ℕ
 unless_used None form = Ok form
 unless_used (Some number) form = Err number
 
--- a form whose last line has this number: the first line after it that isn't blank is out of form
+-- a form whose last line has this number: the first line after it that isn't blank is malformed
 abbrev pub ended : {A : Type 0} → ℕ → List (List ℕ) → A → Result A ℕ
 ended last lines form = unless_used (first_used (last + 1) (drop last lines)) form
 

@@ -7,7 +7,7 @@ use Rattle.farm_fixed.specs.Range.{IsWithin}
 use Rattle.farm_fixed.specs.Limits.{most_coefficient, most_roof_mass}
 use Rattle.strap_table.specs.declared.tank.Roof.{Roof}
 use Rattle.calc_input.specs.declared.levels_line.Levels.{Levels}
-use Rattle.farm_fixed.specs.Shells.{insulated_of}
+use Rattle.farm_fixed.specs.Shells.{is_insulated}
 use Rattle.calc_input.specs.Fields.{word_at, height_of, roof_of, temperature_of, density_of, share_of, coefficient_of}
 
 -- a roof whose critical zone isn't upside down
@@ -19,7 +19,7 @@ unfoldable pub level_fields : List (List ℕ) → Option Levels
 level_fields words = do
   level ← height_of (word_at words 1)
   water ← height_of (word_at words 2)
-  insulated ← insulated_of (word_at words 3)
+  insulated ← is_insulated (word_at words 3)
   liquid ← temperature_of (word_at words 4)
   ambient ← temperature_of (word_at words 5)
   reference ← temperature_of (word_at words 6)

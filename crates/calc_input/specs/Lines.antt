@@ -14,7 +14,7 @@ abbrev pub is_blank_line : List ℕ → Bool
 is_blank_line [] = true
 is_blank_line (byte ∷ bytes) = is_blank byte && is_blank_line bytes
 
--- a part of an input as a line, where these parts follow it
+-- a part of an input as a line, with these parts after it
 abbrev pub ended_line : List ℕ → List (List ℕ) → List ℕ
 ended_line part [] = part
 ended_line part (next ∷ parts) = strip_carriage_return part
@@ -28,11 +28,11 @@ ended_lines (part ∷ parts) = ended_line part parts ∷ ended_lines parts
 unfoldable pub lines_of : List ℕ → List (List ℕ)
 lines_of bytes = ended_lines (parts_at 10 bytes)
 
--- the lines that are left, where these bytes are left, and none after the last line
+-- the lines that are left if these bytes are left; none after the last line
 abbrev pub lines_left : Option (Bor (List ℕ)) → List (List ℕ)
 lines_left None = []
 lines_left (Some bytes) = lines_of bytes.now
 
--- line n of an input, an empty one where there is no such line
+-- line n of an input; an empty one if there is no such line
 abbrev pub line_at : List (List ℕ) → ℕ → List ℕ
 line_at lines n = slice_index_or lines n []

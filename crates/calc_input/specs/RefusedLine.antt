@@ -13,7 +13,7 @@ use Rattle.calc_input.specs.Forms.{begins_table, factor_count, volume_count}
 use Rattle.calc_input.specs.Limits.{most_input_bytes}
 use Rattle.calc_input.specs.Answer.{line_of_offset}
 
--- the line with a number, an empty one where there is no such line
+-- the line with a number; an empty one if there is no such line
 abbrev pub line_numbered : List (List ℕ) → ℕ → List ℕ
 line_numbered lines number = line_at lines (number - 1)
 

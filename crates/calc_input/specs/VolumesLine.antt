@@ -5,7 +5,7 @@ use Rattle.farm_base.specs.Options.{◌>>=◌}
 use Rattle.farm_fixed.specs.Range.{IsWithin}
 use Rattle.farm_fixed.specs.Limits.{most_coefficient, most_litres, most_roof_mass}
 use Rattle.calc_input.specs.declared.volumes_line.Volumes.{Volumes}
-use Rattle.farm_fixed.specs.Shells.{insulated_of}
+use Rattle.farm_fixed.specs.Shells.{is_insulated}
 use Rattle.calc_input.specs.Fields.{word_at, volume_of, roof_of, temperature_of, density_of, factor_of, share_of, coefficient_of}
 
 -- the eleven fields after the name of the form
@@ -13,7 +13,7 @@ unfoldable pub fields_of : List (List ℕ) → Option Volumes
 fields_of words = do
   tov ← volume_of (word_at words 1)
   fw ← volume_of (word_at words 2)
-  insulated ← insulated_of (word_at words 3)
+  insulated ← is_insulated (word_at words 3)
   liquid ← temperature_of (word_at words 4)
   ambient ← temperature_of (word_at words 5)
   reference ← temperature_of (word_at words 6)

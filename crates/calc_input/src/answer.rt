@@ -56,7 +56,7 @@ impl From<NoMemory> for NoFigures {
 
 /// The figures of an input, or its refusal.
 ///
-/// An input over the limit is refused at the line of the first byte over it, or at an earlier line that is out of form. A prefix of
+/// An input over the limit is refused at the line of the first byte over it, or at an earlier malformed line. A prefix of
 /// an input that holds one byte more than the limit has the refusal of the whole input.
 pub fn figures_of_input(alloc: Global, bytes: &[u8]) -> Result<Quantities, NoFigures>
     ensures figures { IfOk result (λ figures. answer_of bytes.now ≡ Ok figures) }
@@ -67,7 +67,7 @@ pub fn figures_of_input(alloc: Global, bytes: &[u8]) -> Result<Quantities, NoFig
     answer_of(alloc, bytes)
 }
 
-/// Does nothing: its contract is the laws that an input has one refused line at most, and that a front over the limit decides.
+/// Does nothing: its contract is the laws that an input has one refused line at most, and that a prefix over the limit decides.
 pub fn laws()
     ensures one_refused_line { OneRefusedLine }
     ensures front_decides { FrontDecides }
@@ -112,7 +112,7 @@ fn last_line(input: &Input) -> usize
     }
 }
 
-// Where an input over the limit is refused: at the line of the first byte over it, or at one before that is out of form.
+// The line at which an input over the limit is refused: that of the first byte over it, or a malformed one before.
 #[tactic(auto, unfolding(crate::specs::Answer::over_line))]
 fn over_line(alloc: Global, bytes: &[u8]) -> Result<usize, NoFigures>
     requires { MOST_INPUT_BYTES ≤ length bytes.now }
@@ -170,7 +170,7 @@ fn tank_of(levels: &Levels) -> TankSpec
     }
 }
 
-// A roof of no mass is no roof.
+// A roof without mass is no roof.
 fn roof_on(roof: Roof) -> Option<Roof>
     requires { IsFloatingRoof roof }
     ensures value { result ≡ roof_on roof }

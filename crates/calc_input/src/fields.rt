@@ -1,4 +1,4 @@
-//! The words of an input line as what they stand for.
+//! The words of an input line as the values that they spell.
 
 ghost use Rattle.std.specs.Prelude.{◌≡◌, ◌<◌, ◌≤◌, IfSome, IsTrue, length, map, pos};
 ghost use Rattle.std.specs.Result.{result_ok};

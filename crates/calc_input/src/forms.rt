@@ -1,12 +1,14 @@
 //! The two forms of an input: observed volumes, and levels with a capacity table and a factor grid.
 
-ghost use Rattle.std.specs.Prelude.{◌≡◌, ℕ, ◌≤◌, ◌+◌, ◌^◌, List, drop, length, pos, IfOk, MatchResult, Ok};
+ghost use Rattle.std.specs.Prelude.{◌≡◌, ℕ, ◌≤◌, ◌+◌, ◌^◌, List, codes, drop, length, map, pos, IfOk, MatchResult, Ok};
+ghost use Rattle.std.specs.Str.{bytes_eq};
 ghost use Rattle.farm_base.specs.Steps.{IsRefusedAs, or_fault};
-ghost use Rattle.calc_input.specs.Lines.{lines_of, words_of};
+ghost use Rattle.calc_input.specs.Lines.{line_at, lines_of, words_of};
+ghost use Rattle.calc_input.specs.Fields.{word_at};
 ghost use Rattle.calc_input.specs.VolumesLine.{IsCalculable};
 ghost use Rattle.calc_input.specs.TableRows.{counted, rows_from};
 ghost use Rattle.calc_input.specs.LevelsLine.{IsGauged, levels_of};
-ghost use Rattle.calc_input.specs.Forms.{CanBeCalculated, begins_table, first_used, form_of, refused_line, table_input_of, volumes_input_of};
+ghost use Rattle.calc_input.specs.Forms.{CanBeCalculated, first_used, form_of, refused_line, table_input_of, volumes_input_of};
 
 use crate::factor_rows::grid_from;
 use crate::fault::FormFault;
@@ -15,8 +17,8 @@ use crate::lines::{Lines, is_blank_line, words_of};
 use crate::table_rows::{counted, rows_of};
 use crate::volumes_line::Volumes;
 use farm_vcf::{MOST_FACTORS, Vcf};
-use std::alloc::{AllocError, Global};
-use strap_table::{CapTable, FEWEST_ROWS, MOST_ROWS};
+use std::alloc::Global;
+use strap_table::{CapTable, LEAST_ROWS, MOST_ROWS};
 
 /// The form `table`: levels of a tank, with its capacity table and its factors.
 #[derive(Debug, Drop)]
@@ -49,39 +51,31 @@ impl Input {
         ensures ranges { IfOk result CanBeCalculated }
     {
         let mut lines = Lines::new(bytes);
-        if begins_table(alloc, bytes)? {
-            Ok(Input::Table(TableInput::of_lines(alloc, &mut lines)?))
+        let words = words_of(alloc, lines.due())?;
+        if begins_table(&words) {
+            Ok(Input::Table(TableInput::of_lines(alloc, &words, &mut lines)?))
         } else {
-            Ok(Input::Observed(volumes_input_of(alloc, &mut lines)?))
+            Ok(Input::Observed(volumes_input_of(&words, &mut lines)?))
         }
     }
 }
 
 impl TableInput {
-    // What the lines of the form `table` say, from the first one on, or the first line that isn't in form.
+    // What the lines of the form `table` say, by the words of the first one and the lines after it, or the first line that
+    // isn't in form.
     #[tactic(auto, unfolding(crate::specs::Forms::table_input_of))]
-    fn of_lines(alloc: Global, lines: &mut Lines<'_>) -> Result<TableInput, FormFault>
-        ensures form { MatchResult result (λ input. table_input_of lines.old ≡ Ok input)
-            (λ fault. IsRefusedAs (refused_line fault) (table_input_of lines.old)) }
+    fn of_lines(
+        alloc: Global,
+        words: &[&[u8]],
+        lines: &mut Lines<'_>,
+    ) -> Result<TableInput, FormFault>
+        ensures form { (all : List (List ℕ)) → map (λ word. word.now) words.now ≡ words_of (line_at all 0) → lines.old ≡ drop 1 all →
+            MatchResult result (λ input. table_input_of all ≡ Ok input) (λ fault. IsRefusedAs (refused_line fault) (table_input_of all)) }
         ensures ranges { IfOk result (λ input. IsGauged input.levels) }
     {
-        let count = count_due(
-            alloc,
-            lines.due(),
-            1,
-            b"table",
-            FEWEST_ROWS as u128,
-            MOST_ROWS as u128,
-        )?;
+        let count = count_of(words, 1, b"table", LEAST_ROWS as u128, MOST_ROWS as u128)?;
         let table = table_of(alloc, count, lines)?;
-        let many = count_due(
-            alloc,
-            lines.due(),
-            count + 2,
-            b"factors",
-            1,
-            MOST_FACTORS as u128,
-        )?;
+        let many = factors_due(alloc, lines.due(), count + 2)?;
         let vcf = grid_from(alloc, many, count + 2, lines)?;
         let line = count + many + 3;
         let levels = levels_due(alloc, lines.due(), line)?;
@@ -97,26 +91,25 @@ impl TableInput {
     }
 }
 
-// Whether the first line begins with the name of the form `table`.
-fn begins_table(alloc: Global, bytes: &[u8]) -> Result<bool, AllocError>
-    ensures { IfOk result (λ begins. begins ≡ begins_table (lines_of bytes.now)) }
+// Whether the words of a line begin with the name of the form `table`.
+fn begins_table(words: &[&[u8]]) -> bool
+    ensures { result ≡ bytes_eq (word_at (map (λ word. word.now) words.now) 0) (codes "table") }
 {
-    let words = words_of(alloc, Lines::new(bytes).due())?;
     match words.first() {
-        Some(word) => Ok(*word == b"table".as_slice()),
-        None => Ok(false),
+        Some(word) => *word == b"table".as_slice(),
+        None => false,
     }
 }
 
-// What the one line of observed volumes says, or the first line that isn't in form.
+// What the one line of observed volumes says, by its words and the lines after it, or the first line that isn't in form.
 #[tactic(auto, unfolding(crate::specs::Forms::volumes_input_of))]
-fn volumes_input_of(alloc: Global, lines: &mut Lines<'_>) -> Result<Volumes, FormFault>
-    ensures form { MatchResult result (λ volumes. volumes_input_of lines.old ≡ Ok volumes)
-        (λ fault. IsRefusedAs (refused_line fault) (volumes_input_of lines.old)) }
+fn volumes_input_of(words: &[&[u8]], lines: &mut Lines<'_>) -> Result<Volumes, FormFault>
+    requires few { length lines.old ≤ 2 ^ 63 }
+    ensures form { (all : List (List ℕ)) → map (λ word. word.now) words.now ≡ words_of (line_at all 0) → lines.old ≡ drop 1 all →
+        MatchResult result (λ volumes. volumes_input_of all ≡ Ok volumes) (λ fault. IsRefusedAs (refused_line fault) (volumes_input_of all)) }
     ensures ranges { IfOk result IsCalculable }
 {
-    let words = words_of(alloc, lines.due())?;
-    let Some(volumes) = Volumes::of_words(&words) else {
+    let Some(volumes) = Volumes::of_words(words) else {
         return Err(FormFault::Line(1));
     };
     match first_used(lines, 1) {
@@ -125,31 +118,40 @@ fn volumes_input_of(alloc: Global, lines: &mut Lines<'_>) -> Result<Volumes, For
     }
 }
 
-// The count that a line gives after its name.
-fn count_due(
-    alloc: Global,
-    line: &[u8],
+// The count that the words of a line give after its name.
+fn count_of(
+    words: &[&[u8]],
     number: usize,
     name: &[u8],
     least: u128,
     most: u128,
 ) -> Result<usize, FormFault>
     requires { most ≤ MOST_FACTORS }
-    ensures count { MatchResult result (λ count. or_fault number (counted name.now least most (words_of line.now)) ≡ Ok count)
-        (λ fault. IsRefusedAs (refused_line fault) (or_fault number (counted name.now least most (words_of line.now)))) }
+    ensures count { MatchResult result (λ count. or_fault number (counted name.now least most (map (λ word. word.now) words.now)) ≡ Ok count)
+        (λ fault. IsRefusedAs (refused_line fault) (or_fault number (counted name.now least most (map (λ word. word.now) words.now)))) }
     ensures least { IfOk result (λ count. least ≤ count) }
     ensures most { IfOk result (λ count. count ≤ most) }
 {
-    let words = words_of(alloc, line)?;
-    match counted(&words, name, least, most) {
+    match counted(words, name, least, most) {
         Some(count) => Ok(count as usize),
         None => Err(FormFault::Line(number)),
     }
 }
 
+// The number of factors that a line gives.
+fn factors_due(alloc: Global, line: &[u8], number: usize) -> Result<usize, FormFault>
+    ensures count { MatchResult result (λ count. or_fault number (counted (codes "factors") 1 MOST_FACTORS (words_of line.now)) ≡ Ok count)
+        (λ fault. IsRefusedAs (refused_line fault) (or_fault number (counted (codes "factors") 1 MOST_FACTORS (words_of line.now)))) }
+    ensures least { IfOk result (λ count. 1 ≤ count) }
+    ensures most { IfOk result (λ count. count ≤ MOST_FACTORS) }
+{
+    let words = words_of(alloc, line)?;
+    count_of(&words, number, b"factors", 1, MOST_FACTORS as u128)
+}
+
 // The capacity table of `count` lines after the first.
 fn table_of(alloc: Global, count: usize, lines: &mut Lines<'_>) -> Result<CapTable, FormFault>
-    requires least { FEWEST_ROWS ≤ count }
+    requires least { LEAST_ROWS ≤ count }
     requires most { count ≤ MOST_ROWS }
     ensures rows { (all : List (List ℕ)) → lines.old ≡ drop 1 all → MatchResult result (λ table. rows_from count 1 (pos 0) all ≡ Ok table)
         (λ fault. IsRefusedAs (refused_line fault) (rows_from count 1 (pos 0) all)) }

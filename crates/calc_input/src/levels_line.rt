@@ -6,7 +6,7 @@ ghost use Rattle.calc_input.specs.LevelsLine.{IsGauged, level_fields, levels_of,
 use crate::fields::{
     coefficient_of, density_of, height_of, roof_of, share_of, temperature_of, word_at,
 };
-use farm_fixed::{Kg, Mm, Reading, Sample, Shell, insulated_of};
+use farm_fixed::{Kg, Mm, Reading, Sample, Shell, is_insulated};
 use strap_table::Roof;
 
 /// What a line of levels says.
@@ -23,7 +23,7 @@ pub struct Levels {
 }
 
 impl Levels {
-    // What the words of a line say, `None` where they aren't in the form.
+    // What the words of a line say; `None` if they aren't in the form.
     #[tactic(auto, unfolding(crate::specs::LevelsLine::levels_of))]
     pub(crate) fn of_words(words: &[&[u8]]) -> Option<Levels>
         ensures value { result ≡ levels_of (map (λ word. word.now) words.now) }
@@ -44,7 +44,7 @@ impl Levels {
     {
         let level = height_of(word_at(words, 1))?;
         let water = height_of(word_at(words, 2))?;
-        let insulated = insulated_of(word_at(words, 3))?;
+        let insulated = is_insulated(word_at(words, 3))?;
         let liquid = temperature_of(word_at(words, 4))?;
         let ambient = temperature_of(word_at(words, 5))?;
         let reference = temperature_of(word_at(words, 6))?;

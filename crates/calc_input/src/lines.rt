@@ -35,7 +35,7 @@ impl<'a> Lines<'a> {
         Lines { rest: Some(bytes) }
     }
 
-    // The next line; an empty one where no line is left.
+    // The next line; an empty one if no line is left.
     pub(crate) fn due(&mut self) -> &'a [u8]
         ensures line { result.now ≡ line_at self.old 0 }
         ensures rest { self.new ≡ drop 1 self.old }
@@ -44,7 +44,7 @@ impl<'a> Lines<'a> {
         self.next().unwrap_or(&[])
     }
 
-    // The next line; `None` where no line is left.
+    // The next line; `None` if no line is left.
     pub(crate) fn next(&mut self) -> Option<&'a [u8]>
         ensures line { MatchOption result (self.old ≡ []) (λ line. self.old ≡ line.now ∷ self.new) }
         ensures rest { self.new ≡ drop 1 self.old }
@@ -66,7 +66,7 @@ pub(crate) fn words_of(alloc: Global, line: &[u8]) -> Result<Vec<&[u8]>, AllocEr
         .collect(alloc)
 }
 
-// What stands before the first comma and what stands after it; `None` where there is no comma. Fields are short, so that a
+// What precedes the first comma and what follows it; `None` if there is no comma. Fields are short, so that a
 // search byte by byte is the quicker one.
 pub(crate) fn first_field(bytes: &[u8]) -> Option<(&[u8], &[u8])>
     ensures parts { MatchOption result (parts_at 44 bytes.now ≡ bytes.now ∷ []) (λ parts. parts_at 44 bytes.now ≡ parts.0.now ∷ parts_at 44 parts.1.now) }

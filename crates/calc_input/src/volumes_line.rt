@@ -6,7 +6,7 @@ ghost use Rattle.calc_input.specs.VolumesLine.{IsCalculable, fields_of, volumes_
 use crate::fields::{
     coefficient_of, density_of, factor_of, roof_of, share_of, temperature_of, volume_of, word_at,
 };
-use farm_fixed::{Centi, Fac5, Kg, Litres, Sample, Shell, insulated_of};
+use farm_fixed::{Centi, Fac5, Kg, Litres, Sample, Shell, is_insulated};
 
 /// What a line of observed volumes says.
 #[derive(Clone, Copy, Debug, PartialEq, Eq)]
@@ -30,7 +30,7 @@ pub struct Volumes {
 }
 
 impl Volumes {
-    // What the words of a line say, `None` where they aren't in the form.
+    // What the words of a line say; `None` if they aren't in the form.
     #[tactic(auto, unfolding(crate::specs::VolumesLine::volumes_of))]
     pub(crate) fn of_words(words: &[&[u8]]) -> Option<Volumes>
         ensures value { result ≡ volumes_of (map (λ word. word.now) words.now) }
@@ -51,7 +51,7 @@ impl Volumes {
     {
         let tov = volume_of(word_at(words, 1))?;
         let fw = volume_of(word_at(words, 2))?;
-        let insulated = insulated_of(word_at(words, 3))?;
+        let insulated = is_insulated(word_at(words, 3))?;
         let liquid = temperature_of(word_at(words, 4))?;
         let ambient = temperature_of(word_at(words, 5))?;
         let reference = temperature_of(word_at(words, 6))?;

@@ -39,7 +39,7 @@ pub struct Case<'a> {
     pub name: &'a str,
     /// Its run.
     pub run: Run<'a>,
-    /// In pieces of how many bytes the input comes; in one piece where it isn't given.
+    /// The number of bytes of each piece in which the input comes; one piece if it isn't given.
     pub piece_bytes: Option<u64>,
     /// How the folder differs from the files of its site.
     pub changes: Changes<'a>,
@@ -81,26 +81,26 @@ impl<'a> Case<'a> {
     }
 }
 
-/// A run, and what is wanted of it.
+/// A run, and what is expected of it.
 #[derive(Clone, Copy)]
 pub struct Run<'a> {
     /// The words after the program's name.
     pub words: &'a [Value],
-    /// What standard input has; nothing where it isn't given.
+    /// What standard input has; nothing if it isn't given.
     pub input: Option<Text<'a>>,
     /// The site whose files the folder has.
     pub site: Option<&'a str>,
-    /// The moment that the clock gives, in seconds since 1970-01-01 00:00:00 UTC; 0 where it isn't given.
+    /// The moment that the clock gives, in seconds since 1970-01-01 00:00:00 UTC; 0 if it isn't given.
     pub clock: i64,
     /// The calls that fail in it.
     pub fails: FailingCalls<'a>,
-    /// The listeners that it is handed, with what comes to them and what is wanted of them.
+    /// The listeners that it is handed, with what comes to them and what is expected of them.
     pub listeners: &'a [Value],
-    /// The links that it is handed, with what they answer and what is wanted of them.
+    /// The links that it is handed, with what they answer and what is expected of them.
     pub links: &'a [Value],
-    /// The status that is wanted; 0 where it isn't given.
+    /// The expected status; 0 if it isn't given.
     pub status: u64,
-    /// The output that is wanted; nothing where it isn't given.
+    /// The expected output; nothing if it isn't given.
     pub output: Option<Text<'a>>,
 }
 
@@ -169,7 +169,7 @@ pub struct Changes<'a> {
     pub files: Option<&'a Table>,
     /// Files of the site that the folder doesn't have.
     pub drop: &'a [Value],
-    /// Texts in files, each standing once, and what stands in their place: file, old text, new text.
+    /// Texts in files, each occurring once, and what replaces them: file, old text, new text.
     pub replace: &'a [Value],
 }
 
@@ -194,17 +194,17 @@ impl<'a> Changes<'a> {
 /// The disk of a case, before and after the case's run.
 #[derive(Clone, Copy)]
 pub struct CaseDisk<'a> {
-    /// Its first bytes; none where they aren't given.
+    /// Its first bytes; none if they aren't given.
     pub bytes: Option<Text<'a>>,
-    /// The site of which it has the journal, made by `init` before the other runs.
+    /// The site whose journal it has, made by `init` before the other runs.
     pub journal: Option<&'a str>,
     /// The runs on it before the case's own, one after another.
     pub before: &'a [Value],
-    /// What a crash leaves of it; what reads give where it isn't given.
+    /// What a crash leaves of it; what reads give if it isn't given.
     pub image: Option<Image<'a>>,
-    /// How many bytes it keeps of that, from its front; all where it isn't given.
+    /// How many bytes it keeps of that, from its start; all if it isn't given.
     pub cut: Option<u64>,
-    /// What reads of it have to give after the case's run; it isn't looked at where this isn't given.
+    /// What reads of it have to give after the case's run; it isn't compared if this isn't given.
     pub after: Option<Text<'a>>,
 }
 

@@ -6,12 +6,12 @@ use std::alloc::Global;
 use toml::Table;
 
 // A file of the folder of the cases has at most this many bytes.
-const LONGEST_FILE: usize = 16_777_216;
+const MOST_FILE_BYTES: usize = 16_777_216;
 
 /// The bytes of a file.
 pub fn read_file<F: Folder>(alloc: Global, data: &mut F, name: &str) -> Result<Vec<u8>, CaseFault> {
-    match data.read(alloc, name, LONGEST_FILE + 1) {
-        Ok(bytes) if bytes.len() > LONGEST_FILE => {
+    match data.read(alloc, name, MOST_FILE_BYTES + 1) {
+        Ok(bytes) if bytes.len() > MOST_FILE_BYTES => {
             Err(CaseFault::TooLong(String::from_str(alloc, name)?))
         }
         Ok(bytes) => Ok(bytes),

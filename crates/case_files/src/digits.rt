@@ -9,7 +9,7 @@ use hex::FromHexError;
 use std::alloc::Global;
 
 /// The bytes that digits give, two a byte. Spaces are passed over.
-pub fn digit_bytes(alloc: Global, text: &str) -> Result<Vec<u8>, CaseFault>
+pub(crate) fn digit_bytes(alloc: Global, text: &str) -> Result<Vec<u8>, CaseFault>
     ensures bytes { IfOk result (λ bytes. decode_of (without_spaces text.now) ≡ Ok bytes.items) }
 {
     let digits: Vec<u8> = text.bytes().filter(|byte| *byte != b' ').collect(alloc)?;

@@ -31,7 +31,7 @@ pub enum CaseFault {
     /// The case drops, or replaces a text in, a file that its folder doesn't have.
     #[error("there is no file {0}")]
     NoFile(String),
-    /// A text to be replaced doesn't stand once in its file.
+    /// A text to be replaced doesn't occur exactly once in its file.
     #[error("the text to be replaced doesn't stand once in its file: {0:?}")]
     NotOnce(String),
     /// A text that has to be bytes isn't hexadecimal digits, two a byte.

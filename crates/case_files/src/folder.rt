@@ -133,7 +133,7 @@ fn replace_text(
     Err(CaseFault::NoFile(String::from_str(alloc, name)?))
 }
 
-// The bytes with a text that stands once in them replaced.
+// The bytes with a text that occurs once in them replaced.
 fn replaced(alloc: Global, bytes: &[u8], old: &str, new: &str) -> Result<Vec<u8>, CaseFault>
     ensures replaced { IfOk result (λ text. IsReplaced old.now new.now bytes.now text.items) }
 {
@@ -143,7 +143,7 @@ fn replaced(alloc: Global, bytes: &[u8], old: &str, new: &str) -> Result<Vec<u8>
     }
 }
 
-// What stands before and after a text that stands once among bytes.
+// What precedes and what follows a text that occurs once among bytes.
 fn around<'a>(bytes: &'a [u8], part: &str) -> Option<(&'a str, &'a str)>
     ensures around { IfSome result (λ parts. bytes.now ≡ parts.0.now ++ part.now ++ parts.1.now) }
 {

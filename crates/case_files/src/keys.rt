@@ -54,7 +54,7 @@ impl<'a> Keys<'a> {
         self.alloc
     }
 
-    /// The keys of the table at a key, among these; no keys where it isn't given.
+    /// The keys of the table at a key, among these; no keys if it isn't given.
     pub fn below(&self, key: &str, needed: &[&str], optional: &[&str]) -> Result<Self, CaseFault> {
         match self.table(key)? {
             Some(table) => Keys::of(self.alloc, table, needed, optional),
@@ -89,7 +89,7 @@ impl<'a> Keys<'a> {
         }
     }
 
-    /// The whole number at a key, where it isn't below 0.
+    /// The whole number at a key, if it isn't below 0.
     pub fn natural(&self, key: &str) -> Result<Option<u64>, CaseFault> {
         match self.value(key) {
             Some(value) => self.typed(key, natural_of(value)),
@@ -105,7 +105,7 @@ impl<'a> Keys<'a> {
         }
     }
 
-    /// The list at a key; an empty one where it isn't given.
+    /// The list at a key; an empty one if it isn't given.
     pub fn list(&self, key: &str) -> Result<&'a [Value], CaseFault> {
         match self.value(key) {
             Some(value) => list_of(self.alloc, key, value),
@@ -121,7 +121,7 @@ impl<'a> Keys<'a> {
         }
     }
 
-    // What a value was found to be, and a fault where it has another type.
+    // What a value was found to be, and a fault if it has another type.
     fn typed<T: Copy>(&self, key: &str, found: Option<T>) -> Result<Option<T>, CaseFault> {
         match found {
             Some(value) => Ok(Some(value)),
@@ -164,7 +164,7 @@ pub fn numbers_of(alloc: Global, name: &str, values: &[Value]) -> Result<Vec<u64
     Ok(numbers)
 }
 
-// The whole number that a value is, where it isn't below 0.
+// The whole number that a value is, if it isn't below 0.
 fn natural_of(value: &Value) -> Option<u64> {
     u64::try_from(value.as_integer()?).ok()
 }

@@ -1,7 +1,7 @@
 //! The files of cases: what a case has, by its keys, and the texts, the folder, the ports, the listeners and the links that it names.
 //!
 //! A case is a table of a TOML file: a name, the words, the input, the files of the folder, the calls that fail, and the status and
-//! the output that are wanted. The README of `farm_cases` says how to read and add one.
+//! the output that are expected. The README of `farm_cases` says how to read and add one.
 #![tactic(auto)]
 
 mod call;

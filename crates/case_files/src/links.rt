@@ -1,4 +1,4 @@
-//! The links of a run, in memory, and what is wanted of them.
+//! The links of a run, in memory, and what is expected of them.
 
 use crate::call::Call;
 use crate::digits::digit_bytes;
@@ -15,7 +15,7 @@ pub struct RunLink<'a> {
     pub responses: &'a [Value],
     /// The calls that fail, by their numbers from 1.
     pub fails: &'a [Value],
-    /// The calls that it is wanted to take, in order; they aren't looked at if they aren't given.
+    /// The calls that it is expected to take, in order; they aren't compared if they aren't given.
     pub calls: Option<&'a [Value]>,
 }
 

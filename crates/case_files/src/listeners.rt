@@ -1,4 +1,4 @@
-//! The listeners of a run, in memory, and what is wanted of them.
+//! The listeners of a run, in memory, and what is expected of them.
 
 use crate::fault::CaseFault;
 use crate::keys::{Keys, numbers_of};
@@ -8,7 +8,7 @@ use farm_ports::Folder;
 use std::alloc::Global;
 use toml::Value;
 
-// What stands in a list of visits if nobody comes.
+// What a list of visits has in a place where nobody comes.
 const IDLE: &str = "idle";
 
 /// A listener of a run.
@@ -18,7 +18,7 @@ pub struct RunListener<'a> {
     pub visits: &'a [Value],
     /// The listens and accepts that fail, by their numbers from 1.
     pub fails: &'a [Value],
-    /// The ports that it is wanted to be asked to listen on, in order; they aren't looked at if they aren't given.
+    /// The ports that it is expected to be asked to listen on, in order; they aren't compared if they aren't given.
     pub ports: Option<&'a [Value]>,
 }
 
@@ -43,7 +43,7 @@ pub struct Connection<'a> {
     pub bad_takes: &'a [Value],
     /// The puts that fail, by their numbers from 1.
     pub bad_puts: &'a [Value],
-    /// The bytes that are wanted on it; it isn't wanted to come if they aren't given.
+    /// The bytes that are expected on it; it isn't expected to come if they aren't given.
     pub written: Option<Text<'a>>,
 }
 
@@ -122,7 +122,7 @@ fn pieces_of<F: Folder>(
     Ok(pieces)
 }
 
-/// The bytes that are wanted on the connections of a listener that are wanted to come, one after another.
+/// The bytes that are expected on the connections of a listener that are expected to come, one after another.
 pub fn written_of<F: Folder>(
     alloc: Global,
     data: &mut F,
@@ -137,7 +137,7 @@ pub fn written_of<F: Folder>(
     Ok(all)
 }
 
-// What is wanted on the connection at a place of visits.
+// What is expected on the connection at a place of visits.
 fn wanted_on<'a>(alloc: Global, value: &'a Value) -> Result<Option<Text<'a>>, CaseFault> {
     match Connection::of(alloc, value)? {
         Some(connection) => Ok(connection.written),

@@ -15,7 +15,7 @@ use toml::Value;
 pub enum Text<'a> {
     /// As it stands.
     Whole(&'a str),
-    /// Pieces one after another, each a list of its text and how many times it stands.
+    /// Pieces one after another, each a list of its text and how many times it is repeated.
     Pieces(&'a [Value]),
     /// The bytes of the file at a path from the folder of the cases.
     File(&'a str),

@@ -42,7 +42,7 @@ pub struct Ended {
 
 impl Ended {
     /// What the program answers to the words of a run over ports, posts and a disk.
-    pub fn of<R: Threads + Wait + Sync>(
+    pub(crate) fn of<R: Threads + Wait + Sync>(
         stage: &Stage<'_, R>,
         run: &Run<'_>,
         ports: Ports,
@@ -69,7 +69,11 @@ impl Ended {
     }
 
     /// The answer, with the bytes that reads of the disk give, if they are looked at.
-    pub fn answer(self, alloc: Global, is_disk_looked_at: bool) -> Result<Answer, TrialFault> {
+    pub(crate) fn answer(
+        self,
+        alloc: Global,
+        is_disk_looked_at: bool,
+    ) -> Result<Answer, TrialFault> {
         if !is_disk_looked_at {
             return Ok(self.answer);
         }

@@ -1,11 +1,11 @@
-//! Where an answer differs from the one that is wanted.
+//! Where an answer differs from the expected one.
 
 use crate::visited::Visited;
 use case_files::Call;
 use std::fmt;
 
 /// Writes the first line in which two outputs differ, and nothing if they are the same.
-pub fn write_output<W: fmt::Write>(
+pub(crate) fn write_output<W: fmt::Write>(
     wanted: &[u8],
     came: &[u8],
     f: &mut fmt::Formatter<W>,
@@ -30,7 +30,7 @@ fn write_line<W: fmt::Write>(wanted: &[u8], came: &[u8], f: &mut fmt::Formatter<
 }
 
 /// Writes how many bytes two disks have, and the first offset at which they differ; nothing if they are the same.
-pub fn write_disk<W: fmt::Write>(
+pub(crate) fn write_disk<W: fmt::Write>(
     wanted: &[u8],
     came: &[u8],
     f: &mut fmt::Formatter<W>,
@@ -48,8 +48,8 @@ pub fn write_disk<W: fmt::Write>(
     )
 }
 
-/// Writes how listeners differ from those that are wanted, and nothing if they are the same.
-pub fn write_listeners<W: fmt::Write>(
+/// Writes how listeners differ from the expected ones, and nothing if they are the same.
+pub(crate) fn write_listeners<W: fmt::Write>(
     wanted: &[Visited],
     came: &[Visited],
     f: &mut fmt::Formatter<W>,
@@ -80,7 +80,7 @@ fn write_ports<W: fmt::Write>(
     )
 }
 
-// Writes how many connections came to a listener, if as many weren't wanted.
+// Writes how many connections came to a listener, if another number was expected.
 fn write_count<W: fmt::Write>(
     listener: u64,
     wanted: usize,
@@ -114,8 +114,8 @@ fn write_connections<W: fmt::Write>(
     Ok(())
 }
 
-/// Writes of each link whose calls differ from those that are wanted the first call that does, and nothing if they are the same.
-pub fn write_links<W: fmt::Write>(
+/// For each link whose calls differ from the expected ones, writes the first call that does; nothing if they are the same.
+pub(crate) fn write_links<W: fmt::Write>(
     wanted: &[Vec<Call>],
     came: &[Vec<Call>],
     f: &mut fmt::Formatter<W>,
@@ -146,7 +146,7 @@ fn write_calls<W: fmt::Write>(
     write_call(came.get(same), f)
 }
 
-// Writes a call, or that there is none.
+// Writes a call; `none` if it is missing.
 fn write_call<W: fmt::Write>(call: Option<&Call>, f: &mut fmt::Formatter<W>) -> fmt::Result {
     match call {
         Some(call) => write!(f, "`{call}`"),

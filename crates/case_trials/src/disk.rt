@@ -19,7 +19,7 @@ use toml::{Table, Value};
 const MAKING: &str = "words = ['init', '--site=s', '--journal=j']";
 
 /// The disk of a case, before the case runs.
-pub fn disk_of<R: Threads + Wait + Sync, F: Folder>(
+pub(crate) fn disk_of<R: Threads + Wait + Sync, F: Folder>(
     stage: &Stage<'_, R>,
     data: &mut F,
     case: &Case<'_>,
@@ -31,7 +31,7 @@ pub fn disk_of<R: Threads + Wait + Sync, F: Folder>(
 }
 
 /// The bytes that reads of a disk give.
-pub fn read_disk(alloc: Global, disk: MemDisk) -> Result<Vec<u8>, TrialFault> {
+pub(crate) fn read_disk(alloc: Global, disk: MemDisk) -> Result<Vec<u8>, TrialFault> {
     let mut disk = disk;
     let mut bytes = vec![in alloc; 0; disk.len()? as usize]?;
     disk.read_at(0, &mut bytes)?;

@@ -25,7 +25,7 @@ pub enum TrialFault {
     /// The disk has only this number of bytes, fewer than it is to keep.
     #[error("the disk has {0} bytes, and not as many as it is to keep")]
     TooShort(usize),
-    /// Of the calls that are to fail, one comes after those of the run, where its disk is read.
+    /// Of the calls that are to fail, one comes after those of the run, when its disk is read.
     #[error("a call of the disk that fails comes after those of its run")]
     FailsLater,
 }

@@ -1,4 +1,4 @@
-//! The calls that the links of a run took, or are wanted to take.
+//! The calls that the links of a run took, or are expected to take.
 
 use case_files::{Call, CaseFault, RunLink, calls_of, links_of};
 use farm_disk::MemDisk;
@@ -9,7 +9,10 @@ use std::alloc::Global;
 use toml::Value;
 
 /// The lines over the links of a run.
-pub fn lines_of(alloc: Global, links: &[Value]) -> Result<Vec<RunLine<Wire, MemDisk>>, CaseFault> {
+pub(crate) fn lines_of(
+    alloc: Global,
+    links: &[Value],
+) -> Result<Vec<RunLine<Wire, MemDisk>>, CaseFault> {
     let mut lines = Vec::new(alloc);
     for wire in links_of(alloc, links)? {
         lines.push(Post::new(wire))?;
@@ -17,8 +20,8 @@ pub fn lines_of(alloc: Global, links: &[Value]) -> Result<Vec<RunLine<Wire, MemD
     Ok(lines)
 }
 
-/// The calls that the links of a run are wanted to take.
-pub fn wanted_calls(alloc: Global, links: &[Value]) -> Result<Vec<Vec<Call>>, CaseFault> {
+/// The calls that the links of a run are expected to take.
+pub(crate) fn wanted_calls(alloc: Global, links: &[Value]) -> Result<Vec<Vec<Call>>, CaseFault> {
     let mut all = Vec::new(alloc);
     for value in links {
         let link = RunLink::of(alloc, value)?;
@@ -28,7 +31,7 @@ pub fn wanted_calls(alloc: Global, links: &[Value]) -> Result<Vec<Vec<Call>>, Ca
 }
 
 /// The calls that the links of lines took.
-pub fn taken_calls(
+pub(crate) fn taken_calls(
     alloc: Global,
     lines: &[RunLine<Wire, MemDisk>],
     links: &[Value],

@@ -1,9 +1,9 @@
-//! What every run of a case stands on.
+//! What every run of a case uses.
 
 use case_files::Sites;
 use std::alloc::Global;
 
-/// What every run of a case stands on.
+/// What every run of a case uses.
 #[derive(Drop)]
 pub struct Stage<'a, R> {
     /// The runtime, by which a run that serves waits.

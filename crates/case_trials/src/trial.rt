@@ -1,4 +1,4 @@
-//! Runs, with what came of them beside what is wanted.
+//! Runs, and what came of them compared with what is expected.
 
 ghost use Rattle.std.specs.Prelude.{◌≡◌, ◌↔◌, IsTrue, map};
 ghost use Rattle.case_trials.specs.Calls.{taken};
@@ -19,7 +19,7 @@ use std::fmt;
 use std::sync::Wait;
 use std::thread::Threads;
 
-/// A run: the answer that is wanted and the one that came.
+/// A run: the expected answer and the one that came.
 #[derive(Debug, Drop)]
 pub struct Trial {
     /// What the case wants.
@@ -66,7 +66,7 @@ impl Trial {
         }
     }
 
-    /// Whether what came is what is wanted: the same status, the same output, the same disk and the same of each listener
+    /// Whether what came is what is expected: the same status, the same output, the same disk and the same of each listener
     /// and each link.
     pub fn agrees(&self) -> bool
         ensures agrees { IsTrue result ↔ ((self.now.came.status ≡ self.now.wanted.status) × (self.now.came.output.items ≡ self.now.wanted.output.items)
@@ -107,7 +107,7 @@ fn same_calls(came: &[Vec<Call>], wanted: &[Vec<Call>]) -> bool
     came == wanted
 }
 
-// What is wanted of a run, with this text on its disk.
+// What is expected of a run, with this text on its disk.
 fn wanted_of<F: Folder>(
     alloc: Global,
     data: &mut F,

@@ -1,4 +1,4 @@
-//! What the listeners of a run have after it, or are wanted to have.
+//! What the listeners of a run have after it, or are expected to have.
 
 use case_files::{CaseFault, RunListener, listeners_of, numbers_of, written_of};
 use farm_disk::MemDisk;
@@ -9,7 +9,7 @@ use farm_serve::Post;
 use std::alloc::Global;
 use toml::Value;
 
-/// What a listener has after a run, or is wanted to have.
+/// What a listener has after a run, or is expected to have.
 #[derive(Debug, Drop, PartialEq, Eq)]
 pub struct Visited {
     /// The ports that it was asked to listen on, in order, if the case looks at them.
@@ -19,7 +19,7 @@ pub struct Visited {
 }
 
 /// The posts over the listeners of a run.
-pub fn posts_of<F: Folder>(
+pub(crate) fn posts_of<F: Folder>(
     alloc: Global,
     data: &mut F,
     listeners: &[Value],
@@ -31,8 +31,8 @@ pub fn posts_of<F: Folder>(
     Ok(posts)
 }
 
-/// What is wanted of the listeners of a run.
-pub fn wanted_visited<F: Folder>(
+/// What is expected of the listeners of a run.
+pub(crate) fn wanted_visited<F: Folder>(
     alloc: Global,
     data: &mut F,
     listeners: &[Value],
@@ -50,7 +50,7 @@ pub fn wanted_visited<F: Folder>(
 }
 
 /// What the listeners of posts have.
-pub fn all_visited(
+pub(crate) fn all_visited(
     alloc: Global,
     posts: &[RunPost<Visits, MemDisk>],
     listeners: &[Value],

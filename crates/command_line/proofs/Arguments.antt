@@ -80,7 +80,7 @@ name_names : (command : Subcommand) (words : List (List ℕ)) → HaveNumbers wo
 name_names command words have =
     ap (option_and_then (λ name. command_by name (found_in words))) (text_names (name_of command)) ∙ have
 
--- words are options where these take all of them
+-- words are options if these take all of them
 pub taken_by_test : (o : Option ℕ) (n : ℕ) → is_number o n ≡ true → o ≡ Some n
 taken_by_test None n e = absurd (cc)
 taken_by_test (Some m) n e = ap Some (grind (arith, nat_tests, e))

@@ -8,11 +8,11 @@ use Rattle.command_line.specs.Forms.{IsValue}
 use Rattle.command_line.specs.Options.{after_name, option_in, spelled_here, spelled_joined, text_after}
 use Rattle.command_line.proofs.Fronts.{after_front}
 
--- a text with a front, after it
+-- what follows the prefix of a text is its rest
 pub after_itself : (front rest : List ℕ) → text_after front (front ++ rest) ≡ Some rest
 after_itself front rest = sym (after_front front (front ++ rest) rest refl (sym (drop-append_seam front rest)))
 
--- a text of which a rest follows a front is both of them
+-- a text with this rest after a prefix is the prefix and the rest
 pub is_after : (front text rest : List ℕ) → text_after front text ≡ Some rest → text ≡ front ++ rest
 is_after front text rest = by (bytes_eq (take (length front) text) front) refl
   where
@@ -23,7 +23,7 @@ is_after front text rest = by (bytes_eq (take (length front) text) front) refl
         let rest_is : drop (length front) text ≡ rest = cc in
         sym (take-append-drop (length front) text) ∙ ap (λ t. t ++ drop (length front) text) same ∙ ap (λ t. front ++ t) rest_is
 
--- a word of which a rest follows an option's name is two minuses, the name and the rest
+-- a word with a rest after an option's name is two minuses, the name and the rest
 pub is_named : (name word rest : List ℕ) → after_name name word ≡ Some rest → word ≡ codes "--" ++ (name ++ rest)
 is_named name word rest = by (text_after (codes "--") word) refl
   where
@@ -70,7 +70,7 @@ begins_or_passes name word = by (after_name name word) refl
     by (Some []) f = inl ([], record { after = f; end = tt })
     by (Some (byte ∷ rest)) f = joined byte rest f (text_after (codes "=") (byte ∷ rest)) refl
 
--- names without an equals sign are the same where they are followed by such ends to the same text
+-- names without an equals sign are the same if they are followed by such ends to the same text
 pub same_name : (n m r s : List ℕ) → IsPlain n → IsPlain m → IsEnd r → IsEnd s → n ++ r ≡ m ++ s → n ≡ m
 same_name [] [] r s p q h k e = refl
 same_name [] (c ∷ m) r s p q h k e = absurd (q.0 (subst IsEnd e h))
@@ -81,7 +81,7 @@ same_name (b ∷ n) (c ∷ m) r s p q h k e =
     let rest : n ≡ m = same_name n m r s p.1 q.1 h k tails in
     cc
 
--- where an option of one name begins, none of another name does
+-- if an option of one name begins, none of another name does
 pub other_passes : (name other word rest : List ℕ) → IsPlain name → IsPlain other → Begins name word rest → other ≢ name → Passes other word
 other_passes name other word rest plain plain_other begins differ = by (begins_or_passes other word)
   where

@@ -43,12 +43,12 @@ plain byte differs = by (byte == 45) refl
     by false e = refl
     by true e = absurd (differs (grind (arith, nat_tests, e)))
 
--- a value where one is asked for, as its first byte and the rest
+-- a value as its first byte, which is no `-`, and the rest
 on_value : (P : Text → Type 0) → ((byte : ℕ) (rest : List ℕ) → (byte == 45) ≡ false → P (byte ∷ rest)) → (value : Text) → IsValue value → P value
 on_value P holds [] is = absurd is
 on_value P holds (byte ∷ rest) is = holds byte rest (plain byte is)
 
--- commands of no option, of one and of two
+-- commands without an option, with one and with two
 abbrev Words : CommandName → List Text → List Row → Type 0
 Words name words rows = (takes (app_for name) words ≡ true) × (matches_of (app_for name) words ≡ rows)
 
@@ -85,7 +85,7 @@ drill b s c n h k = (simp (h, k), simp (h, k))
 abbrev top : Shape
 top = (built (app_for names.Serve)).top
 
--- the walk over its words, of which some options are read and one is still held
+-- the walk over its words, with some options read and one still held
 abbrev held : List Row → OptionName → Text → Walk
 held rows option value = walk_from (record { rows = rows; pending = Some (option_text option, value ∷ []); skip = 0 })
 

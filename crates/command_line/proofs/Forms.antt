@@ -26,7 +26,7 @@ taken_by words name = words_or_none (option_in name words)
 abbrev pub IsFound : List (List ℕ) → List ℕ → Type 0
 IsFound words name = (option : Spelled) × (option_in name words ≡ Some option)
 
--- where a number of words is taken, an option of each name is found, and it is the sum of theirs
+-- if a number of words is taken, an option of each name is found, and it is the sum of theirs
 pub taken_is : (total : ℕ) (names words : List (List ℕ)) (n : ℕ) → words_taken total names words ≡ Some n →
     All (IsFound words) names × (n ≡ total + sum_by (taken_by words) names)
 taken_is total [] words n e = (All-nil (IsFound words), (let same : total ≡ n = cc in omega arith))
@@ -105,7 +105,7 @@ here_or_not (name ∷ names) word = by (begins_or_passes name word) (here_or_not
     })
     by (inr passes) (inr none) = inr (All-cons (λ name. Passes name word) name names passes none)
 
--- the options found among words take at most those words, and just them where the words are a form
+-- the options found among words take at most those words, and just them if the words are a form
 pub record Fits (names words : List (List ℕ)) : Type 0 where
   pub within : sum_by (taken_by words) names ≤ length words
   pub form : sum_by (taken_by words) names ≡ length words → IsFormOf names words
@@ -150,7 +150,7 @@ formed option words later names others order spelled is form = record {
   spelled = spelled ∙ ap (λ rest. spelling option ++ rest) form.spelled;
 }
 
--- where an option is the first of words, and those of the other names are among the words after it
+-- if an option is the first of words, and those of the other names are among the words after it
 with_option : (option : Written) (words later : List (List ℕ)) (names others : List (List ℕ)) → IsPermutation names (option.name ∷ others) →
     words ≡ spelling option ++ later → IsValue option.value → taken_by words option.name ≡ length (spelling option) →
     All (IsLater words later) others → Fits others later → Fits names words
@@ -208,7 +208,7 @@ one_word names word words name others order are byte value begins first found fi
     with_option option (word ∷ words) words names others order (ap (λ w. w ∷ words) named) good.0 takes same
     (fitting others (names_after name others are) (found_later (word ∷ words) words others same found))
 
--- a word and those after it, where those fit
+-- a word and those after it, if those fit
 next_fits : (word : List ℕ) (words : List (List ℕ)) → ((later : List (List ℕ)) → length later ≤ length words → AreFitting later) → AreFitting (word ∷ words)
 next_fits word words fitting names are found = by (here_or_not names word)
   where
@@ -244,7 +244,7 @@ fit_by most [] few = none_fits
 fit_by zero (word ∷ words) few = absurd (omega arith)
 fit_by (suc most) (word ∷ words) few = next_fits word words (λ later short. fit_by most later (omega arith))
 
--- words of which the options take all are a form
+-- words are a form if the options take all of them
 pub form_of : (names words : List (List ℕ)) → AreNames names → words_taken 0 names words ≡ Some (length words) → IsFormOf names words
 form_of names words are taken =
     let counted = taken_is 0 names words (length words) taken in

@@ -6,7 +6,7 @@ use Rattle.std.proofs.lemmas.List.{take-append-drop}
 use Rattle.std.specs.Str.{bytes_eq}
 use Rattle.command_line.specs.Options.{text_after}
 
--- a text that begins with a front has the rest after it
+-- a text that begins with a prefix has the rest after it
 pub after_front : (front text : List ℕ) (rest : List ℕ) → text ≡ front ++ rest → rest ≡ drop (length front) text → Some rest ≡ text_after front text
 after_front front text rest begins is =
     let same : take (length front) text ≡ front = ap (take (length front)) begins ∙ take-append_seam front rest in

@@ -14,7 +14,7 @@ use Rattle.command_line.specs.declared.commands.Subcommand.TheVariants.{Batch, C
 use Rattle.command_line.specs.Commands.{command_by, name_of, option_names}
 use Rattle.command_line.specs.Drill.{drill_options}
 use Rattle.command_line.specs.Forms.{AreDrillNumbers, AreNumbers, AreServeNumbers, Written, value_among}
-use Rattle.command_line.specs.Limits.{greatest_port, greatest_seed, least_port, least_workers, most_drilled, most_rounds, most_workers}
+use Rattle.command_line.specs.Limits.{most_port, most_seed, least_port, least_workers, most_drilled, most_rounds, most_workers}
 use Rattle.command_line.specs.Numbers.{IsNumberBetween, number_between}
 use Rattle.command_line.specs.Options.{value_in}
 use Rattle.command_line.specs.Serve.{serve_options, with_ports}
@@ -35,25 +35,25 @@ found_in words name = value_in name words
 
 -- values are the numbers of `serve`
 record HaveServeNumbers (value : List ℕ → List ℕ) (serve : ServeOptions) : Type 0 where
-  port : number_between least_port greatest_port (value (codes "port")) ≡ Some serve.port
+  port : number_between least_port most_port (value (codes "port")) ≡ Some serve.port
   workers : number_between least_workers most_workers (value (codes "workers")) ≡ Some serve.workers
   rounds : number_between 0 most_rounds (value (codes "rounds")) ≡ Some serve.rounds
-  ports : serve.port + serve.workers ≤ greatest_port + 1
+  ports : serve.port + serve.workers ≤ most_port + 1
 
 -- options that are given as they are have a port for each post
-all_have_ports : (options serve : ServeOptions) → with_ports options ≡ Some serve → (options ≡ serve) × (options.port + options.workers ≤ greatest_port + 1)
-all_have_ports options serve is = by (leb (options.port + options.workers) (greatest_port + 1)) refl is
+all_have_ports : (options serve : ServeOptions) → with_ports options ≡ Some serve → (options ≡ serve) × (options.port + options.workers ≤ most_port + 1)
+all_have_ports options serve is = by (leb (options.port + options.workers) (most_port + 1)) refl is
   where
-    by : (b : Bool) → leb (options.port + options.workers) (greatest_port + 1) ≡ b → (if b then Some options else None) ≡ Some serve →
-        (options ≡ serve) × (options.port + options.workers ≤ greatest_port + 1)
+    by : (b : Bool) → leb (options.port + options.workers) (most_port + 1) ≡ b → (if b then Some options else None) ≡ Some serve →
+        (options ≡ serve) × (options.port + options.workers ≤ most_port + 1)
     by false test e = absurd (cc)
-    by true test e = (cc, leb-true (options.port + options.workers) (greatest_port + 1) test)
+    by true test e = (cc, leb-true (options.port + options.workers) (most_port + 1) test)
 
 -- the options of `serve` are those three numbers, and each post has a port
 have_numbers : (value : List ℕ → List ℕ) (serve : ServeOptions) → serve_options value ≡ Some serve → HaveServeNumbers value serve
 unfolding serve_options
 have_numbers value serve is =
-    option_and_then_some _ (number_between least_port greatest_port (value (codes "port"))) serve is (λ port port_is further.
+    option_and_then_some _ (number_between least_port most_port (value (codes "port"))) serve is (λ port port_is further.
     option_and_then_some _ (number_between least_workers most_workers (value (codes "workers"))) serve further (λ workers workers_is last.
     option_and_then_some _ (number_between 0 most_rounds (value (codes "rounds"))) serve last (λ rounds rounds_is whole.
     let kept = all_have_ports (record { port = port; workers = workers; rounds = rounds }) serve whole in
@@ -62,18 +62,18 @@ have_numbers value serve is =
 options_from : (value : List ℕ → List ℕ) (serve : ServeOptions) → HaveServeNumbers value serve → serve_options value ≡ Some serve
 unfolding serve_options
 options_from value serve has =
-    let test : leb (serve.port + serve.workers) (greatest_port + 1) ≡ true = le-leb (serve.port + serve.workers) (greatest_port + 1) has.ports in
+    let test : leb (serve.port + serve.workers) (most_port + 1) ≡ true = le-leb (serve.port + serve.workers) (most_port + 1) has.ports in
     rw has.port (rw has.workers (rw has.rounds (rw test refl)))
 
 -- values are the numbers of `drill`
 record HaveDrillNumbers (value : List ℕ → List ℕ) (drill : DrillOptions) : Type 0 where
-  seed : number_between 0 greatest_seed (value (codes "seed")) ≡ Some drill.seed
+  seed : number_between 0 most_seed (value (codes "seed")) ≡ Some drill.seed
   count : number_between 0 most_drilled (value (codes "count")) ≡ Some drill.count
 
 have_drill : (value : List ℕ → List ℕ) (drill : DrillOptions) → drill_options value ≡ Some drill → HaveDrillNumbers value drill
 unfolding drill_options
 have_drill value drill is =
-    option_and_then_some _ (number_between 0 greatest_seed (value (codes "seed"))) drill is (λ seed seed_is further.
+    option_and_then_some _ (number_between 0 most_seed (value (codes "seed"))) drill is (λ seed seed_is further.
     option_and_then_some _ (number_between 0 most_drilled (value (codes "count"))) drill further (λ count count_is whole.
     let same : record { seed = seed; count = count } ≡ drill = cc in
     subst (HaveDrillNumbers value) same (record { seed = seed_is; count = count_is })))
@@ -99,7 +99,7 @@ serve_numbers_written : (words : List (List ℕ)) (options : List Written) (serv
 serve_numbers_written words options serve values is =
     let has = have_numbers (found_in words) serve is in
     record {
-      port = number_written least_port greatest_port words options (codes "port") serve.port (values (codes "port") refl) has.port;
+      port = number_written least_port most_port words options (codes "port") serve.port (values (codes "port") refl) has.port;
       workers = number_written least_workers most_workers words options (codes "workers") serve.workers (values (codes "workers") refl) has.workers;
       rounds = number_written 0 most_rounds words options (codes "rounds") serve.rounds (values (codes "rounds") refl) has.rounds;
       ports = has.ports;
@@ -108,7 +108,7 @@ serve_numbers_written words options serve values is =
 serve_numbers_found : (words : List (List ℕ)) (options : List Written) (serve : ServeOptions) → HaveValues words options (Serve serve) →
     AreServeNumbers serve options → serve_options (found_in words) ≡ Some serve
 serve_numbers_found words options serve values are = options_from (found_in words) serve (record {
-  port = number_found least_port greatest_port words options (codes "port") serve.port (values (codes "port") refl) are.port;
+  port = number_found least_port most_port words options (codes "port") serve.port (values (codes "port") refl) are.port;
   workers = number_found least_workers most_workers words options (codes "workers") serve.workers (values (codes "workers") refl) are.workers;
   rounds = number_found 0 most_rounds words options (codes "rounds") serve.rounds (values (codes "rounds") refl) are.rounds;
   ports = are.ports;
@@ -119,14 +119,14 @@ drill_numbers_written : (words : List (List ℕ)) (options : List Written) (dril
 drill_numbers_written words options drill values is =
     let has = have_drill (found_in words) drill is in
     record {
-      seed = number_written 0 greatest_seed words options (codes "seed") drill.seed (values (codes "seed") refl) has.seed;
+      seed = number_written 0 most_seed words options (codes "seed") drill.seed (values (codes "seed") refl) has.seed;
       count = number_written 0 most_drilled words options (codes "count") drill.count (values (codes "count") refl) has.count;
     }
 
 drill_numbers_found : (words : List (List ℕ)) (options : List Written) (drill : DrillOptions) → HaveValues words options (Drill drill) →
     AreDrillNumbers drill options → drill_options (found_in words) ≡ Some drill
 drill_numbers_found words options drill values are = drill_from (found_in words) drill (record {
-  seed = number_found 0 greatest_seed words options (codes "seed") drill.seed (values (codes "seed") refl) are.seed;
+  seed = number_found 0 most_seed words options (codes "seed") drill.seed (values (codes "seed") refl) are.seed;
   count = number_found 0 most_drilled words options (codes "count") drill.count (values (codes "count") refl) are.count;
 })
 

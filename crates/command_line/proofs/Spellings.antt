@@ -120,7 +120,7 @@ value_found name words (option ∷ options) found = by (bytes_eq option.name nam
     by false e (inl is) = inl is
     by false e (inr none) = inr (All-cons (λ other. other ≢ name) option.name (map (λ option. option.name) options) (λ same. grind (arith, bytes_eq-Decides, e, same)) none)
 
--- where no option has the name there is no value
+-- if no option has the name, there is no value
 pub no_value : (name : List ℕ) (options : List Written) → All (λ other. other ≢ name) (map (λ option. option.name) options) → value_among name options ≡ []
 no_value name [] none = refl
 no_value name (option ∷ options) none =

@@ -1,4 +1,4 @@
--- The test of words names the command that they are, or none where they are none.
+-- The test of words names the command that they are, or nothing if they are no command.
 use Rattle.std.proofs.Common.{◌≡◌, ℕ, ◌+◌, ◌&&◌, List, [], ◌∷◌, Bool, true, false, cond, leb, map, IfSome, ℤ, Option, Some, None, codes, is_some, refl, sym, ap, ◌∙◌}
 use Rattle.std.specs.Option.{option_and_then, option_map}
 use Rattle.calendar_days.specs.DayTexts.{day_of}
@@ -10,7 +10,7 @@ use Rattle.command_line.specs.declared.commands.Subcommand.TheVariants.{Batch, C
 use Rattle.command_line.specs.Commands.{asks_to_serve, command_by, command_of, name_of, names_serve, with_options}
 use Rattle.command_line.specs.Drill.{drill_options}
 use Rattle.command_line.specs.Forms.{IsForm, Written}
-use Rattle.command_line.specs.Limits.{greatest_port, greatest_seed, least_port, least_workers, most_drilled, most_rounds, most_workers}
+use Rattle.command_line.specs.Limits.{most_port, most_seed, least_port, least_workers, most_drilled, most_rounds, most_workers}
 use Rattle.command_line.specs.Names.{name_named, option_text, options_of}
 use Rattle.command_line.specs.Numbers.{number_between}
 use Rattle.command_line.specs.Options.{are_options, value_in}
@@ -20,7 +20,7 @@ use Rattle.farm_base.specs.Options.{◌>>=◌}
 use Rattle.command_line.proofs.Arguments.{command_from_form, form_from_command, serve_of_command}
 use Rattle.command_line.proofs.Serving.{found_in}
 
--- the name of a command of this name with values among words, where the words are its options
+-- the name of a command of this name with values among words, if the words are its options
 abbrev name_by : CommandName → List (List ℕ) → Option CommandName
 name_by name words = option_map name_of (with_options (command_by name (found_in words)) words)
 
@@ -34,7 +34,7 @@ alone : (name : CommandName) (command : Subcommand) (b : Bool) → name_of comma
 alone name command false is = refl
 alone name command true is = ap Some (sym is)
 
--- with a test that fails it is none
+-- with a test that fails it is None
 off : (name : CommandName) (b : Bool) → cond {A = Option CommandName} (b && false) (Some name) None ≡ None
 off name false = refl
 off name true = refl
@@ -48,7 +48,7 @@ served : (words : List (List ℕ)) (port workers rounds : Option ℕ) →
 served words None workers rounds = off names.Serve (are_options (map option_text (options_of names.Serve)) words)
 served words (Some p) None rounds = off names.Serve (are_options (map option_text (options_of names.Serve)) words)
 served words (Some p) (Some w) None = off names.Serve (are_options (map option_text (options_of names.Serve)) words)
-served words (Some p) (Some w) (Some r) = by (leb (p + w) (greatest_port + 1))
+served words (Some p) (Some w) (Some r) = by (leb (p + w) (most_port + 1))
   where
     by : (t : Bool) → cond {A = Option CommandName} (are_options (map option_text (options_of names.Serve)) words && (true && t)) (Some names.Serve) None
         ≡ option_map name_of (with_options (option_map (λ options. Serve options)
@@ -78,10 +78,10 @@ tested names.Calc words = alone names.Calc Calc (are_options (map option_text (o
 tested names.Init words = alone names.Init Init (are_options (map option_text (options_of names.Init)) words) refl
 tested names.Table words = alone names.Table Table (are_options (map option_text (options_of names.Table)) words) refl
 tested names.Batch words = alone names.Batch Batch (are_options (map option_text (options_of names.Batch)) words) refl
-tested names.Serve words = served words (number_between least_port greatest_port (value_in (codes "port") words))
+tested names.Serve words = served words (number_between least_port most_port (value_in (codes "port") words))
     (number_between least_workers most_workers (value_in (codes "workers") words)) (number_between 0 most_rounds (value_in (codes "rounds") words))
 tested names.Report words = reported words (day_of (value_in (codes "day") words))
-tested names.Drill words = drilled words (number_between 0 greatest_seed (value_in (codes "seed") words)) (number_between 0 most_drilled (value_in (codes "count") words))
+tested names.Drill words = drilled words (number_between 0 most_seed (value_in (codes "seed") words)) (number_between 0 most_drilled (value_in (codes "count") words))
 
 -- the name that the test finds is that of the command, if there is one
 pub name_is : (words : List (List ℕ)) → name_in words ≡ option_map name_of (command_of words)
@@ -124,7 +124,7 @@ serve_of_name words result is = by result (command_of words) refl is
         let same : name ≡ name_of command = cc in
         ap names_serve same ∙ serve_of_command words command found
 
--- where no name is found there is no command
+-- if no name is found, there is no command
 pub none_of_name : (words : List (List ℕ)) → None ≡ option_map name_of (command_of words) → command_of words ≡ None
 none_of_name words is = by (command_of words) refl is
   where

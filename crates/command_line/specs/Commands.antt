@@ -39,12 +39,12 @@ command_by names.Drill value = option_map (λ options. Drill options) (drill_opt
 abbrev pub command_named : List ℕ → List (List ℕ) → Option Subcommand
 command_named word words = option_and_then (λ name. command_by name (λ option. value_in option words)) (name_named word)
 
--- a command, where the words after its name are its options
+-- a command, if the words after its name are its options
 abbrev pub with_options : Option Subcommand → List (List ℕ) → Option Subcommand
 with_options None words = None
 with_options (Some command) words = if are_options (option_names command) words then Some command else None
 
--- the command of the arguments, none where they aren't in the form
+-- the command of the arguments; None if they aren't in the form
 unfoldable pub command_of : List (List ℕ) → Option Subcommand
 command_of [] = None
 command_of (word ∷ words) = with_options (command_named word words) words
@@ -78,7 +78,7 @@ abbrev pub asks_to_serve : List (List ℕ) → Bool
 asks_to_serve [] = false
 asks_to_serve (word ∷ words) = bytes_eq word (codes "serve")
 
--- the value of the option of this name after the first word, an empty text where there is no option
+-- the value of the option of this name after the first word; an empty text if the option is missing
 abbrev pub value_of : List ℕ → List (List ℕ) → List ℕ
 value_of name [] = []
 value_of name (word ∷ words) = value_in name words
@@ -105,10 +105,10 @@ file_of (Some (Serve options)) words = value_of (codes "journal") words
 file_of (Some (Report second)) words = value_of (codes "journal") words
 file_of (Some (Drill options)) words = []
 
--- the site's folder that the arguments name, an empty text where they name none
+-- the site's folder that the arguments name; an empty text if they name none
 abbrev pub site_folder : List (List ℕ) → List ℕ
 site_folder words = folder_of (command_of words) words
 
--- the journal's file that the arguments name, an empty text where they name none
+-- the journal's file that the arguments name; an empty text if they name none
 abbrev pub journal_file : List (List ℕ) → List ℕ
 journal_file words = file_of (command_of words) words

@@ -4,7 +4,7 @@ use Rattle.std.specs.List.{All, flat_map}
 use Rattle.std.specs.Str.{bytes_eq}
 use Rattle.calendar_days.specs.DayTexts.{IsDayText}
 use Rattle.command_line.specs.Commands.{name_of, option_names}
-use Rattle.command_line.specs.Limits.{greatest_port, greatest_seed, least_port, least_workers, most_drilled, most_rounds, most_workers}
+use Rattle.command_line.specs.Limits.{most_port, most_seed, least_port, least_workers, most_drilled, most_rounds, most_workers}
 use Rattle.command_line.specs.Names.{name_text}
 use Rattle.command_line.specs.Numbers.{IsNumberBetween}
 use Rattle.command_line.specs.declared.commands.Subcommand.{Subcommand}
@@ -38,21 +38,21 @@ pub record AreOptions (names : List (List ℕ)) (options : List Written) : Type 
 abbrev pub command_name : Subcommand → List ℕ
 command_name command = name_text (name_of command)
 
--- the value of the option of this name, an empty text where none of the options has it
+-- the value of the option of this name; an empty text if none of the options has it
 abbrev pub value_among : List ℕ → List Written → List ℕ
 value_among name [] = []
 value_among name (option ∷ options) = if bytes_eq option.name name then option.value else value_among name options
 
 -- the numbers of `serve` are those of the options that have their names, and its last post has a port
 pub record AreServeNumbers (serve : ServeOptions) (options : List Written) : Type 0 where
-  pub port : IsNumberBetween least_port greatest_port (value_among (codes "port") options) serve.port
+  pub port : IsNumberBetween least_port most_port (value_among (codes "port") options) serve.port
   pub workers : IsNumberBetween least_workers most_workers (value_among (codes "workers") options) serve.workers
   pub rounds : IsNumberBetween 0 most_rounds (value_among (codes "rounds") options) serve.rounds
-  pub ports : serve.port + serve.workers ≤ greatest_port + 1
+  pub ports : serve.port + serve.workers ≤ most_port + 1
 
 -- the numbers of `drill` are those of the options that have their names
 pub record AreDrillNumbers (drill : DrillOptions) (options : List Written) : Type 0 where
-  pub seed : IsNumberBetween 0 greatest_seed (value_among (codes "seed") options) drill.seed
+  pub seed : IsNumberBetween 0 most_seed (value_among (codes "seed") options) drill.seed
   pub count : IsNumberBetween 0 most_drilled (value_among (codes "count") options) drill.count
 
 -- the numbers of a command are those of the options that have their names: `serve` and `drill` have some, and the number of `report`

@@ -10,8 +10,8 @@ abbrev pub least_port : ℕ
 least_port = 1
 
 -- the greatest port
-abbrev pub greatest_port : ℕ
-greatest_port = 65535
+abbrev pub most_port : ℕ
+most_port = 65535
 
 -- the least number of workers
 abbrev pub least_workers : ℕ
@@ -26,8 +26,8 @@ abbrev pub most_rounds : ℕ
 most_rounds = 100000000
 
 -- the greatest seed
-abbrev pub greatest_seed : ℕ
-greatest_seed = 18446744073709551615
+abbrev pub most_seed : ℕ
+most_seed = 18446744073709551615
 
 -- the greatest count of a drill
 abbrev pub most_drilled : ℕ

@@ -1,7 +1,7 @@
 -- The names of the commands and of their options, and what the value of each option has to be.
 use Rattle.std.specs.Prelude.{ℕ, ◌++◌, if◌then◌else◌, List, [], ◌∷◌, Option, Some, None, codes}
 use Rattle.std.specs.Str.{bytes_eq}
-use Rattle.command_line.specs.Limits.{greatest_port, greatest_seed, least_port, least_workers, most_drilled, most_rounds, most_workers}
+use Rattle.command_line.specs.Limits.{most_port, most_seed, least_port, least_workers, most_drilled, most_rounds, most_workers}
 use Rattle.command_line.specs.declared.command_names.CommandName.{CommandName}
 use Rattle.command_line.specs.declared.command_names.CommandName.TheVariants.{Batch, Calc, Drill, Init, Report, Serve, Table}
 use Rattle.command_line.specs.declared.option_names.OptionName.{OptionName}
@@ -59,9 +59,9 @@ option_flag option = codes "--" ++ option_text option
 abbrev pub value_rule : OptionName → ValueRule
 value_rule Site = rules.Text
 value_rule Journal = rules.Text
-value_rule Port = rules.Number least_port greatest_port
+value_rule Port = rules.Number least_port most_port
 value_rule Workers = rules.Number least_workers most_workers
 value_rule Rounds = rules.Number 0 most_rounds
 value_rule Day = rules.Day
-value_rule Seed = rules.Number 0 greatest_seed
+value_rule Seed = rules.Number 0 most_seed
 value_rule Count = rules.Number 0 most_drilled

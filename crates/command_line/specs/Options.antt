@@ -2,7 +2,7 @@
 use Rattle.std.specs.Prelude.{ℕ, ◌+◌, ◌==◌, Bool, false, if◌then◌else◌, List, [], ◌∷◌, length, take, drop, Option, Some, None, codes, option_and_then}
 use Rattle.std.specs.Str.{bytes_eq}
 
--- what follows a front in a text
+-- what follows a prefix in a text
 abbrev pub text_after : List ℕ → List ℕ → Option (List ℕ)
 text_after front text = if bytes_eq (take (length front) text) front then Some (drop (length front) text) else None
 
@@ -41,16 +41,16 @@ abbrev pub option_in : List ℕ → List (List ℕ) → Option Spelled
 option_in name [] = None
 option_in name (word ∷ words) = spelled_here (after_name name word) words (option_in name words)
 
--- the value of an option, an empty text where there is no option
+-- the value of an option; an empty text if the option is missing
 abbrev pub value_or_empty : Option Spelled → List ℕ
 value_or_empty None = []
 value_or_empty (Some option) = option.value
 
--- the value of the option of this name among words, an empty text where there is no option
+-- the value of the option of this name among words; an empty text if the option is missing
 abbrev pub value_in : List ℕ → List (List ℕ) → List ℕ
 value_in name words = value_or_empty (option_in name words)
 
--- the number of words that options take, added to a number; none where one of them isn't there
+-- the number of words that options take, added to a number; None if one of them is missing
 abbrev pub words_taken : ℕ → List (List ℕ) → List (List ℕ) → Option ℕ
 words_taken total [] words = Some total
 words_taken total (name ∷ names) words = option_and_then (λ option. words_taken (total + option.words) names words) (option_in name words)

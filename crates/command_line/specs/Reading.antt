@@ -7,7 +7,7 @@ use Rattle.command_line.specs.Names.{name_text, option_flag, option_text, option
 use Rattle.command_line.specs.declared.command_names.CommandName.{CommandName}
 use Rattle.command_line.specs.declared.option_names.OptionName.{OptionName}
 
--- an option as one that has to be there with one value, `--name value`
+-- an option as a required one with one value, `--name value`
 abbrev pub rule_for : OptionName → Rule
 rule_for option = record (new_rule (option_text option)) { long = Some (option_text option); required = true; action = Some Set }
 
@@ -29,7 +29,7 @@ option_words (option ∷ options) value = option_flag option ∷ value (option_t
 abbrev pub words_for : CommandName → (List ℕ → List ℕ) → List Text
 words_for name value = name_text name ∷ option_words (options_of name) value
 
--- the value of an option by rows of matches, an empty text where they have none
+-- the value of an option by rows of matches; an empty text if they have none
 abbrev pub value_by : List Row → List ℕ → List ℕ
 value_by rows option = unwrap_or (first_of option rows) []
 

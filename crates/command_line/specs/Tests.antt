@@ -1,7 +1,7 @@
 -- The test that words are a command. It keeps none of their values.
 use Rattle.std.specs.Prelude.{ℕ, ◌+◌, ◌≤◌, ◌&&◌, Bool, true, false, if◌then◌else◌, leb, List, [], ◌∷◌, Option, Some, None, codes, is_some, map, option_and_then}
 use Rattle.calendar_days.specs.DayTexts.{day_of}
-use Rattle.command_line.specs.Limits.{greatest_port}
+use Rattle.command_line.specs.Limits.{most_port}
 use Rattle.command_line.specs.Names.{name_named, option_text, options_of, value_rule}
 use Rattle.command_line.specs.Numbers.{number_between}
 use Rattle.command_line.specs.Options.{are_options, value_in}
@@ -12,7 +12,7 @@ use Rattle.command_line.specs.declared.option_names.OptionName.TheVariants.{Port
 use Rattle.command_line.specs.declared.values.ValueRule.{ValueRule}
 use Rattle.command_line.specs.declared.values.ValueRule.TheVariants.{Day, Number, Text}
 
--- the number that a text is by a rule, none where the rule is for no number
+-- the number that a text is by a rule; None if the rule is for no number
 abbrev pub number_by : ValueRule → List ℕ → Option ℕ
 number_by Text text = None
 number_by (Number least most) text = number_between least most text
@@ -35,11 +35,11 @@ abbrev pub have_values : List OptionName → List (List ℕ) → Bool
 have_values [] words = true
 have_values (option ∷ options) words = takes_value (value_rule option) (value_in (option_text option) words) && have_values options words
 
--- the last of so many desk posts has a port
+-- the last of `workers` desk posts, on ports from `port` on, has a port; false if either is missing
 abbrev pub has_port : Option ℕ → Option ℕ → Bool
 has_port None workers = false
 has_port (Some port) None = false
-has_port (Some port) (Some workers) = leb (port + workers) (greatest_port + 1)
+has_port (Some port) (Some workers) = leb (port + workers) (most_port + 1)
 
 -- the numbers of a command agree with each other, which is asked of `serve` alone: its last desk post has a port
 abbrev pub do_agree : CommandName → List (List ℕ) → Bool
@@ -55,7 +55,7 @@ do_agree names.Drill words = true
 abbrev pub are_of : CommandName → List (List ℕ) → Bool
 are_of name words = are_options (map option_text (options_of name)) words && (have_values (options_of name) words && do_agree name words)
 
--- the name of the command of the arguments, none where they aren't in the form
+-- the name of the command of the arguments; None if they aren't in the form
 unfoldable pub name_in : List (List ℕ) → Option CommandName
 name_in [] = None
 name_in (word ∷ words) = option_and_then (λ name. if are_of name words then Some name else None) (name_named word)

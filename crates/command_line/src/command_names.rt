@@ -3,12 +3,12 @@
 ghost use Rattle.std.specs.Prelude.{◌≡◌, ◌≤◌, false, List, None, Some, IfSome, length, map, option_map, string_bytes};
 ghost use Rattle.command_line.specs.Commands.{asks_to_serve, command_of, has_numbers, name_of, names_serve};
 ghost use Rattle.command_line.specs.Forms.{IsForm, Written};
-ghost use Rattle.command_line.specs.Limits.{greatest_port, most_workers};
+ghost use Rattle.command_line.specs.Limits.{most_port, most_workers};
 ghost use Rattle.command_line.specs.Names.{name_named, name_text, options_of};
 ghost use Rattle.command_line.specs.Tests.{are_of, do_agree, has_port, have_values, name_in};
 ghost use Rattle.command_line.specs.declared.commands.Subcommand.{Subcommand};
 
-use crate::limits::GREATEST_PORT;
+use crate::limits::MOST_PORT;
 use crate::option_names::OptionName;
 use crate::options::{are_options, value_in};
 
@@ -32,7 +32,7 @@ pub enum CommandName {
 }
 
 impl CommandName {
-    /// The name of the command of the arguments, `None` where they aren't in the form, which it alone decides. Takes no memory.
+    /// The name of the command of the arguments; `None` if they aren't in the form, which it alone decides. Takes no memory.
     pub fn of_words(words: &[String]) -> Option<CommandName>
         ensures name { result ≡ option_map name_of (command_of (map string_bytes words.now)) }
         ensures form { IfSome result (λ name. (command : Subcommand) × (options : List Written) × (name_of command ≡ name) × IsForm command options (map string_bytes words.now)) }
@@ -148,14 +148,14 @@ fn have_values(options: &[OptionName], words: &[String]) -> bool
     true
 }
 
-// Whether the last of so many desk posts has a port.
+// Whether the last of `workers` desk posts, on ports from `port` on, has a port; false if either is missing.
 fn has_port(port: Option<u64>, workers: Option<u64>) -> bool
-    requires port { IfSome port (λ port. port ≤ greatest_port) }
+    requires port { IfSome port (λ port. port ≤ most_port) }
     requires workers { IfSome workers (λ workers. workers ≤ most_workers) }
     ensures { result ≡ has_port port workers }
 {
     match (port, workers) {
-        (Some(port), Some(workers)) => port + workers <= GREATEST_PORT + 1,
+        (Some(port), Some(workers)) => port + workers <= MOST_PORT + 1,
         _ => false,
     }
 }

@@ -6,7 +6,7 @@ ghost use Rattle.clap.specs.Words.{app_of, takes};
 ghost use Rattle.std.specs.Prelude.{true};
 ghost use Rattle.command_line.specs.Commands.{asks_to_serve, command_by, command_of, has_numbers, is_serve, name_of};
 ghost use Rattle.command_line.specs.Forms.{IsForm, Written};
-ghost use Rattle.command_line.specs.Limits.{greatest_port, least_port, least_workers, most_drilled, most_rounds, most_workers};
+ghost use Rattle.command_line.specs.Limits.{most_port, least_port, least_workers, most_drilled, most_rounds, most_workers};
 ghost use Rattle.command_line.specs.Reading.{matched_value, read_value};
 ghost use Rattle.command_line.specs.declared.commands.Subcommand.{Subcommand};
 ghost use Rattle.command_line.specs.declared.commands.Subcommand.TheVariants.{Drill, Report, Serve};
@@ -53,7 +53,7 @@ impl Subcommand {
         ensures form { IfOk result (λ command. (options : List Written) × IsForm command options (map string_bytes words.now)) }
         ensures every_form { (command : Subcommand) (options : List Written) → IsForm command options (map string_bytes words.now) → IfOk result (λ read. read ≡ command) }
         ensures port { (options : ServeOptions) → result ≡ Ok (Serve options) → least_port ≤ options.port }
-        ensures ports { (options : ServeOptions) → result ≡ Ok (Serve options) → options.port + options.workers ≤ greatest_port + 1 }
+        ensures ports { (options : ServeOptions) → result ≡ Ok (Serve options) → options.port + options.workers ≤ most_port + 1 }
         ensures workers { (options : ServeOptions) → result ≡ Ok (Serve options) → (least_workers ≤ options.workers) × (options.workers ≤ most_workers) }
         ensures rounds { (options : ServeOptions) → result ≡ Ok (Serve options) → options.rounds ≤ most_rounds }
         ensures day { (second : ℤ) → result ≡ Ok (Report second) → IsFirstSecond second }
@@ -136,7 +136,7 @@ impl Subcommand {
 
 /// Whether the first word is `serve`. Takes no memory.
 pub fn asks_to_serve(words: &[String]) -> bool
-    ensures { result ≡ asks_to_serve (map string_bytes words.now) }
+    ensures first_word { result ≡ asks_to_serve (map string_bytes words.now) }
 {
     match words {
         [word, ..] => word.as_str() == "serve",

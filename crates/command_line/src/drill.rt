@@ -18,7 +18,7 @@ pub struct DrillOptions {
 }
 
 impl DrillOptions {
-    /// Those that matches have; `None` where one isn't there, isn't 1 to 20 decimal digits, or isn't within its limits.
+    /// Those that matches have; `None` if one is missing, isn't 1 to 20 decimal digits, or isn't within its limits.
     #[tactic(auto, unfolding(crate::specs::Drill::drill_options))]
     pub(crate) fn matched(matches: &ArgMatches) -> Option<DrillOptions>
         ensures options { result ≡ drill_options (matched_value matches.now) }

@@ -7,7 +7,7 @@ pub const MOST_NUMBER_DIGITS: usize = 20;
 pub const LEAST_PORT: u64 = 1;
 
 /// The greatest port.
-pub const GREATEST_PORT: u64 = 65_535;
+pub const MOST_PORT: u64 = 65_535;
 
 /// The least number of workers.
 pub const LEAST_WORKERS: u64 = 1;
@@ -19,7 +19,7 @@ pub const MOST_WORKERS: u64 = 8;
 pub const MOST_ROUNDS: u64 = 100_000_000;
 
 /// The greatest seed.
-pub const GREATEST_SEED: u64 = 18_446_744_073_709_551_615;
+pub const MOST_SEED: u64 = 18_446_744_073_709_551_615;
 
 /// The greatest count of a drill.
 pub const MOST_DRILLED: u64 = 60_000;

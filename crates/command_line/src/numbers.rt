@@ -8,7 +8,7 @@ use farm_base::is_all_digits;
 
 /// The number that a text is, if it is within these limits.
 #[tactic(auto, unfolding(crate::specs::Numbers::number_between))]
-pub fn number_between(least: u64, most: u64, text: &str) -> Option<u64>
+pub(crate) fn number_between(least: u64, most: u64, text: &str) -> Option<u64>
     ensures value { result ≡ number_between least most text.now }
     ensures most { IfSome result (λ number. number ≤ most) }
 {

@@ -4,8 +4,7 @@ ghost use Rattle.std.specs.Prelude.{◌≡◌};
 ghost use Rattle.command_line.specs.Names.{option_flag, option_text, value_rule};
 
 use crate::limits::{
-    GREATEST_PORT, GREATEST_SEED, LEAST_PORT, LEAST_WORKERS, MOST_DRILLED, MOST_ROUNDS,
-    MOST_WORKERS,
+    LEAST_PORT, LEAST_WORKERS, MOST_DRILLED, MOST_PORT, MOST_ROUNDS, MOST_SEED, MOST_WORKERS,
 };
 use crate::values::ValueRule;
 
@@ -32,7 +31,7 @@ pub enum OptionName {
 
 impl OptionName {
     /// The name as it is written.
-    pub fn text<'a>(self) -> &'a str
+    pub(crate) fn text<'a>(self) -> &'a str
         ensures { result.now ≡ option_text self }
     {
         match self {
@@ -48,7 +47,7 @@ impl OptionName {
     }
 
     /// The word before a value that is a word of its own.
-    pub fn flag<'a>(self) -> &'a str
+    pub(crate) fn flag<'a>(self) -> &'a str
         ensures { result.now ≡ option_flag self }
     {
         match self {
@@ -64,16 +63,16 @@ impl OptionName {
     }
 
     /// What its value has to be.
-    pub fn rule(self) -> ValueRule
+    pub(crate) fn rule(self) -> ValueRule
         ensures { result ≡ value_rule self }
     {
         match self {
             OptionName::Site | OptionName::Journal => ValueRule::Text,
-            OptionName::Port => ValueRule::Number(LEAST_PORT, GREATEST_PORT),
+            OptionName::Port => ValueRule::Number(LEAST_PORT, MOST_PORT),
             OptionName::Workers => ValueRule::Number(LEAST_WORKERS, MOST_WORKERS),
             OptionName::Rounds => ValueRule::Number(0, MOST_ROUNDS),
             OptionName::Day => ValueRule::Day,
-            OptionName::Seed => ValueRule::Number(0, GREATEST_SEED),
+            OptionName::Seed => ValueRule::Number(0, MOST_SEED),
             OptionName::Count => ValueRule::Number(0, MOST_DRILLED),
         }
     }

@@ -17,14 +17,14 @@ struct SpelledOption<'a> {
 
 /// Whether words are these options, each once and in any order, and nothing else.
 #[tactic(auto, unfolding(crate::specs::Options::are_options))]
-pub fn are_options(options: &[OptionName], words: &[String]) -> bool
+pub(crate) fn are_options(options: &[OptionName], words: &[String]) -> bool
     requires { length options.now ≤ 8 }
     ensures { result ≡ are_options (map option_text options.now) (map string_bytes words.now) }
 {
     words_taken(options, words) == Some(words.len())
 }
 
-// The number of words that options take; `None` where one of them isn't there.
+// The number of words that options take; `None` if one of them is missing.
 fn words_taken(options: &[OptionName], words: &[String]) -> Option<usize>
     requires { length options.now ≤ 8 }
     ensures { result ≡ words_taken 0 (map option_text options.now) (map string_bytes words.now) }
@@ -36,8 +36,8 @@ fn words_taken(options: &[OptionName], words: &[String]) -> Option<usize>
     Some(taken)
 }
 
-/// The value of the option of this name among words, an empty text where there is no option.
-pub fn value_in<'a>(name: &str, words: &'a [String]) -> &'a str
+/// The value of the option of this name among words; an empty text if the option is missing.
+pub(crate) fn value_in<'a>(name: &str, words: &'a [String]) -> &'a str
     ensures { result.now ≡ value_in name.now (map string_bytes words.now) }
 {
     match option_in(name, words) {
@@ -94,7 +94,7 @@ fn after_name<'a>(name: &str, word: &'a str) -> Option<&'a str>
     text_after(name, text_after("--", word)?)
 }
 
-// What follows a front in a text.
+// What follows a prefix in a text.
 fn text_after<'a>(front: &str, text: &'a str) -> Option<&'a str>
     ensures { option_map (λ rest. rest.now) result ≡ text_after front.now text.now }
 {

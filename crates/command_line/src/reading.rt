@@ -17,7 +17,7 @@ use farm_base::NoMemory;
 use std::alloc::Global;
 
 /// The command of this name for `clap`: each of its options has to be there.
-pub fn command_for<'a>(alloc: Global, name: CommandName) -> Result<Command<'a>, NoMemory>
+pub(crate) fn command_for<'a>(alloc: Global, name: CommandName) -> Result<Command<'a>, NoMemory>
     ensures app { IfOk result (λ command. app_of command ≡ app_for name) }
 {
     let mut command = Command::new(alloc, name.text());
@@ -39,7 +39,7 @@ fn argument_for<'a>(alloc: Global, option: OptionName) -> Arg<'a>
 }
 
 /// The words of a command of this name for `clap`: its options in the order of the table, two words each.
-pub fn words_for<'a>(
+pub(crate) fn words_for<'a>(
     alloc: Global,
     name: CommandName,
     words: &'a [String],
@@ -55,7 +55,7 @@ pub fn words_for<'a>(
     Ok(spelled)
 }
 
-// The value of an option after the first word, an empty text where there is no option.
+// The value of an option after the first word; an empty text if the option is missing.
 fn value_of<'a>(name: &str, words: &'a [String]) -> &'a str
     ensures { result.now ≡ value_of name.now (map string_bytes words.now) }
 {
@@ -66,7 +66,7 @@ fn value_of<'a>(name: &str, words: &'a [String]) -> &'a str
 }
 
 /// What `clap` matches in words that the command takes.
-pub fn matches_of<'a, 'w>(
+pub(crate) fn matches_of<'a, 'w>(
     command: &mut Command<'a>,
     words: &'a [&'w str],
 ) -> Result<ArgMatches<'a>, NoMemory>
@@ -82,15 +82,15 @@ pub fn matches_of<'a, 'w>(
     }
 }
 
-/// The value of an option, an empty text where there is none.
-pub fn matched_value<'a>(matches: &ArgMatches<'a>, option: OptionName) -> &'a str
+/// The value of an option; an empty text if it has none.
+pub(crate) fn matched_value<'a>(matches: &ArgMatches<'a>, option: OptionName) -> &'a str
     ensures value { result.now ≡ matched_value matches.now (option_text option) }
 {
     matches.get_str(option.text()).unwrap_or("")
 }
 
-/// The number that an option has by its rule, `None` where it has none.
-pub fn matched_number(matches: &ArgMatches, option: OptionName) -> Option<u64>
+/// The number that an option has by its rule; `None` if it has none.
+pub(crate) fn matched_number(matches: &ArgMatches, option: OptionName) -> Option<u64>
     ensures number { result ≡ number_by (value_rule option) (matched_value matches.now (option_text option)) }
     ensures most { IfSome result (λ number. IsWithin (value_rule option) number) }
 {

@@ -4,7 +4,7 @@ ghost use Rattle.std.specs.Prelude.{◌≡◌};
 ghost use Rattle.command_line.specs.Reading.{matched_value};
 ghost use Rattle.command_line.specs.Serve.{serve_options};
 
-use crate::limits::GREATEST_PORT;
+use crate::limits::MOST_PORT;
 use crate::option_names::OptionName;
 use crate::reading::matched_number;
 use clap::ArgMatches;
@@ -21,7 +21,7 @@ pub struct ServeOptions {
 }
 
 impl ServeOptions {
-    /// Those that matches have; `None` where one isn't there, isn't 1 to 20 decimal digits, or isn't within its limits, or where
+    /// Those that matches have; `None` if one is missing, isn't 1 to 20 decimal digits, or isn't within its limits, or if
     /// the last post has no port.
     #[tactic(auto, unfolding(crate::specs::Serve::serve_options))]
     pub(crate) fn matched(matches: &ArgMatches) -> Option<ServeOptions>
@@ -30,7 +30,7 @@ impl ServeOptions {
         let port = matched_number(matches, OptionName::Port)?;
         let workers = matched_number(matches, OptionName::Workers)?;
         let rounds = matched_number(matches, OptionName::Rounds)?;
-        if port + workers > GREATEST_PORT + 1 {
+        if port + workers > MOST_PORT + 1 {
             return None;
         }
         Some(ServeOptions {

@@ -19,7 +19,7 @@ pub enum ValueRule {
 
 impl ValueRule {
     /// Whether a text is such a value.
-    pub fn takes(self, text: &str) -> bool
+    pub(crate) fn takes(self, text: &str) -> bool
         ensures takes { result ≡ takes_value self text.now }
     {
         match self {
@@ -29,8 +29,8 @@ impl ValueRule {
         }
     }
 
-    /// The number that a text is, `None` where the value is to be no number.
-    pub fn number(self, text: &str) -> Option<u64>
+    /// The number that a text is; `None` if the value is to be no number.
+    pub(crate) fn number(self, text: &str) -> Option<u64>
         ensures value { result ≡ number_by self text.now }
         ensures most { IfSome result (λ number. IsWithin self number) }
     {

@@ -57,7 +57,7 @@ both_first entries from to order =
     let there : from + (to - from) ≡ to = omega (arith, order) in
     take_both from (to - from) entries ∙ ap (λ n. take n entries) there
 
--- the balance between two places is that of the day whose entries stand there
+-- the balance between two places is that of the day whose entries are there
 pub day_meant : (history : History) (day : ℤ) (from to : ℕ) (tank : Tank) → from ≤ to → to ≤ last_place history →
     tank_numbered tank.number history.site.tanks ≡ Some tank →
     AreParted day history.entries (take from history.entries) (take (to - from) (drop from history.entries)) (drop to history.entries) →

@@ -154,7 +154,7 @@ added_within most more TransferIn amount day small within = record {
 }
 added_within most more Gain amount day small within = within_more most (most + more) day (omega arith) within
 
--- so it is where the posting may be at another tank
+-- so it is if the posting may be at another tank
 moved_within : (most more : ℕ) (posting : Posting) (day : TankDay) → (IsFalse (is_gain posting.kind) → IsAtMost more posting.amount) →
     IsWithin most day → IsWithin (most + more) (moved_by posting day)
 moved_within most more posting day small within = by (posting.tank == day.tank)

@@ -46,7 +46,7 @@ balance_between history from to tank =
     balance_over (book_with (postings_to history from) tank) (at_tank tank.number (postings_after history from (to - from)))
     (book_with (postings_to history to) tank)
 
--- the balance of a tank on a day: that over the entries of the day, which stand after those before it
+-- the balance of a tank on a day: that over the entries of the day, which follow those before it
 unfoldable pub day_balance : History → ℤ → Tank → Balance
 day_balance history day tank = balance_between history (count_before day history.entries) (count_through day history.entries) tank
 

@@ -1,4 +1,4 @@
--- The entries of a day, those before it and those after it. A day is told by its first second, in UTC since 1970-01-01 00:00:00.
+-- The entries of a day, those before it and those after it. A day is given by its first second, in UTC since 1970-01-01 00:00:00.
 use Rattle.std.specs.Prelude.{◌≡◌, ℕ, ◌<◌, ◌≤◌, All, List, ◌++◌, length, slice_index_or, ℤ, pos, ◌+ℤ◌, ◌≤ℤ◌, ◌<ℤ◌}
 use Rattle.std.specs.Int.RustNames.{int_le, int_lt}
 use Rattle.std.specs.List.{filter}

@@ -14,7 +14,7 @@ use Rattle.day_balances.specs.Balances.{is_transfer}
 use Rattle.day_balances.specs.declared.balance.Balance.{Balance}
 use Rattle.day_balances.specs.declared.tank_days.TankDay.{TankDay}
 
--- the amount of no posting
+-- the amount without a posting
 abbrev pub nothing : Amount
 nothing = record { litres = pos 0; kg = pos 0 }
 
@@ -38,7 +38,7 @@ added Gain amount day = day
 abbrev pub moved_by : Posting → TankDay → TankDay
 moved_by posting day = if posting.tank == day.tank then added posting.kind posting.amount day else day
 
--- a day after postings, of which those at its tank are added
+-- a day after postings: those at its tank are added
 abbrev pub moved_after : List Posting → TankDay → TankDay
 moved_after postings day = record {
   tank = day.tank;
@@ -58,7 +58,7 @@ pub record IsWithin (most : ℕ) (day : TankDay) : Type 0 where
 abbrev pub AreWithin : ℕ → List TankDay → Type 0
 AreWithin most days = All (IsWithin most) days
 
--- the most that so many entries move, of each kind: each of the three postings of an entry at most twice what a tank holds by its figures
+-- the most that this many entries move, of each kind: three postings an entry, each at most twice what a tank holds by its figures
 abbrev pub most_moved_by : ℕ → ℕ
 most_moved_by entries = 6 * most_moved * entries
 

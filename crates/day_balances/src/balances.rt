@@ -1,7 +1,6 @@
 //! The balances of the tanks of a site.
 
 ghost use Rattle.std.specs.Prelude.{◌≡◌, ◌+◌, ◌-◌, ◌≤◌, All, length, map, take, ◌≤ℤ◌};
-ghost use Rattle.farm_site.specs.Sites.{described};
 ghost use Rattle.farm_history.specs.Sites.{AreRising};
 ghost use Rattle.farm_history.specs.Limits.{latest_moment};
 ghost use Rattle.farm_history.specs.History.{before, last_place};
@@ -9,7 +8,7 @@ ghost use Rattle.farm_stock.specs.declared.book.TankBook.{TankBook};
 ghost use Rattle.farm_history.specs.Postings.{less};
 ghost use Rattle.history_lookups.specs.Bounds.{HoldAtMost, IsAtMost, most_posted};
 ghost use Rattle.history_lookups.specs.Ledgers.{AreBooksTo};
-ghost use Rattle.history_lookups.specs.Pasts.{IsReadable, history_of};
+ghost use Rattle.history_lookups.specs.Pasts.{IsReadable};
 ghost use Rattle.farm_site.specs.declared.limits.TheConstants.{MOST_TANKS};
 ghost use Rattle.day_balances.specs.Balances.{IsBounded, IsDayBalance, balance_between, day_balance, day_balances, postings_after, total_of};
 ghost use Rattle.day_balances.specs.Days.{NeverFall};
@@ -47,16 +46,15 @@ impl Model for Balances {
 impl Balances {
     /// The balance of each tank on the day with this first second, in seconds since 1970-01-01 00:00:00 UTC.
     ///
-    /// The moments of the entries never fall, and the tanks stand in rising order. One pass over the entries up to the day's end.
+    /// The moments of the entries never fall, and the tanks are in rising order. One pass over the entries up to the day's end.
     #[tactic(auto, unfolding(crate::specs::Balances::day_balance))]
     pub fn of_day(past: &Past<'_>, day: i64) -> Balances
-        requires readable { IsReadable (history_of past.now.site.now past.now.entries.now) }
-        requires in_order { NeverFall past.now.entries.now }
-        requires rising { AreRising (described past.now.site.now) }
+        requires readable { IsReadable past.now }
+        requires in_order { NeverFall past.now.entries }
+        requires rising { AreRising past.now.site }
         requires day { day ≤ℤ latest_moment }
-        ensures balances { result ≡ day_balances (history_of past.now.site.now past.now.entries.now) day }
-        ensures meaning { All (λ tank. IsDayBalance (history_of past.now.site.now past.now.entries.now) day tank.number
-            (day_balance (history_of past.now.site.now past.now.entries.now) day tank)) past.now.site.now.tanks }
+        ensures balances { result ≡ day_balances past.now day }
+        ensures meaning { All (λ tank. IsDayBalance past.now day tank.number (day_balance past.now day tank)) past.now.site.tanks }
     {
         let places = places_of(past.entries, day);
         Balances::between(past, places.before, places.through)
@@ -64,10 +62,10 @@ impl Balances {
 
     // The balance of each tank over the entries after the first `before` up to the first `through`.
     fn between(past: &Past<'_>, before: usize, through: usize) -> Balances
-        requires readable { IsReadable (history_of past.now.site.now past.now.entries.now) }
+        requires readable { IsReadable past.now }
         requires order { before ≤ through }
-        requires within { through ≤ last_place (history_of past.now.site.now past.now.entries.now) }
-        ensures balances { result ≡ map (balance_between (history_of past.now.site.now past.now.entries.now) before through) past.now.site.now.tanks }
+        requires within { through ≤ last_place past.now }
+        ensures balances { result ≡ map (balance_between past.now before through) past.now.site.tanks }
     {
         let mut ledger = first(past, before).ledger();
         let count = ledger.books().len();
@@ -97,8 +95,8 @@ impl Balances {
 
 // The site and its first entries.
 fn first<'p>(past: &Past<'p>, count: usize) -> Past<'p>
-    requires within { count ≤ last_place (history_of past.now.site.now past.now.entries.now) }
-    ensures first { history_of result.site.now result.entries.now ≡ before (history_of past.now.site.now past.now.entries.now) (count + 1) }
+    requires within { count ≤ last_place past.now }
+    ensures first { result ≡ before past.now (count + 1) }
 {
     Past {
         site: past.site,
@@ -114,13 +112,13 @@ fn post_through(
     ledger: &mut Ledger,
     days: &mut [TankDay],
 )
-    requires readable { IsReadable (history_of past.now.site.now past.now.entries.now) }
+    requires readable { IsReadable past.now }
     requires order { before ≤ through }
-    requires within { through ≤ last_place (history_of past.now.site.now past.now.entries.now) }
-    requires books { AreBooksTo (history_of past.now.site.now past.now.entries.now) before ledger.old }
+    requires within { through ≤ last_place past.now }
+    requires books { AreBooksTo past.now before ledger.old }
     requires days { AreWithin 0 days.old }
-    ensures books { AreBooksTo (history_of past.now.site.now past.now.entries.now) through ledger.new }
-    ensures moved { days.new ≡ map (moved_after (postings_after (history_of past.now.site.now past.now.entries.now) before (through - before))) days.old }
+    ensures books { AreBooksTo past.now through ledger.new }
+    ensures moved { days.new ≡ map (moved_after (postings_after past.now before (through - before))) days.old }
     ensures bounded { AreWithin (most_moved_by through) days.new }
 {
     for index in before..through {

@@ -10,7 +10,7 @@ use farm_history::Entry;
 /// The last second of a day, counted from its first.
 const LAST_SECOND: i64 = 86_399;
 
-/// Where the entries of a day stand among those of a history.
+/// The places of a day's entries among those of a history.
 #[derive(Clone, Copy, Debug, PartialEq, Eq)]
 pub struct DayPlaces {
     /// How many entries are before the day.
@@ -19,7 +19,7 @@ pub struct DayPlaces {
     pub through: usize,
 }
 
-/// Where the entries of the day with this first second stand, in seconds since 1970-01-01 00:00:00 UTC.
+/// The places of the entries of the day with this first second, in seconds since 1970-01-01 00:00:00 UTC.
 ///
 /// The moments of the entries never fall. It takes two binary searches.
 pub fn places_of(entries: &[Entry], day: i64) -> DayPlaces

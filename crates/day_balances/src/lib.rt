@@ -1,6 +1,6 @@
 //! What a day did to each tank of a site: the balance of its book.
 //!
-//! A day begins at a second, in UTC, and has 86,400 of them. Moments never fall along a history, so the entries of a day stand together.
+//! A day begins at a second, in UTC, and has 86,400 of them. Moments never fall along a history, so the entries of a day are consecutive.
 //! Amounts are whole litres of net standard volume and whole kilograms, each with its sign. Nothing here takes memory.
 #![tactic(auto)]
 

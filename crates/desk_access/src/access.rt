@@ -1,4 +1,4 @@
-//! An access to a desk.
+//! What a caller asks of a desk and sees of its history, whether it is the only caller of the desk or one of several.
 
 ghost use Rattle.std.specs.Prelude.{◌≡◌, ℕ, drop};
 ghost use Rattle.desk_access.specs.Access.{AreFollowers, CallerState, IsAsked, LooksOn, has_stop};

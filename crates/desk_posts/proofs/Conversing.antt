@@ -54,7 +54,7 @@ stops_by_none opened history served none = λ before last are.
     (subst (λ (all : List Exchange). NoneSees opened history all)
     (ap all_exchanges are ∙ flat_map-append (λ (visit : Served). exchanges_of visit.acts) before (last ∷ [])) none)
 
--- nothing that isn't there ends with something
+-- the empty list has no last element
 no_last : {X : Type 0} (xs : List X) (x : X) → [] ≡ xs ++ x ∷ [] → ⊥
 no_last xs x is = omega (arith, ap length is, length-append xs (x ∷ []))
 

@@ -71,7 +71,7 @@ looked may_follow laws old new looks =
       stays = looks.stays;
     }
 
--- where nothing was done there are no exchanges
+-- if nothing was done, there are no exchanges
 pub no_exchange : (may_follow : History → History → Type 0) → AreFollowers may_follow → (state : CallerState) → Exchanges may_follow state state []
 no_exchange may_follow laws state = looked may_follow laws state state (record {
   follows = laws.itself state.seen;

@@ -80,7 +80,7 @@ first_false : (first second : Bool) → (first || second) ≡ false → first �
 first_false true second neither = neither
 first_false false second neither = refl
 
--- without a Stop among entries, none stands among the first ones
+-- without a Stop among entries, none is among the first ones
 none_first : (n : ℕ) (entries : List Entry) → has_stop entries ≡ false → has_stop (take n entries) ≡ false
 none_first n entries none =
     first_false (has_stop (take n entries)) (has_stop (drop n entries))

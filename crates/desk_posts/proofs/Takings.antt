@@ -55,7 +55,7 @@ taken_on from middle to before after taken more = record {
       (takings_add_up from middle to (concat taken.pieces) [] taken.moved more);
 }
 
--- bytes of which there are none are none
+-- bytes whose number is 0 are the empty list
 no_bytes : (bytes : List ℕ) → length bytes ≡ 0 → bytes ≡ []
 no_bytes [] none = refl
 no_bytes (byte ∷ bytes) none = absurd (omega (arith, none))

@@ -34,7 +34,7 @@ pub data Visited (port : ℕ) (old new : Option (List Event)) (end : PostEnd) (s
   refused : AddsEvents old new (Listened port true ∷ []) → end ≡ ends.ListenerFailed → served ≡ [] → Visited port old new end served
   listened : AddsEvents old new (Listened port false ∷ events_of served ++ last_events end) → Visited port old new end served
 
--- A post ended where it had seen a Stop that was entered since the desk was opened, and not earlier; or its listener answered that no more
+-- A post ended when it had seen a Stop that was entered since the desk was opened, and not earlier; or its listener answered that no more
 -- connections will come; or its listener failed.
 abbrev pub EndsAs : ℕ → History → Count → PostEnd → Type 0
 EndsAs opened seen count ends.Stopped = (has_stop (drop opened seen.entries) ≡ true) × IsQuiet count

@@ -18,11 +18,11 @@ use Rattle.journaled_book.specs.declared.answer.Answer.TheVariants as answers
 use Rattle.desk_access.specs.Access.{has_stop}
 use Rattle.desk_access.specs.Spans.{Span}
 
--- the answer where there is no memory for the one that is meant
+-- the answer if there is no memory for the one that is meant
 abbrev pub out_of_memory : Page
 out_of_memory = pages.Status 507 None
 
--- the answer where the disk failed
+-- the answer if the disk failed
 abbrev pub disk_fault : Page
 disk_fault = pages.Status 503 None
 

@@ -1,7 +1,7 @@
 //! An exchange: a request, and the page that answers it.
 
 ghost use Rattle.std.specs.Prelude.{◌≡◌, ◌≢◌, drop, OnOk};
-ghost use Rattle.farm_base.specs.Counts.{HasCause};
+ghost use Rattle.farm_base.specs.Counts.{Counts};
 ghost use Rattle.farm_history.specs.Desk.{IsWellFormedAsk};
 ghost use Rattle.http_requests.specs.Hearing.{IsHeard};
 ghost use Rattle.desk_posts.specs.Calls.{AnswersOne, AsksWellFormed, IsMeant, MeansReply, meant_by};
@@ -36,8 +36,7 @@ pub(crate) fn exchange<P: Source + Sink, A: DeskAccess, C: Clock>(
     ensures in_hand { room.new ≡ drop (size_of heard) room.old }
     ensures keeps { A.keeps access.old access.new }
     ensures stream { P.stream conn.new ≡ P.stream conn.old }
-    ensures cause { HasCause (P.faults conn.old) (P.faults conn.new) result }
-    ensures quiet { OnOk result (P.faults conn.new ≡ P.faults conn.old) }
+    ensures counts { Counts (P.faults conn.old) (P.faults conn.new) result }
 {
     A::access_laws();
     http_requests::laws();

@@ -1,7 +1,7 @@
 //! The next request of a connection.
 
 ghost use Rattle.std.specs.Prelude.{◌≡◌, IfOk, IfSome, OnOk};
-ghost use Rattle.farm_base.specs.Counts.{HasCause};
+ghost use Rattle.farm_base.specs.Counts.{Counts};
 ghost use Rattle.desk_posts.specs.Calls.{AsksWellFormed, HearsNext};
 
 use crate::room::PostRoom;
@@ -20,8 +20,7 @@ pub(crate) fn next_request<S: Source>(
     ensures hears { HearsNext (S.stream source.old) (S.stream source.new) room.old room.new result }
     ensures well_formed { IfOk result (λ next. IfSome next AsksWellFormed) }
     ensures held { S.held source.new ≡ S.held source.old }
-    ensures cause { HasCause (S.faults source.old) (S.faults source.new) result }
-    ensures quiet { OnOk result (S.faults source.new ≡ S.faults source.old) }
+    ensures counts { Counts (S.faults source.old) (S.faults source.new) result }
 {
     loop {
         match room.hear(alloc) {

@@ -1,7 +1,7 @@
 //! A page, put to a connection.
 
 ghost use Rattle.std.specs.Prelude.{◌≡◌, ◌≢◌, MatchOption, OnOk};
-ghost use Rattle.farm_base.specs.Counts.{HasCause};
+ghost use Rattle.farm_base.specs.Counts.{Counts};
 ghost use Rattle.farm_http.specs.PageTexts.{IsAnswer};
 ghost use Rattle.farm_ports.specs.Ports.{PutsAll};
 ghost use Rattle.http_pages.specs.Pages.{page_text};
@@ -36,8 +36,7 @@ pub(crate) fn put_page<K: Sink>(
     requires answer { IsAnswer answer.now }
     ensures shows { Shows answer.now last (K.held sink.old) (K.held sink.new) result }
     ensures stream { K.stream sink.new ≡ K.stream sink.old }
-    ensures cause { HasCause (K.faults sink.old) (K.faults sink.new) result }
-    ensures quiet { OnOk result (K.faults sink.new ≡ K.faults sink.old) }
+    ensures counts { Counts (K.faults sink.old) (K.faults sink.new) result }
 {
     match constant_page(answer, last) {
         Some(text) => put_all(sink, text),
@@ -57,8 +56,7 @@ fn put_made<K: Sink>(
     requires no_fault { answer.now ≢ disk_fault }
     ensures shows { Shows answer.now last (K.held sink.old) (K.held sink.new) result }
     ensures stream { K.stream sink.new ≡ K.stream sink.old }
-    ensures cause { HasCause (K.faults sink.old) (K.faults sink.new) result }
-    ensures quiet { OnOk result (K.faults sink.new ≡ K.faults sink.old) }
+    ensures counts { Counts (K.faults sink.old) (K.faults sink.new) result }
 {
     out.clear();
     match page(alloc, answer, last, out) {

@@ -1,4 +1,4 @@
-//! A post.
+//! The run of a post: connections are served one after another until its caller sees a Stop, none will come, or its listener fails.
 
 ghost use Rattle.std.specs.Prelude.{◌≡◌, ◌≤◌};
 ghost use Rattle.farm_base.specs.Counts.{count_of};

@@ -1,7 +1,7 @@
 //! What a post works with.
 
 ghost use Rattle.std.specs.Prelude.{◌≡◌, ◌<◌, ◌≤◌, [], drop, length, take, IfOk, OnErr, OnOk};
-ghost use Rattle.farm_base.specs.Counts.{HasCause};
+ghost use Rattle.farm_base.specs.Counts.{Counts};
 ghost use Rattle.farm_base.specs.Known.{Takes};
 ghost use Rattle.farm_ports.specs.Ports.{ReadsOn, TakeGives};
 ghost use Rattle.http_requests.specs.Hearing.{IsHeard};
@@ -74,15 +74,14 @@ impl PostRoom {
         ensures failed { OnErr result (Takes (S.stream source.old) (S.stream source.new) []) }
         ensures stays { OnErr result (self.new ≡ self.old) }
         ensures held { S.held source.new ≡ S.held source.old }
-        ensures cause { HasCause (S.faults source.old) (S.faults source.new) result }
-        ensures quiet { OnOk result (S.faults source.new ≡ S.faults source.old) }
+        ensures counts { Counts (S.faults source.old) (S.faults source.new) result }
     {
         let count = take_behind(self.held, &mut self.bytes, source)?;
         self.held += count;
         Ok(count)
     }
 
-    /// Drops the first of the bytes in hand, this many, and moves what is left to their place.
+    /// Drops this many of the bytes in hand, from the first on, and moves the others to their place.
     pub(crate) fn pass(&mut self, count: usize)
         requires within { count ≤ length self.old }
         ensures in_hand { self.new ≡ drop count self.old }
@@ -98,8 +97,7 @@ fn take_behind<S: Source>(first: usize, bytes: &mut [u8], source: &mut S) -> Res
     ensures taken { TakeGives (S.stream source.old) (S.stream source.new) (drop first bytes.new) result }
     ensures stays { take first bytes.new ≡ take first bytes.old }
     ensures held { S.held source.new ≡ S.held source.old }
-    ensures cause { HasCause (S.faults source.old) (S.faults source.new) result }
-    ensures quiet { OnOk result (S.faults source.new ≡ S.faults source.old) }
+    ensures counts { Counts (S.faults source.old) (S.faults source.new) result }
 {
     source.take(&mut bytes[first..])
 }

@@ -1,6 +1,6 @@
 //! A desk that many callers share by turns: the jobs that are done on it, and the access of one caller.
 //!
-//! A caller waits for its turn, asks or looks, and gives the turn back. It sees of the desk's history what stood at its last turn.
+//! A caller waits for its turn, asks or looks, and gives the turn back. It sees the desk's history as of its last turn.
 //! docs/machine.md says what the callers of one desk see, under "Callers of a desk".
 #![tactic(auto)]
 

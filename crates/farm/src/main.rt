@@ -10,11 +10,11 @@ ghost use Rattle.command_line.specs.declared.commands.Subcommand.TheVariants.{Ba
 ghost use Rattle.command_line.specs.declared.drill.DrillOptions.{DrillOptions};
 ghost use Rattle.command_line.specs.declared.serve.ServeOptions.{ServeOptions};
 
-use command_line::places;
+use command_line::{MOST_WORKERS, places};
 use farm_disk::FileDisk;
 use farm_listeners::TcpPost;
 use farm_ports::{DirFolder, StdSink, StdSource, SystemClock, TcpLink};
-use farm_run::{report_no_memory, run};
+use farm_run::{MOST_LINES, report_no_memory, run};
 use farm_serve::Post;
 use std::process::ExitCode;
 use std::rt::Env;
@@ -22,10 +22,14 @@ use std::sync::Wait;
 use std::thread::Threads;
 use std::{array, env, io};
 
-// The most desk posts and gauge lines of a run.
-const MOST_WORKERS: usize = 8;
+// How many desk posts and gauge lines a run is handed: as many as its arguments and a site may have.
+const POSTS: usize = 8;
 
-const MOST_LINES: usize = 16;
+const LINES: usize = 16;
+
+const _: () = prove!(POSTS as u64 == MOST_WORKERS);
+
+const _: () = prove!(LINES == MOST_LINES);
 
 // The arguments: the words after the program's name.
 fn arguments(rt: &(impl Env + AllocGlobal)) -> io::Result<Vec<String>> {
@@ -73,12 +77,12 @@ fn run_arguments<W: Threads + Wait + Sync>(rt: &HostRuntime, waiting: &W, words:
 }
 
 // The desk posts that a run may have, each over a port of the system.
-fn desk_posts<W, C>(rt: &HostRuntime) -> [Post<TcpPost<&HostRuntime>, W, C>; MOST_WORKERS] {
+fn desk_posts<W, C>(rt: &HostRuntime) -> [Post<TcpPost<&HostRuntime>, W, C>; POSTS] {
     array::from_fn(|_| Post::new(TcpPost::new(rt)))
 }
 
 // The gauge lines that a site may have, each over the system's network.
-fn gauge_lines<W, C>(rt: &HostRuntime) -> [Post<TcpLink<&HostRuntime>, W, C>; MOST_LINES] {
+fn gauge_lines<W, C>(rt: &HostRuntime) -> [Post<TcpLink<&HostRuntime>, W, C>; LINES] {
     array::from_fn(|_| Post::new(TcpLink::new(rt)))
 }
 
@@ -90,9 +94,9 @@ fn named_by<'a>(
     ensures folder { IfSome result (λ named. named.0.over ≡ site_folder (map string_bytes words.now)) }
     ensures disk { IfSome result (λ named. named.1.path ≡ journal_file (map string_bytes words.now)) }
 {
-    let (site, journal) = places(rt.alloc(), words)?;
-    let folder = DirFolder::new(rt, site);
-    let disk = FileDisk::new(rt, journal);
+    let places = places(rt.alloc(), words)?;
+    let folder = DirFolder::new(rt, places.site);
+    let disk = FileDisk::new(rt, places.journal);
     Some((folder, disk))
 }
 

@@ -1,5 +1,5 @@
 -- Counts of faults. An object of the outside counts its faults; the count never falls and stands still at the last u64.
-use Rattle.std.specs.Prelude.{◌≡◌, ℕ, ◌+◌, ◌-◌, ◌^◌, ◌≤◌, min, zero, suc, Result, OnErr}
+use Rattle.std.specs.Prelude.{◌≡◌, ℕ, ◌+◌, ◌-◌, ◌^◌, ◌≤◌, min, zero, suc, Result, OnErr, OnOk}
 
 -- the count is greater by at least n, or stands at its last value
 abbrev pub RoseBy : ℕ → ℕ → ℕ → Type 0
@@ -14,10 +14,31 @@ abbrev pub raised : ℕ → ℕ → ℕ
 raised zero before = before
 raised (suc n) before = min (raised n before + 1) (2 ^ 64 - 1)
 
--- the count hasn't fallen, and the call failed only where it rose
-pub record HasCause {T E : Type 0} (before now : ℕ) (result : Result T E) : Type 0 where
+-- what a call does to a count of faults: it never falls, rose if the call failed, and is as it was if the call succeeded
+pub record Counts {T E : Type 0} (before now : ℕ) (result : Result T E) : Type 0 where
   pub never_falls : before ≤ now
   pub failed : OnErr result (Rose before now)
+  pub quiet : OnOk result (now ≡ before)
+
+-- likewise of a call that counts a failure once
+pub record CountsOnce {T E : Type 0} (before now : ℕ) (result : Result T E) : Type 0 where
+  pub never_falls : before ≤ now
+  pub failed : OnErr result (Rose before now)
+  pub once : OnErr result (now ≡ raised 1 before)
+  pub quiet : OnOk result (now ≡ before)
+
+-- what a call does to a count of faults, where one of its answers says that the counted object failed
+pub record CountsIf (faulted : Type 0) (before now : ℕ) : Type 0 where
+  pub never_falls : before ≤ now
+  pub failed : faulted → Rose before now
+  pub quiet : ¬ faulted → now ≡ before
+
+-- likewise of a call that counts the fault once
+pub record CountsOnceIf (faulted : Type 0) (before now : ℕ) : Type 0 where
+  pub never_falls : before ≤ now
+  pub failed : faulted → Rose before now
+  pub once : faulted → now ≡ raised 1 before
+  pub quiet : ¬ faulted → now ≡ before
 
 -- a count before a call and after it
 pub record Count : Type 0 where

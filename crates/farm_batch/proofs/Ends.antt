@@ -12,12 +12,12 @@ use Rattle.farm_batch.specs.declared.batch.BatchEnd.{BatchEnd}
 use Rattle.farm_batch.specs.declared.batch.BatchEnd.TheVariants.{Done, Long, Failed}
 use Rattle.farm_batch.specs.declared.limits.TheConstants.{MOST_LINES}
 use Rattle.farm_batch.specs.LineAnswers.{IsCutAtLast, Step, answer_text, answers_text}
-use Rattle.farm_batch.specs.Batches.{Answers, Batch, EndsAs, TakesLines, lines_of}
+use Rattle.farm_batch.specs.Batches.{AnswersOneLine, Batch, EndsAs, TakesLines, lines_of}
 use Rattle.farm_batch.proofs.MoreSteps.{goes_on-more, length-more}
 use Rattle.farm_batch.proofs.SoFar.{SoFar, WithStep, counts, put_more, risen_since, with_step}
 use Rattle.farm_batch.proofs.Taken.{IsTaken, read_line, taken_last, taken_on, taken_read}
 
--- The batch ends after the steps so far, and asks none more.
+-- The batch ends after the steps so far, and asks no more.
 ends : {D : Type 0} {faults : D → ℕ} {may_give : ℤ → Type 0} {limit : ℕ} {before after : DeskState D} {from between to : Option Stream} {source source_now : Count}
     {old new : Option (List ℕ)} {sink sink_now : Count} {reading : ReaderState} {number : ℕ} {end : BatchEnd} (in_hand : List ℕ) →
     (so_far : SoFar faults may_give limit before after from between source old new sink reading number) → number ≤ MOST_LINES + 1 →
@@ -72,11 +72,11 @@ ends_with {D} {faults} {may_give} {limit} {before} {middle} {after} {from} {betw
       quiet = quiet;
     }
 
--- The batch ends with the answer to a line, or where it can't be put.
+-- The batch ends with the answer to a line, or because that can't be put.
 ends_by : {D : Type 0} {faults : D → ℕ} {may_give : ℤ → Type 0} {limit : ℕ} {before middle after : DeskState D} {from between to : Option Stream} {source source_now : Count}
     {old held new : Option (List ℕ)} {start stop now : ℕ} {reading : ReaderState} {number : ℕ} (end : BatchEnd) (line in_hand : List ℕ) →
     (so_far : SoFar faults may_give limit before middle from between source old held (counts start stop) reading number) → number ≤ MOST_LINES →
-    Answers faults may_give limit middle after line held new (counts stop now) (Some end) →
+    AnswersOneLine faults may_give limit middle after line held new (counts stop now) (Some end) →
     IsTaken from to (lines_of so_far.steps ++ line ∷ []) in_hand → (end ≢ Failed → IsQuiet source_now × IsQuiet (counts start now)) →
     Batch faults may_give limit before after from to source_now old new (counts start now) end
 ends_by {old = old} {held = held} {new = new} Done line in_hand so_far few answers taken quiet =
@@ -100,7 +100,7 @@ ends_by {old = old} {held = held} {new = new} {start = start} {stop = stop} {now
 pub ends_at_line : {D : Type 0} {faults : D → ℕ} {may_give : ℤ → Type 0} {limit : ℕ} {before middle after : DeskState D} {from between to : Option Stream} {source source_now : Count}
     {old held new : Option (List ℕ)} {start stop now : ℕ} {reading next_reading : ReaderState} {number : ℕ} (end : BatchEnd) →
     (so_far : SoFar faults may_give limit before middle from between source old held (counts start stop) reading number) → number ≤ MOST_LINES →
-    (reads : ReadsLine reading next_reading between to) → Answers faults may_give limit middle after reads.line held new (counts stop now) (Some end) →
+    (reads : ReadsLine reading next_reading between to) → AnswersOneLine faults may_give limit middle after reads.line held new (counts stop now) (Some end) →
     (end ≢ Failed → IsQuiet source_now × IsQuiet (counts start now)) →
     Batch faults may_give limit before after from to source_now old new (counts start now) end
 ends_at_line {next_reading = next_reading} end so_far few reads answers quiet =
@@ -110,7 +110,7 @@ ends_at_line {next_reading = next_reading} end so_far few reads answers quiet =
 pub ends_at_last : {D : Type 0} {faults : D → ℕ} {may_give : ℤ → Type 0} {limit : ℕ} {before middle after : DeskState D} {from between to : Option Stream} {source source_now : Count}
     {old held new : Option (List ℕ)} {start stop now : ℕ} {reading next_reading : ReaderState} {number : ℕ} (answered : Option BatchEnd) (end : BatchEnd) →
     (so_far : SoFar faults may_give limit before middle from between source old held (counts start stop) reading number) → number ≤ MOST_LINES →
-    (reads : ReadsLast reading next_reading between to) → Answers faults may_give limit middle after reads.line held new (counts stop now) answered →
+    (reads : ReadsLast reading next_reading between to) → AnswersOneLine faults may_give limit middle after reads.line held new (counts stop now) answered →
     option_or answered (Some Done) ≡ Some end → (end ≢ Failed → IsQuiet source_now × IsQuiet (counts start now)) →
     Batch faults may_give limit before after from to source_now old new (counts start now) end
 ends_at_last {D} {faults} {may_give} {limit} {before} {middle} {after} {from} {between} {to} {source} {source_now} {old} {held} {new} {start} {stop} {now}
@@ -132,7 +132,7 @@ ends_at_last {D} {faults} {may_give} {limit} {before} {middle} {after} {from} {b
     let by_end : Ends stopped = λ quiet. ends_by stopped reads.line [] so_far few answers (taken_last so_far.read reads) quiet in
     subst Ends same by_end quiet
 
--- The batch ends where the source does.
+-- The batch ends with its source.
 pub ends_at_end : {D : Type 0} {faults : D → ℕ} {may_give : ℤ → Type 0} {limit : ℕ} {before after : DeskState D} {from between to : Option Stream} {source source_now : Count}
     {old new : Option (List ℕ)} {sink sink_now : Count} {reading next_reading : ReaderState} {number : ℕ} →
     (so_far : SoFar faults may_give limit before after from between source old new sink reading number) → number ≤ MOST_LINES →
@@ -155,7 +155,7 @@ ends_too_long {reading = reading} so_far few reads source_quiet sink_quiet =
     ends in_hand so_far (omega (arith, few)) (taken_on reads.taken so_far.read reads.moved) (so_far.goes_on, inr too_many, so_far.next)
     (λ quiet. (source_quiet, sink_quiet))
 
--- The batch ends where the source fails.
+-- The batch ends because the source fails.
 pub ends_at_fault : {D : Type 0} {faults : D → ℕ} {may_give : ℤ → Type 0} {limit : ℕ} {before after : DeskState D} {from between to : Option Stream} {start stop now : ℕ}
     {old new : Option (List ℕ)} {sink sink_now : Count} {reading : ReaderState} {number : ℕ} →
     (so_far : SoFar faults may_give limit before after from between (counts start stop) old new sink reading number) → number ≤ MOST_LINES + 1 →
@@ -165,7 +165,7 @@ ends_at_fault {start = start} {stop = stop} {now = now} {reading = reading} so_f
     ends (reading.in_hand ++ more) so_far few (taken_on more so_far.read moved) (inl (risen_since start stop now so_far.source_quiet rose))
     (λ other. absurd (other refl))
 
--- The batch ends at the line after as many as there may be.
+-- The batch ends at the line after the most that it may have.
 pub ends_too_many : {D : Type 0} {faults : D → ℕ} {may_give : ℤ → Type 0} {limit : ℕ} {before after : DeskState D} {from between to : Option Stream} {source source_now : Count}
     {old new : Option (List ℕ)} {sink sink_now : Count} {reading : ReaderState} {number : ℕ} →
     (so_far : SoFar faults may_give limit before after from between source old new sink reading number) → number ≡ MOST_LINES + 1 →
@@ -176,7 +176,7 @@ ends_too_many {reading = reading} so_far all more moved some source_quiet sink_q
     ends (reading.in_hand ++ more) so_far (omega (arith, all)) (taken_on more so_far.read moved)
     (so_far.goes_on, inl (as_many, some), sym all ∙ so_far.next) (λ quiet. (source_quiet, sink_quiet))
 
--- The batch ends where the source does, after as many lines as there may be.
+-- The batch ends with its source, after the most lines that it may have.
 pub ends_at_most : {D : Type 0} {faults : D → ℕ} {may_give : ℤ → Type 0} {limit : ℕ} {before after : DeskState D} {from between to : Option Stream} {source source_now : Count}
     {old new : Option (List ℕ)} {sink sink_now : Count} {reading : ReaderState} {number : ℕ} →
     (so_far : SoFar faults may_give limit before after from between source old new sink reading number) → number ≡ MOST_LINES + 1 →
@@ -186,12 +186,12 @@ ends_at_most {reading = reading} so_far all moved nothing at_end source_quiet si
     ends (reading.in_hand ++ []) so_far (omega (arith, all)) (taken_on [] so_far.read moved)
     (inl (so_far.goes_on, append-nil reading.in_hand ∙ nothing, at_end)) (λ quiet. (source_quiet, sink_quiet))
 
--- where the last line is answered, the batch doesn't go on
+-- if the last line is answered, the batch doesn't continue
 pub or_done : (answered : Option BatchEnd) → option_or answered (Some Done) ≡ None → ⊥
 or_done None goes_on = cc
 or_done (Some end) goes_on = cc
 
--- and it ends as the answer says, where that ends it
+-- and it ends as the answer says, if that ends it
 pub or_failed : (answered : Option BatchEnd) (end : BatchEnd) → option_or answered (Some Done) ≡ Some end → answered ≡ Some Failed → end ≡ Failed
 or_failed None end is failed = cc
 or_failed (Some other) end is failed = cc

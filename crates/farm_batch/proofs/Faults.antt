@@ -5,7 +5,7 @@ use Rattle.farm_history.specs.declared.ask.Ask.TheVariants.{Do, Look}
 use Rattle.farm_history.specs.History.{History}
 use Rattle.farm_http.specs.Requests.{ask_of_line}
 use Rattle.farm_http.specs.declared.page.Page.{Page}
-use Rattle.batch_lines.specs.declared.limits.TheConstants.{LONGEST_LINE}
+use Rattle.batch_lines.specs.declared.limits.TheConstants.{MOST_REQUEST_LINE_BYTES}
 use Rattle.farm_batch.specs.LineAnswers.{FaultsAsk, answer_to, disk_fault, faults_on_page, line_answer, line_too_long, out_of_memory, unasked}
 
 -- a page that counts no fault isn't a fault of the disk
@@ -15,7 +15,7 @@ none_counted page none same = let no : 0 ≡ 1 = sym none ∙ ap faults_on_page 
 -- what is meant for a line counts no fault
 meant_counts_none : (limit : ℕ) (history : History) (now : ℤ) (line : List ℕ) → faults_on_page (line_answer limit history now line).page ≡ 0
 unfolding line_answer
-meant_counts_none limit history now line = by (nat_lt LONGEST_LINE (length line)) (ask_of_line line)
+meant_counts_none limit history now line = by (nat_lt MOST_REQUEST_LINE_BYTES (length line)) (ask_of_line line)
   where
     by : (long : Bool) (ask : Option Ask) →
         faults_on_page (if long then unasked history line_too_long else answer_to limit history now ask).page ≡ 0

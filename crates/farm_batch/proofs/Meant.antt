@@ -1,4 +1,4 @@
--- What an answer has to be so that it meets the one that is meant.
+-- What an answer has to be to meet the one that is meant.
 use Rattle.std.proofs.Common.{◌≡◌, ◌⊎◌, inl, inr, ℕ, ◌<◌, nat_lt, Bool, true, false, cond, ◌&&◌, List, [], ◌∷◌, length, length-append, Option, None, Some, ℤ, refl, sym, ap, subst, ◌∙◌, arith}
 use Rattle.std.proofs.lemmas.Bool.{le-ltb, lt-ltb}
 use Rattle.journaled_book.specs.Replies.{IsAnswered}
@@ -17,7 +17,7 @@ use Rattle.farm_http.specs.Requests.{ask_of_line}
 use Rattle.farm_http.specs.declared.page.Page.{Page}
 use Rattle.farm_http.specs.declared.page.Page.TheVariants as pages
 use Rattle.batch_lines.specs.Reader.{kept}
-use Rattle.batch_lines.specs.declared.limits.TheConstants.{LONGEST_LINE}
+use Rattle.batch_lines.specs.declared.limits.TheConstants.{MOST_REQUEST_LINE_BYTES}
 use Rattle.farm_batch.specs.declared.limits.TheConstants.{BATCH_CALLER}
 use Rattle.farm_batch.specs.LineAnswers.{AsksNothing, LineAnswer, MeetsLine, answer_to, disk_fault, is_accepted_stop, is_stop_ask, line_answer, line_too_long, out_of_memory, unasked}
 
@@ -32,17 +32,17 @@ pub meets : (line : List ℕ) (before after : History) (meant : LineAnswer) (pag
     MeetsLine line before after meant page stops
 meets line before after meant page stops is = inl (record { page = is.page_is; history = is.history_is; stops = is.stops_is })
 
--- what stands in place of an answer where there was no memory meets it
+-- what replaces an answer if there was no memory meets it
 pub meets_memory : (line : List ℕ) (before after : History) (meant : LineAnswer) → (after ≡ before) ⊎ (after ≡ meant.history) →
     MeetsLine line before after meant out_of_memory false
 meets_memory line before after meant left = inr (inl (record { page_is = refl; history = left; stops = refl }))
 
--- so does what stands where the disk failed, of a line that asks something
+-- so does what replaces it if the disk failed, of a line that asks something
 pub meets_fault : (line : List ℕ) (before after : History) (meant : LineAnswer) → (after ≡ before) ⊎ (after ≡ meant.history) → ¬ (AsksNothing line) →
     MeetsLine line before after meant disk_fault false
 meets_fault line before after meant left asks = inr (inr (record { page_is = refl; history = left; stops = refl }, asks))
 
--- the history that an answer left has more entries exactly where its command was accepted
+-- the history that an answer left has more entries if and only if its command was accepted
 grown_where_accepted : (history after : History) (entry : Entry) (judged : Verdict) → after ≡ (answered_on history entry judged).history →
     nat_lt (last_place history) (last_place after) ≡ is_accepted judged
 grown_where_accepted history after entry verdicts.Accept is =
@@ -58,7 +58,7 @@ stops_so : (stop grown judged : Bool) → grown ≡ judged → (stop && grown) �
 stops_so true grown judged is = is
 stops_so false grown judged is = refl
 
--- a request is a Stop that is accepted exactly where it is a Stop and the history has grown
+-- a request is a Stop that is accepted if and only if it is a Stop and the history has grown
 entered_stop : (limit : ℕ) (before after : History) (now : ℤ) (ask : Ask) → after ≡ (desk_answer limit before BATCH_CALLER now ask).history →
     (is_stop_ask ask && nat_lt (last_place before) (last_place after)) ≡ is_accepted_stop limit before now ask
 unfolding desk_answer
@@ -93,14 +93,14 @@ pub answered_as : (limit : ℕ) (history : History) (now : ℤ) (line text : Lis
     line_answer limit history now line ≡ answer_to limit history now asked
 unfolding line_answer
 answered_as limit history now line text asked kept_is asks =
-    let whole = kept_whole (nat_lt LONGEST_LINE (length line)) line text kept_is in
+    let whole = kept_whole (nat_lt MOST_REQUEST_LINE_BYTES (length line)) line text kept_is in
     ap (λ long. cond long (unasked history line_too_long) (answer_to limit history now (ask_of_line line))) whole.0
     ∙ ap (λ line. answer_to limit history now (ask_of_line line)) (sym whole.1) ∙ ap (answer_to limit history now) asks
 
 -- a line that isn't too long, and is a request, asks something
 pub asks_something : (line text : List ℕ) (ask : Ask) → kept line ≡ Some text → ask_of_line text ≡ Some ask → ¬ (AsksNothing line)
 asks_something line text ask kept_is asks nothing =
-    let whole = kept_whole (nat_lt LONGEST_LINE (length line)) line text kept_is in
+    let whole = kept_whole (nat_lt MOST_REQUEST_LINE_BYTES (length line)) line text kept_is in
     let asked : ask_of_line line ≡ Some ask = ap ask_of_line (sym whole.1) ∙ asks in
     elim nothing [
       | inl long ↦ let no : false ≡ true = sym whole.0 ∙ long in cc
@@ -112,7 +112,7 @@ pub answered_too_long : (limit : ℕ) (history : History) (now : ℤ) (line : Li
     line_answer limit history now line ≡ unasked history line_too_long
 unfolding line_answer
 answered_too_long limit history now line kept_is =
-    let long = not_kept (nat_lt LONGEST_LINE (length line)) line kept_is in
+    let long = not_kept (nat_lt MOST_REQUEST_LINE_BYTES (length line)) line kept_is in
     ap (λ long. cond long (unasked history line_too_long) (answer_to limit history now (ask_of_line line))) long
 
 -- what meets an answer meets an equal one

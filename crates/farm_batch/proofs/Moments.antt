@@ -17,7 +17,7 @@ use Rattle.farm_history.specs.Rules.{broken_rule, history_full, is_full, is_repe
 use Rattle.farm_history.specs.Verdicts.{is_accepted, refused_or_accepted, repeated_or, verdict}
 use Rattle.farm_http.specs.Requests.{ask_of_line}
 use Rattle.farm_http.specs.declared.page.Page.TheVariants as pages
-use Rattle.batch_lines.specs.declared.limits.TheConstants.{LONGEST_LINE}
+use Rattle.batch_lines.specs.declared.limits.TheConstants.{MOST_REQUEST_LINE_BYTES}
 use Rattle.farm_batch.specs.declared.limits.TheConstants.{BATCH_CALLER}
 use Rattle.farm_batch.proofs.Timeless.{place_of_image, without_moment, without_moments}
 use Rattle.farm_batch.proofs.TimelessRules.{same_by_command, same_look, same_reply}
@@ -27,7 +27,7 @@ use Rattle.farm_batch.specs.LineAnswers.{LineAnswer, answer_to, line_answer, lin
 abbrev pub without_clock : LineAnswer → LineAnswer
 without_clock answer = record { page = answer.page; history = without_moments answer.history; stops = answer.stops }
 
--- whether the key stands in the history doesn't depend on the moments
+-- whether the history has the key doesn't depend on the moments
 same_keys : (history : History) (entry : Entry) → key_reused (without_moments history) (without_moment entry) ≡ key_reused history entry
 unfolding key_reused
 same_keys history entry = ap (option_map KeyReused) (place_of_image without_moment (has_same_key entry) 1 history.entries)
@@ -126,7 +126,7 @@ same_answer_to limit first second now later (Some (Look query)) same =
 pub same_answer : (limit : ℕ) (first second : History) (now later : ℤ) (line : List ℕ) → without_moments first ≡ without_moments second →
     without_clock (line_answer limit first now line) ≡ without_clock (line_answer limit second later line)
 unfolding line_answer
-same_answer limit first second now later line same = by (nat_lt LONGEST_LINE (length line)) (ask_of_line line)
+same_answer limit first second now later line same = by (nat_lt MOST_REQUEST_LINE_BYTES (length line)) (ask_of_line line)
   where
     by : (long : Bool) (ask : Option Ask) →
         without_clock (if long then unasked first line_too_long else answer_to limit first now ask)

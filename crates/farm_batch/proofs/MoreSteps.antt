@@ -34,13 +34,13 @@ pub history_after-more : (before : History) (steps : List Step) (step : Step) �
 history_after-more before [] step = refl
 history_after-more before (first ∷ steps) step = history_after-more first.history steps step
 
--- steps of which none ended the batch, and a step after them that didn't either
+-- steps none of which ended the batch, and a step after them that didn't either
 pub goes_on-more : (steps : List Step) (step : Step) → GoesOn steps → step.stops ≡ false → GoesOn (steps ++ step ∷ [])
 goes_on-more steps step on is =
     let Ends : Step → Type 0 = λ step. step.stops ≡ false in
     All-append Ends steps (step ∷ []) on (All-cons Ends step [] is (All-nil Ends))
 
--- steps of which none ended the batch were answered one after another, and one more after them
+-- steps none of which ended the batch were answered one after another, and one more after them
 pub answers_more : (may_give : ℤ → Type 0) (limit : ℕ) (before : History) (steps : List Step) (step : Step) → AnswersEach may_give limit before steps →
     GoesOn steps → AnswersLine may_give limit (history_after before steps) step → AnswersEach may_give limit before (steps ++ step ∷ [])
 answers_more may_give limit before [] step each on line = (line, inr refl, tt)
@@ -59,7 +59,7 @@ counted_more steps step before middle after first second =
     second ∙ ap (λ count. raised (faults_on_page step.page) count) first ∙ sym (faults_add_up (faults_in steps) (faults_on_page step.page) before)
     ∙ ap (λ count. raised count before) (sym (faults_in-more steps step))
 
--- steps whose replies rest on as many entries, and one more, where there may be more entries
+-- steps whose replies rest on as many entries, and one more, if there may be more entries
 pub acknowledged_more : (most more : ℕ) (steps : List Step) (step : Step) → most ≤ more → AreAcknowledged most steps →
     (IsReply step.page → last_place step.history ≤ more) → AreAcknowledged more (steps ++ step ∷ [])
 acknowledged_more most more steps step fewer each last =
@@ -67,7 +67,7 @@ acknowledged_more most more steps step fewer each last =
     (All-weaker (λ (step : Step). IsReply step.page → last_place step.history ≤ most) (λ (step : Step). IsReply step.page → last_place step.history ≤ more)
     (λ step holds reply. omega (arith, holds reply, fewer)) steps each) last
 
--- where none of these lines asks anything, neither did those before nor the last one
+-- if none of these lines asks anything, neither did those before nor the last one
 pub ask_nothing_more : (steps : List Step) (step : Step) → All AsksNothing (lines_of (steps ++ step ∷ [])) → All AsksNothing (lines_of steps) × AsksNothing step.line
 ask_nothing_more steps step nothing =
     All-pop AsksNothing (lines_of (steps ++ step ∷ [])) (lines_of steps) (Some step.line) (lines_of-more steps step) nothing

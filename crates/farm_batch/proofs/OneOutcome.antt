@@ -50,13 +50,13 @@ long_after : (limit : ℕ) (history : History) (lines : List (List ℕ)) (text m
 long_after limit history lines text more (inl many) = long_after_lines limit history (length lines) (length (ended lines)) text more many.0 many.1
 long_after limit history lines text more (inr many) = long_after_bytes limit history (length lines) (length (ended lines)) text more many
 
--- where there are no bytes, no byte is one too many
+-- if there are no bytes, no byte is one too many
 no_byte : (before : ℕ) → ¬ (HasByteTooMany before [])
 no_byte before many =
     let none : length {A = ℕ} [] ≡ length (many.front ++ many.byte ∷ many.back) = ap length many.split in
     omega (arith, length-append many.front (many.byte ∷ many.back))
 
--- nothing is too much where there is nothing
+-- without bytes nothing is too much
 not_too_much : (lines : List (List ℕ)) → ¬ (IsTooMuch lines [])
 not_too_much lines (inl many) = many.1 refl
 not_too_much lines (inr many) = no_byte (length (ended lines)) many

@@ -11,13 +11,13 @@ use Rattle.farm_batch.proofs.Moments.{same_answer}
 use Rattle.farm_batch.proofs.Timeless.{without_moments}
 use Rattle.farm_batch.proofs.WithinLimits.{EndsAfter, Fits}
 
--- a step has the page of an answer, and ends the batch where that does; the histories that they leave differ in moments at most
+-- a step has the page of an answer, and ends the batch if that does; the histories that they leave differ in moments at most
 record IsStepOf (answer : LineAnswer) (step : Step) : Type 0 where
   page : answer.page ≡ step.page
   history : without_moments step.history ≡ without_moments answer.history
   stops : answer.stops ≡ step.stops
 
--- where it was answered, a step has the answer at moment 0 after a history that differs in moments at most
+-- if it was answered, a step has the answer at moment 0 after a history that differs in moments at most
 step_of : (may_give : ℤ → Type 0) (limit : ℕ) (before history : History) (step : Step) → without_moments before ≡ without_moments history →
     AnswersLine may_give limit before step → (step.page ≢ out_of_memory) × (step.page ≢ disk_fault) →
     IsStepOf (line_answer limit history (pos 0) step.line) step
@@ -44,7 +44,7 @@ outcome_of_line : (limit : ℕ) (history : History) (lines passed : ℕ) (part :
 unfolding outcome_from
 outcome_of_line limit history lines passed part parts some within = rw (some, within) refl
 
--- an answer that goes on is printed before what comes after it
+-- an answer that doesn't end the batch is printed before what comes after it
 printed_on : (answer : LineAnswer) (step : Step) (later : Outcome) (text : List ℕ) (end : BatchEnd) → IsStepOf answer step → step.stops ≡ false →
     later ≡ record { text = text; end = end } → printed_before answer later ≡ record { text = answer_text step.page ++ text; end = end }
 printed_on answer step later text end is goes_on rest =
@@ -63,7 +63,7 @@ abbrev pub EndsSo : ℕ → BatchEnd → ℕ → ℕ → List Step → List (Lis
 EndsSo limit end lines passed steps more =
     (GoesOn steps × EndsAfter limit end lines passed (lines_of steps) more) ⊎ (EndsInStop steps × (end ≡ Done))
 
--- after a step the batch goes on, or it is done and that step was the last one
+-- after a step the batch continues, or it is done and that step was the last one
 abbrev After : ℕ → BatchEnd → ℕ → ℕ → Step → List Step → List (List ℕ) → Type 0
 After limit end lines passed step steps more =
     ((step.stops ≡ false) × EndsSo limit end (lines + 1) (passed + size_of step.line (lines_of steps ++ more)) steps more)
@@ -74,7 +74,7 @@ ends_nowhere : {A : Type 0} (front : List A) (last : A) → [] ≢ front ++ last
 ends_nowhere [] last = λ same. cc
 ends_nowhere (item ∷ front) last = λ same. cc
 
--- where the last of some steps ended the batch, it went on after the first one, or that was the last one
+-- if the last of some steps ended the batch, it continued after the first one, or that was the last one
 after_stop : (limit : ℕ) (end : BatchEnd) (lines passed : ℕ) (step : Step) (steps : List Step) (more : List (List ℕ)) →
     (front : List Step) (last : Step) → step ∷ steps ≡ front ++ last ∷ [] → last.stops ≡ true → ((step.stops ≡ false) ⊎ (steps ≡ [])) → end ≡ Done →
     After limit end lines passed step steps more

@@ -12,13 +12,13 @@ use Rattle.farm_http.specs.declared.page.Page.TheVariants as pages
 use Rattle.farm_batch.specs.declared.batch.BatchEnd.{BatchEnd}
 use Rattle.farm_batch.specs.declared.batch.BatchEnd.TheVariants.{Done, Failed}
 use Rattle.farm_batch.specs.LineAnswers.{AsksNothing, IsReply, LineAnswer, MeetsLine, Step, answer_text, disk_fault, faults_on_page, line_answer, out_of_memory}
-use Rattle.farm_batch.specs.Batches.{Answers, MayBePut, PutsPage, PutsStep}
+use Rattle.farm_batch.specs.Batches.{AnswersOneLine, MayBePut, PutsPage, PutsStep}
 
 -- the step of a line
 abbrev step_of : List ℕ → Page → History → Bool → Step
 step_of line page history stops = record { line = line; page = page; history = history; stops = stops }
 
--- out of memory may stand in the place of each answer
+-- out of memory may replace each answer
 lacking : (line : List ℕ) (before after : History) (meant : LineAnswer) (page : Page) (stops : Bool) → MeetsLine line before after meant page stops →
     MeetsLine line before after meant out_of_memory false
 lacking line before after meant page stops meets = elim meets [
@@ -38,7 +38,7 @@ no_fault (pages.Status status None) other = elim (cases_Bool (status == 503)) [
   | inr other ↦ rw other refl
 ]
 
--- a count that rose by the faults of such a page stands as it was
+-- a count that rose by the faults of such a page stays as it was
 not_counted : (page : Page) (before now : ℕ) → page ≢ disk_fault → now ≡ raised (faults_on_page page) before → now ≡ before
 not_counted page before now other is = is ∙ ap (λ count. raised count before) (no_fault page other)
 
@@ -54,7 +54,7 @@ module _ {D : Type 0} (faults : D → ℕ) (may_give : ℤ → Type 0) (limit : 
       after.failed ≡ raised (faults_on_page page) before.failed → DiskCounted page →
       (IsReply page → last_place after.history ≤ certain after.doubt after.history) →
       (end : Option BatchEnd) → PutsStep (step_of line page after.history stops) old new sink end →
-      Answers faults may_give limit before after line old new sink end
+      AnswersOneLine faults may_give limit before after line old new sink end
   answers page stops meets counted disk_counted acknowledged end puts = record {
     step = step_of line page after.history stops;
     line_is = refl;
@@ -72,28 +72,28 @@ module _ {D : Type 0} (faults : D → ℕ) (may_give : ℤ → Type 0) (limit : 
       (counted : after.failed ≡ raised (faults_on_page page) before.failed) (disk_counted : DiskCounted page)
       (acknowledged : IsReply page → last_place after.history ≤ certain after.doubt after.history) where
     -- an answer that was put whole ends the batch
-    pub ends : Adds old new (answer_text page) → stops ≡ true → Answers faults may_give limit before after line old new sink (Some Done)
+    pub ends : Adds old new (answer_text page) → stops ≡ true → AnswersOneLine faults may_give limit before after line old new sink (Some Done)
     ends added is = answers page stops meets counted disk_counted acknowledged (Some Done) (is, added)
 
     -- or the batch continues after it
-    pub goes_on : Adds old new (answer_text page) → stops ≡ false → Answers faults may_give limit before after line old new sink None
+    pub goes_on : Adds old new (answer_text page) → stops ≡ false → AnswersOneLine faults may_give limit before after line old new sink None
     goes_on added is = answers page stops meets counted disk_counted acknowledged None (is, added)
 
     -- what out of memory in place of an answer is, whatever was put
     lacks : page ≢ disk_fault → (end : Option BatchEnd) → PutsStep (step_of line out_of_memory after.history false) old new sink end →
-        Answers faults may_give limit before after line old new sink end
+        AnswersOneLine faults may_give limit before after line old new sink end
     lacks other end puts =
         answers out_of_memory false (lacking line before.history after.history _ page stops meets)
         (not_counted page before.failed after.failed other counted) (not_counted page (faults before.disk) (faults after.disk) other disk_counted)
         (λ reply. absurd reply) end puts
 
     -- the batch continues after out of memory was put in place of an answer
-    pub lacks_memory : page ≢ disk_fault → Adds old new (answer_text out_of_memory) → Answers faults may_give limit before after line old new sink None
+    pub lacks_memory : page ≢ disk_fault → Adds old new (answer_text out_of_memory) → AnswersOneLine faults may_give limit before after line old new sink None
     lacks_memory other added = lacks other None (refl, added)
 
     -- a put of the answer, or of out of memory in its place, failed
     pub fails : (shown : Page) → MayBePut page shown → (count : ℕ) → Adds old new (take count (answer_text shown)) → HasRisen sink →
-        Answers faults may_give limit before after line old new sink (Some Failed)
+        AnswersOneLine faults may_give limit before after line old new sink (Some Failed)
     fails shown which count added risen =
         let Puts : Page → Type 0 = λ page. Adds old new (take count (answer_text page)) in
         elim which [

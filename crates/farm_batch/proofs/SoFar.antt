@@ -1,4 +1,4 @@
--- A batch so far, and how it goes on.
+-- A batch so far, and how it continues.
 use Rattle.std.proofs.Common.{◌≡◌, ℕ, ◌+◌, ◌≤◌, All, false, List, [], ◌∷◌, ◌++◌, length, Option, None, ℤ, refl, sym, ap, subst, ◌∙◌, arith}
 use Rattle.std.proofs.lemmas.List.Elements.{All-nil}
 use Rattle.farm_base.proofs.Known.{adds_none}
@@ -11,11 +11,11 @@ use Rattle.farm_desk.specs.States.{DeskState}
 use Rattle.farm_history.specs.History.{History, last_place}
 use Rattle.farm_batch.specs.declared.batch.BatchEnd.{BatchEnd}
 use Rattle.farm_batch.specs.LineAnswers.{AnswersEach, AnswersLine, AreAcknowledged, AsksNothing, IsReply, Step, answer_text, answers_text, faults_in, history_after}
-use Rattle.farm_batch.specs.Batches.{Answers, GoesOn, lines_of}
+use Rattle.farm_batch.specs.Batches.{AnswersOneLine, GoesOn, lines_of}
 use Rattle.farm_batch.proofs.MoreSteps.{acknowledged_more, answers_more, answers_text-more, ask_nothing_more, counted_more, goes_on-more, history_after-more, length-more, lines_of-more}
 use Rattle.farm_batch.proofs.Taken.{IsRead, read_line, read_none}
 
--- The batch so far: the lines that were asked, of which none ended it, what was read and what was put. The line of this number is next.
+-- The batch so far: the lines that were asked, none of which ended it, what was read and what was put. The line of this number is next.
 pub record SoFar {D : Type 0} (faults : D → ℕ) (may_give : ℤ → Type 0) (limit : ℕ) (before after : DeskState D) (from to : Option Stream) (source : Count)
     (old new : Option (List ℕ)) (sink : Count) (reading : ReaderState) (number : ℕ) : Type 0 where
   pub steps : List Step
@@ -71,7 +71,7 @@ pub record WithStep {D : Type 0} (faults : D → ℕ) (may_give : ℤ → Type 0
 pub with_step : {D : Type 0} {faults : D → ℕ} {may_give : ℤ → Type 0} {limit : ℕ} {before middle after : DeskState D} {from between : Option Stream} {source : Count}
     {old held new : Option (List ℕ)} {sink sink_step : Count} {reading : ReaderState} {number : ℕ} {line : List ℕ} {end : Option BatchEnd} →
     (so_far : SoFar faults may_give limit before middle from between source old held sink reading number) →
-    (answers : Answers faults may_give limit middle after line held new sink_step end) →
+    (answers : AnswersOneLine faults may_give limit middle after line held new sink_step end) →
     WithStep faults may_give limit before after so_far.steps answers.step line
 with_step {D} {faults} {may_give} {limit} {before} {middle} {after} {from} {between} {source} {old} {held} {new} {sink} {sink_step} {reading} {number} {line} {end}
     so_far answers =
@@ -108,7 +108,7 @@ pub goes_on : {D : Type 0} {faults : D → ℕ} {may_give : ℤ → Type 0} {lim
     {source source_now : Count} {old held new : Option (List ℕ)} {sink sink_step sink_now : Count} {reading next_reading : ReaderState} {number : ℕ} →
     (so_far : SoFar faults may_give limit before middle from between source old held sink reading number) →
     (reads : ReadsLine reading next_reading between to) →
-    Answers faults may_give limit middle after reads.line held new sink_step None → IsQuiet source_now → IsQuiet sink_now →
+    AnswersOneLine faults may_give limit middle after reads.line held new sink_step None → IsQuiet source_now → IsQuiet sink_now →
     SoFar faults may_give limit before after from to source_now old new sink_now next_reading (number + 1)
 goes_on {D} {faults} {may_give} {limit} {before} {middle} {after} {from} {between} {to} {source} {source_now} {old} {held} {new} {sink} {sink_step} {sink_now}
     {reading} {next_reading} {number} so_far reads answers source_quiet sink_quiet =

@@ -40,7 +40,7 @@ read_none from reading in_hand passed =
 one_line_more : (lines : List (List ℕ)) (line : List ℕ) → All IsOneLine lines → IsOneLine line → All IsOneLine (lines ++ line ∷ [])
 one_line_more lines line each is = All-append IsOneLine lines (line ∷ []) each (All-cons IsOneLine line [] is (All-nil IsOneLine))
 
--- what begins with lines and a part of one more begins with them and that one, where the rest of it follows
+-- what begins with lines and a part of one more begins with them and that one, if the rest of it follows
 begins_more : (text more : List ℕ) (lines : List (List ℕ)) (rest line after : List ℕ) → BeginsWith text lines rest → IsOneLine line →
     rest ++ more ≡ line ++ LINE_FEED ∷ after → BeginsWith (text ++ more) (lines ++ line ∷ []) after
 begins_more text more lines rest line after begins is follows =
@@ -51,7 +51,7 @@ begins_more text more lines rest line after begins is follows =
       one_line = one_line_more lines line begins.one_line is;
     }
 
--- a line more is as long as the line and its line feed
+-- one more line is as long as the line and its line feed
 length-ended-more : (lines : List (List ℕ)) (line : List ℕ) → length (ended (lines ++ line ∷ [])) ≡ length (ended lines) + length line + 1
 length-ended-more lines line =
     let more = ap length (ended-more lines line) in

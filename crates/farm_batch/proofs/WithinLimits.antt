@@ -10,7 +10,7 @@ use Rattle.farm_batch.specs.declared.limits.TheConstants.{MOST_LINES}
 use Rattle.farm_batch.specs.Outcomes.{ends_here, is_no_line, is_too_much, outcome_from, size_of}
 use Rattle.farm_batch.proofs.LineParts.{size_before, some_before, some_line}
 
--- where this many lines and bytes are before them, these parts are lines within the limits, and other parts follow them
+-- if this many lines and bytes are before them, these parts are lines within the limits, and other parts follow them
 abbrev pub Fits : ℕ → ℕ → List (List ℕ) → List (List ℕ) → Type 0
 Fits lines passed [] more = Unit {0}
 Fits lines passed (line ∷ later) more =
@@ -22,7 +22,7 @@ abbrev pub EndsAfter : ℕ → BatchEnd → ℕ → ℕ → List (List ℕ) → 
 EndsAfter limit end lines passed [] more = (history : History) → outcome_from limit history lines passed more ≡ ends_here end
 EndsAfter limit end lines passed (line ∷ later) more = EndsAfter limit end (lines + 1) (passed + size_of line (later ++ more)) later more
 
--- a line isn't too much where fewer lines than may be are before it, and not more bytes than may be with it
+-- a line isn't too much if fewer lines than may be are before it, and not more bytes than may be with it
 within_limits : (lines passed size : ℕ) → lines + 1 ≤ MOST_LINES → passed + size ≤ MOST_BYTES → is_too_much lines passed size ≡ false
 within_limits lines passed size few short =
     let less : lines ≢ MOST_LINES = omega arith in
@@ -36,7 +36,7 @@ ended_more line later = omega (arith, length-append (line ++ LINE_FEED ∷ []) (
 some_after : (later : List (List ℕ)) (next : List ℕ) (others : List (List ℕ)) → 0 < length (later ++ next ∷ others)
 some_after later next others = omega (arith, length-append later (next ∷ others))
 
--- lines that line feeds end are within the limits where all their bytes are
+-- lines that line feeds end are within the limits if all their bytes are
 pub ended_fit : (lines passed : ℕ) (items : List (List ℕ)) (next : List ℕ) (others : List (List ℕ)) →
     lines + length items ≤ MOST_LINES → passed + length (ended items) ≤ MOST_BYTES → Fits lines passed items (next ∷ others)
 ended_fit lines passed [] next others few short = tt
@@ -49,7 +49,7 @@ ended_fit lines passed (line ∷ later) next others few short =
       ended_fit (lines + 1) (passed + size_of line (later ++ next ∷ others)) later next others (omega arith) (omega arith),
     )
 
--- lines of which the last one has no line feed after it are within the limits where all their bytes are
+-- lines whose last one has no line feed after it are within the limits if all their bytes are
 pub last_fits : (lines passed : ℕ) (front : List (List ℕ)) (last : List ℕ) → last ≢ [] →
     lines + length front + 1 ≤ MOST_LINES → passed + length (ended front) + length last ≤ MOST_BYTES → Fits lines passed (front ++ last ∷ []) []
 last_fits lines passed [] last filled few short =

@@ -14,8 +14,8 @@ use Rattle.batch_lines.specs.Limits.{most_bytes}
 use Rattle.batch_lines.specs.Lines.{BeginsWith, EndsWithin, HasByteTooMany, ended}
 use Rattle.batch_lines.specs.Reader.{AtEnd}
 
--- What follows these lines begins a line that isn't read any more: as many lines as may be stand before it, or it holds a byte
--- before which as many bytes stand as may be, line feeds counted.
+-- What follows these lines begins a line that isn't read any more: the most lines that may be asked precede it, or it holds a byte
+-- after the most bytes that may be read, line feeds counted.
 abbrev pub IsTooMuch : List (List ℕ) → List ℕ → Type 0
 IsTooMuch lines rest = ((length lines ≡ most_lines) × (rest ≢ [])) ⊎ HasByteTooMany (length (ended lines)) rest
 
@@ -23,7 +23,7 @@ IsTooMuch lines rest = ((length lines ≡ most_lines) × (rest ≢ [])) ⊎ HasB
 abbrev pub lines_of : List Step → List (List ℕ)
 lines_of steps = map (λ step. step.line) steps
 
--- These are the first lines of what was taken, and the rest is in hand. No line feed is after the last one only where nothing is in
+-- These are the first lines of what was taken, and the rest is in hand. The last one may lack its line feed only if nothing is in
 -- hand and nothing is left.
 abbrev pub TakesLines : List ℕ → List ℕ → Option Stream → List (List ℕ) → Type 0
 TakesLines taken in_hand to lines = BeginsWith taken lines in_hand ⊎ ((in_hand ≡ []) × AtEnd to × EndsWithin taken lines)
@@ -43,7 +43,7 @@ GoesOn steps = All (λ step. step.stops ≡ false) steps
 abbrev pub AskedAll : List ℕ → Option Stream → List Step → Type 0
 AskedAll in_hand to steps = (GoesOn steps × (in_hand ≡ []) × AtEnd to) ⊎ EndsInStop steps
 
--- how a batch ended: done with its lines, at a line too many by its number, or where a port failed
+-- how a batch ended: done with its lines, at a line too many by its number, or because a port failed
 abbrev pub EndsAs : List ℕ → Option Stream → List Step → Count → Count → BatchEnd → Type 0
 EndsAs in_hand to steps source sink Done = AskedAll in_hand to steps
 EndsAs in_hand to steps source sink (Long number) = GoesOn steps × IsTooMuch (lines_of steps) in_hand × (number ≡ length steps + 1)
@@ -63,9 +63,9 @@ pub record Batch {D : Type 0} (faults : D → ℕ) (may_give : ℤ → Type 0) (
   pub disk_counted : faults after.disk ≡ raised (faults_in steps) (faults before.disk)
   -- no reply rests on an entry that is in doubt at the end
   pub acknowledged : AreAcknowledged (certain after.doubt after.history) steps
-  -- where no line asks anything, the desk stays as it was
+  -- if no line asks anything, the desk stays as it was
   pub untouched : All AsksNothing (lines_of steps) → after ≡ before
-  -- the answers were put whole, but for the last one where a put failed
+  -- the answers were put whole, but for the last one if a put failed
   pub put : Adds old new (answers_text steps) ⊎ ((end ≡ Failed) × HasRisen sink × (bytes : List ℕ) × IsCutAtLast steps bytes × Adds old new bytes)
   pub ends : EndsAs in_hand to steps source sink end
   pub quiet : end ≢ Failed → IsQuiet source × IsQuiet sink
@@ -80,7 +80,7 @@ PutsPage page old new (Ok true) = Adds old new (answer_text page)
 PutsPage page old new (Ok false) = (page ≢ disk_fault) × Adds old new (answer_text out_of_memory)
 PutsPage page old new (Err e) = (shown : Page) × MayBePut page shown × (count : ℕ) × Adds old new (take count (answer_text shown))
 
--- what was put of a line's answer, by how the batch ends with it, or that it goes on
+-- what was put of a line's answer, by how the batch ends with it, or that it continues
 abbrev pub PutsStep : Step → Option (List ℕ) → Option (List ℕ) → Count → Option BatchEnd → Type 0
 PutsStep step old new sink None = (step.stops ≡ false) × Adds old new (answer_text step.page)
 PutsStep step old new sink (Some Done) = (step.stops ≡ true) × Adds old new (answer_text step.page)
@@ -88,7 +88,7 @@ PutsStep step old new sink (Some (Long number)) = ⊥
 PutsStep step old new sink (Some Failed) = HasRisen sink × (count : ℕ) × Adds old new (take count (answer_text step.page))
 
 -- a line was asked, from a desk to a desk, and answered
-pub record Answers {D : Type 0} (faults : D → ℕ) (may_give : ℤ → Type 0) (limit : ℕ) (before after : DeskState D) (line : List ℕ) (old new : Option (List ℕ)) (sink : Count)
+pub record AnswersOneLine {D : Type 0} (faults : D → ℕ) (may_give : ℤ → Type 0) (limit : ℕ) (before after : DeskState D) (line : List ℕ) (old new : Option (List ℕ)) (sink : Count)
     (end : Option BatchEnd) : Type 0 where
   pub step : Step
   pub line_is : step.line ≡ line

@@ -12,7 +12,7 @@ use Rattle.farm_http.specs.PageTexts.{body_text}
 use Rattle.farm_http.specs.Requests.{ask_of_line}
 use Rattle.farm_http.specs.declared.page.Page.{Page}
 use Rattle.farm_http.specs.declared.page.Page.TheVariants as pages
-use Rattle.batch_lines.specs.Limits.{line_feed, longest_line}
+use Rattle.batch_lines.specs.Limits.{line_feed, most_request_line_bytes}
 use Rattle.farm_batch.specs.Limits.{batch_caller}
 
 -- no request
@@ -23,11 +23,11 @@ no_request = pages.Status 400 None
 abbrev pub line_too_long : Page
 line_too_long = pages.Status 413 None
 
--- what stands in place of an answer where there was no memory for it
+-- what replaces an answer if there was no memory for it
 abbrev pub out_of_memory : Page
 out_of_memory = pages.Status 507 None
 
--- what stands in place of an answer where the disk failed
+-- what replaces an answer if the disk failed
 abbrev pub disk_fault : Page
 disk_fault = pages.Status 503 None
 
@@ -37,7 +37,7 @@ page_of (answers.Done reply) = pages.Reply reply
 page_of answers.DiskFault = disk_fault
 page_of answers.NoMemory = out_of_memory
 
--- whether the batch ends with what the desk answered: with no reply it goes on
+-- whether the batch ends with what the desk answered: without a reply it continues
 abbrev pub ends_with : Answer → Bool → Bool
 ends_with (answers.Done reply) stops = stops
 ends_with answers.DiskFault stops = false
@@ -76,7 +76,7 @@ answer_to limit history now (Some ask) = replied (desk_answer limit history batc
 -- The answer to a line: one of more than 65,536 bytes is too long whatever it holds, and any other is answered as what it asks for.
 unfoldable pub line_answer : ℕ → History → ℤ → List ℕ → LineAnswer
 line_answer limit history now line =
-    if nat_lt longest_line (length line) then unasked history line_too_long else answer_to limit history now (ask_of_line line)
+    if nat_lt most_request_line_bytes (length line) then unasked history line_too_long else answer_to limit history now (ask_of_line line)
 
 -- a line that was asked: its bytes, what was answered, the history that was left, and whether the batch ended with it
 pub record Step : Type 0 where
@@ -91,7 +91,7 @@ pub record IsAsMeant (meant : LineAnswer) (step : Step) : Type 0 where
   pub history : step.history ≡ meant.history
   pub stops : step.stops ≡ meant.stops
 
--- A page was answered in place of what is meant, and what was asked for was done or not. The batch goes on.
+-- A page was answered in place of what is meant, and what was asked for was done or not. The batch continues.
 pub record IsReplaced (page : Page) (before : History) (meant : LineAnswer) (step : Step) : Type 0 where
   pub page_is : step.page ≡ page
   pub history : (step.history ≡ before) ⊎ (step.history ≡ meant.history)
@@ -99,9 +99,9 @@ pub record IsReplaced (page : Page) (before : History) (meant : LineAnswer) (ste
 
 -- a line is too long or no request, so that the desk isn't asked
 abbrev pub AsksNothing : List ℕ → Type 0
-AsksNothing line = (nat_lt longest_line (length line) ≡ true) ⊎ (ask_of_line line ≡ None)
+AsksNothing line = (nat_lt most_request_line_bytes (length line) ≡ true) ⊎ (ask_of_line line ≡ None)
 
--- A line got the answer that is meant for it, or out of memory, or a fault of the disk; the last only where it asks something.
+-- A line got the answer that is meant for it, or out of memory, or a fault of the disk; the last only if it asks something.
 abbrev pub Meets : History → LineAnswer → Step → Type 0
 Meets before meant step =
     IsAsMeant meant step ⊎ IsReplaced out_of_memory before meant step ⊎ (IsReplaced disk_fault before meant step × ¬ (AsksNothing step.line))
@@ -127,7 +127,7 @@ AnswersEach may_give limit before [] = Unit {0}
 AnswersEach may_give limit before (step ∷ steps) =
     AnswersLine may_give limit before step × ((step.stops ≡ false) ⊎ (steps ≡ [])) × AnswersEach may_give limit step.history steps
 
--- how many faults of the disk a page is: 1 where it is that answer, and 0 for any other
+-- how many faults of the disk a page is: 1 if it is that answer, and 0 for any other
 abbrev pub faults_on_page : Page → ℕ
 faults_on_page (pages.Reply reply) = 0
 faults_on_page (pages.Status status None) = if status == 503 then 1 else 0

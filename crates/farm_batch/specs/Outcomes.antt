@@ -1,4 +1,4 @@
--- What a batch prints and how it ends, as a function of the desk's history and its input alone, where there is memory and nothing fails. No
+-- What a batch prints and how it ends, as a function of the desk's history and its input alone, if there is memory and nothing fails. No
 -- answer depends on the clock.
 use Rattle.std.specs.Prelude.{◌≡◌, ◌≢◌, ◌+◌, ◌==◌, ◌||◌, ℕ, All, nat_lt, Bool, true, false, if◌then◌else◌, List, [], ◌∷◌, ◌++◌, length, Some, ℤ, pos}
 use Rattle.farm_base.specs.Bytes.{parts_at}
@@ -31,7 +31,7 @@ abbrev pub size_of : List ℕ → List (List ℕ) → ℕ
 size_of part [] = length part
 size_of part (next ∷ parts) = length part + 1
 
--- a line of this size isn't read any more, where this many lines and bytes are before it
+-- a line of this size isn't read any more, if this many lines and bytes are before it
 abbrev pub is_too_much : ℕ → ℕ → ℕ → Bool
 is_too_much lines passed size = lines == most_lines || nat_lt most_bytes (passed + size)
 
@@ -41,7 +41,7 @@ printed_before answer later =
     if answer.stops then record { text = answer_text answer.page; end = Done }
     else record { text = answer_text answer.page ++ later.text; end = later.end }
 
--- the outcome of the parts that are left, after a history, where this many lines and bytes are before them
+-- the outcome of the parts that are left, after a history, with this many lines and bytes before them
 unfoldable pub outcome_from : ℕ → History → ℕ → ℕ → List (List ℕ) → Outcome
 outcome_from limit history lines passed [] = ends_here Done
 outcome_from limit history lines passed (part ∷ parts) =

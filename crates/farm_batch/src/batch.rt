@@ -1,12 +1,12 @@
 //! The lines of a batch, one after another.
 
 ghost use Rattle.std.specs.Prelude.{◌≡◌, ◌≢◌, ◌≤◌, ℕ, List, Some, option_map, IfOk, IsFalse, IsTrue, OnErr, OnOk};
-ghost use Rattle.farm_base.specs.Counts.{HasCause, count_of};
+ghost use Rattle.farm_base.specs.Counts.{Counts, CountsIf, count_of};
 ghost use Rattle.farm_http.specs.PageTexts.{IsAnswer};
 ghost use Rattle.farm_batch.specs.LineAnswers.{answer_text, disk_fault};
 ghost use Rattle.farm_batch.specs.Desks.{KeepsDesk};
 ghost use Rattle.batch_lines.specs.Reader.{kept};
-ghost use Rattle.farm_batch.specs.Batches.{Answers, Batch, PutsPage};
+ghost use Rattle.farm_batch.specs.Batches.{AnswersOneLine, Batch, PutsPage};
 
 use crate::answers::answer;
 use crate::limits::MOST_LINES;
@@ -36,7 +36,7 @@ pub enum BatchEnd {
 
 /// Asks a desk the lines of a source, as caller 0, and puts the answer of each, a JSON object and a line feed, before it reads on.
 ///
-/// A line of more than 65,536 bytes is answered by 413 and one that is no request by 400, neither of them asked; 503 stands for an
+/// A line of more than 65,536 bytes is answered by 413 and one that is no request by 400, neither of them asked; 503 replaces an
 /// answer that a fault of the disk prevented, and 507 for one that memory ran out for. The batch ends with the source, after
 /// a Stop that was entered and answered, at line 1,000,001 or the line of byte 1,073,741,825, and if a port fails; a fault of the disk
 /// doesn't end it. `NoMemory` comes before the first byte is taken.
@@ -90,11 +90,10 @@ fn answer_line<D: Disk, const LIMIT: usize, K: Sink, C: Clock>(
     text: &mut Vec<u8>,
 ) -> Option<BatchEnd>
     ensures answers { (bytes : List ℕ) → option_map (λ line. line.now) line.entry ≡ kept bytes →
-        Answers D.faults (C.may_give clock.now) LIMIT desk.old desk.new bytes (K.held output.old) (K.held output.new)
+        AnswersOneLine D.faults (C.may_give clock.now) LIMIT desk.old desk.new bytes (K.held output.old) (K.held output.new)
         (count_of K.faults output.old output.new) result }
     ensures keeps { KeepsDesk D.trace D.moment D.faults LIMIT desk.old desk.new }
-    ensures never_falls { K.faults output.old ≤ K.faults output.new }
-    ensures quiet { result ≢ Some BatchEnd.Failed → K.faults output.new ≡ K.faults output.old }
+    ensures counts { CountsIf (result ≡ Some BatchEnd.Failed) (K.faults output.old) (K.faults output.new) }
 {
     let meant = answer(alloc, desk, line, clock.now());
     match put_page(alloc, &meant.page, output, text) {
@@ -114,8 +113,7 @@ fn put_page<K: Sink>(
 ) -> Result<bool, Failed>
     requires page { IsAnswer page.now }
     ensures puts { PutsPage page.now (K.held output.old) (K.held output.new) result }
-    ensures cause { HasCause (K.faults output.old) (K.faults output.new) result }
-    ensures quiet { OnOk result (K.faults output.new ≡ K.faults output.old) }
+    ensures counts { Counts (K.faults output.old) (K.faults output.new) result }
 {
     if is_disk_fault(page) {
         put_all(output, DISK_FAULT)?;

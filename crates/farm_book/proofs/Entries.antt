@@ -9,7 +9,7 @@ use Rattle.farm_base.specs.Steps.{or_else}
 use Rattle.farm_site.specs.Described.{Described}
 use Rattle.farm_history.specs.declared.command.Command.{Command}
 use Rattle.farm_history.specs.declared.entry.Entry.{Entry}
-use Rattle.farm_history.specs.declared.limits.TheConstants.{GREATEST_LIMIT, STOPS_BEYOND_LIMIT}
+use Rattle.farm_history.specs.declared.limits.TheConstants.{MOST_LIMIT, STOPS_BEYOND_LIMIT}
 use Rattle.farm_history.specs.declared.rule.Rule.{Rule}
 use Rattle.farm_history.specs.declared.rule.Rule.TheVariants.{HistoryFull, OutOfRange}
 use Rattle.farm_history.specs.declared.verdict.Verdict.TheVariants.{Accept}
@@ -101,7 +101,7 @@ sound_readable limit history sound = record {
 }
 
 -- a history without entries is sound
-pub sound_empty : (limit : ℕ) (site : Described) → limit ≤ GREATEST_LIMIT → AreComputable site → AreRising site → IsSound limit (empty_history site)
+pub sound_empty : (limit : ℕ) (site : Described) → limit ≤ MOST_LIMIT → AreComputable site → AreRising site → IsSound limit (empty_history site)
 sound_empty limit site within computable rising =
     record { limit_within = within; legal = empty_is_legal limit site; few = omega arith; computable = computable; rising = rising }
 

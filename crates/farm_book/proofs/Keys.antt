@@ -162,11 +162,11 @@ within_found {A} holds items (Some place) is =
     ap length first.split ∙ length-append first.front (first.item ∷ first.back) in
     (omega (arith, counted), omega (arith, counted, whole))
 
--- the entry at a first place
-pub entry_there : (holds : Entry → Bool) (entries : List Entry) (place : ℕ) (first : IsFirstPlace holds entries place) (default : Entry) →
-    get_or entries (place - 1) default ≡ first.item
-entry_there holds entries place first default =
+-- the entry at a first place of entries, among those that are read, which are the same
+pub entry_there : (holds : Entry → Bool) (entries : List Entry) (place : ℕ) (first : IsFirstPlace holds entries place) (read : List Entry) →
+    read ≡ entries → (default : Entry) → get_or read (place - 1) default ≡ first.item
+entry_there holds entries place first read same default =
     let counted : place - 1 ≡ length first.front = let counted = first.counted in omega (arith, counted) in
-    ap (λ entries. get_or entries (place - 1) default) first.split
+    ap (λ entries. get_or entries (place - 1) default) (same ∙ first.split)
     ∙ ap (λ (n : ℕ). get_or (first.front ++ first.item ∷ first.back) n default) counted
     ∙ get_or-append_seam first.front first.item first.back default

@@ -3,7 +3,7 @@ use Rattle.std.specs.Prelude.{◌≡◌, ℕ, ◌+◌, ◌≤◌, ◌==◌, ◌&
 use Rattle.key_index.specs.Keys.{place_under, room}
 use Rattle.key_index.specs.declared.index.KeyIndex.{KeyIndex}
 use Rattle.farm_history.specs.declared.entry.Entry.{Entry}
-use Rattle.farm_history.specs.Limits.{greatest_limit, stops_beyond_limit}
+use Rattle.farm_history.specs.Limits.{most_limit, stops_beyond_limit}
 use Rattle.farm_history.specs.History.{History, last_place}
 use Rattle.farm_history.specs.Places.{first_place}
 use Rattle.farm_history.specs.Sites.{AreComputable, AreRising}
@@ -17,7 +17,7 @@ pub record Kept : Type 0 where
 -- A history is one that a book may have: it is legal, its limit isn't above the greatest, it has no more entries than it may have, and
 -- the tanks of its site stand in rising order, each with a capacity table and one of the site's products.
 pub record IsSound (limit : ℕ) (history : History) : Type 0 where
-  pub limit_within : limit ≤ greatest_limit
+  pub limit_within : limit ≤ most_limit
   pub legal : IsLegal limit history
   pub few : last_place history ≤ limit + stops_beyond_limit
   pub computable : AreComputable history.site

@@ -1,11 +1,11 @@
-//! The book.
+//! A book: it judges an entry by the history that it keeps, makes room for it, takes it in, and answers look-ups.
 
 ghost use Rattle.std.specs.Prelude.{◌≡◌, ◌+◌, ◌≤◌, ℕ, All, IfOk, IsFalse, IsNone, IsOk, IsSome, IsTrue, OnErr, OnOk, option_map};
 ghost use Rattle.farm_stock.specs.Books.{plus};
 ghost use Rattle.farm_stock.specs.Postings.{amount_of, at_tank};
 ghost use Rattle.farm_book.specs.Kept.{IsSound};
 ghost use Rattle.farm_book.specs.Replies.{IsGainReply, IsStockReply, IsTicketReply, IsTotalReply, IssuesAt, SettlesAt};
-ghost use Rattle.history_lookups.specs.Pasts.{IsReadable, history_of};
+ghost use Rattle.history_lookups.specs.Pasts.{IsReadable};
 ghost use Rattle.farm_history.specs.Commands.{is_settle, issues_ticket};
 ghost use Rattle.farm_history.specs.Conservation.{Moves};
 ghost use Rattle.farm_history.specs.Desk.{looked_up, reply_at};
@@ -14,7 +14,7 @@ ghost use Rattle.farm_history.specs.Postings.{postings_at};
 ghost use Rattle.farm_history.specs.Rules.{has_same_key};
 ghost use Rattle.farm_history.specs.Stocks.{book_of, total_of};
 ghost use Rattle.farm_history.specs.Verdicts.{IsLegal, IsNext, IsVerdict, verdict};
-ghost use Rattle.farm_history.specs.declared.limits.TheConstants.{GREATEST_LIMIT, STOPS_BEYOND_LIMIT};
+ghost use Rattle.farm_history.specs.declared.limits.TheConstants.{MOST_LIMIT, STOPS_BEYOND_LIMIT};
 ghost use Rattle.farm_site.specs.Sites.{described};
 
 use crate::judging::verdict_of;
@@ -55,7 +55,7 @@ impl<const LIMIT: usize> Model for Book<LIMIT> {
 impl<const LIMIT: usize> Book<LIMIT> {
     /// The book of a site before its first entry.
     pub fn new(alloc: Global, site: Site) -> Result<Self, NoMemory>
-        requires limit { LIMIT ≤ GREATEST_LIMIT }
+        requires limit { LIMIT ≤ MOST_LIMIT }
         ensures made { IsOk result }
         ensures history { IfOk result (λ book. book.history ≡ empty_history (described site)) }
     {
@@ -86,7 +86,7 @@ impl<const LIMIT: usize> Book<LIMIT> {
         ensures history { self.new.history ≡ self.old.history }
         ensures refused { OnErr result (self.new.spare ≡ self.old.spare) }
         ensures no_room { OnErr result (self.old.spare ≡ 0) }
-        ensures limit { LIMIT ≤ GREATEST_LIMIT }
+        ensures limit { LIMIT ≤ MOST_LIMIT }
         ensures few { last_place self.new.history ≤ LIMIT + STOPS_BEYOND_LIMIT }
     {
         if self.room == 0 {
@@ -211,10 +211,10 @@ impl<const LIMIT: usize> Book<LIMIT> {
 
     /// The site and the entries, to look among them.
     pub fn past(&self) -> Past<'_>
-        ensures history { history_of result.site.now result.entries.now ≡ self.now.history }
+        ensures history { result ≡ self.now.history }
         ensures sound { IsSound LIMIT self.now.history }
         ensures readable { IsReadable self.now.history }
-        ensures limit { LIMIT ≤ GREATEST_LIMIT }
+        ensures limit { LIMIT ≤ MOST_LIMIT }
     {
         Past {
             site: &self.site,
@@ -227,7 +227,7 @@ impl<const LIMIT: usize> Book<LIMIT> {
         ensures entries { result.now ≡ self.now.history.entries }
         ensures legal { IsLegal LIMIT self.now.history }
         ensures few { last_place self.now.history ≤ LIMIT + STOPS_BEYOND_LIMIT }
-        ensures limit { LIMIT ≤ GREATEST_LIMIT }
+        ensures limit { LIMIT ≤ MOST_LIMIT }
     {
         &self.entries
     }

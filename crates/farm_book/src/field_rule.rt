@@ -20,7 +20,7 @@ fn numbers(few: &Few) -> &[i64]
 
 /// The number of the first field of a command that is out of range. `None` exactly where none is.
 #[tactic(auto, unfolding(farm_history::specs::Fields::first_bad_field))]
-pub fn first_bad_field(command: &Command) -> Option<u8>
+pub(crate) fn first_bad_field(command: &Command) -> Option<u8>
     requires well_formed { IsWellFormedCommand command.now }
     ensures first_bad_field { result ≡ first_bad_field command.now }
 {

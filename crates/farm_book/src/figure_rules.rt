@@ -4,7 +4,7 @@ ghost use Rattle.std.specs.Prelude.{◌≡◌, Bool};
 ghost use Rattle.std.specs.List.{list_any};
 ghost use Rattle.farm_book.specs.Refusals.{passes};
 ghost use Rattle.history_lookups.specs.Pairs.{listed, listed_one};
-ghost use Rattle.history_lookups.specs.Pasts.{IsReadable, history_of};
+ghost use Rattle.history_lookups.specs.Pasts.{IsReadable};
 ghost use Rattle.farm_history.specs.Figures.{calculated_at, named_by};
 ghost use Rattle.farm_history.specs.MovementRules.{is_critical_zone, is_negative, is_no_entry, is_refused_with, wrong_way};
 ghost use Rattle.farm_history.specs.Rules.{broken_by_figures};
@@ -15,10 +15,10 @@ use history_lookups::{Pairs, Past, goes_wrong};
 
 /// The first rule that the calculations break which a command asks for.
 #[tactic(auto, unfolding(farm_history::specs::Rules::broken_by_figures, farm_history::specs::MovementRules::no_entry, farm_history::specs::MovementRules::critical_zone, farm_history::specs::MovementRules::negative))]
-pub fn broken_by_figures(past: &Past<'_>, command: &Command, pairs: &Pairs) -> Option<Rule>
-    requires readable { IsReadable (history_of past.now.site.now past.now.entries.now) }
-    requires pairs { listed pairs.now ≡ named_by (history_of past.now.site.now past.now.entries.now) command.now }
-    ensures broken { result ≡ broken_by_figures (history_of past.now.site.now past.now.entries.now) command.now }
+pub(crate) fn broken_by_figures(past: &Past<'_>, command: &Command, pairs: &Pairs) -> Option<Rule>
+    requires readable { IsReadable past.now }
+    requires pairs { listed pairs.now ≡ named_by past.now command.now }
+    ensures broken { result ≡ broken_by_figures past.now command.now }
 {
     let first = refusal_of(past, &pairs.first);
     let second = refusal_of(past, &pairs.second);
@@ -36,8 +36,8 @@ pub fn broken_by_figures(past: &Past<'_>, command: &Command, pairs: &Pairs) -> O
 
 // Why the calculation on what is named for a tank is refused.
 fn refusal_of(past: &Past<'_>, pair: &Option<Named>) -> Option<ChainRule>
-    requires readable { IsReadable (history_of past.now.site.now past.now.entries.now) }
-    ensures refusal { (test : ChainRule → Bool) → passes test result ≡ list_any (λ pair. is_refused_with test (calculated_at (history_of past.now.site.now past.now.entries.now) pair)) (listed_one pair.now) }
+    requires readable { IsReadable past.now }
+    ensures refusal { (test : ChainRule → Bool) → passes test result ≡ list_any (λ pair. is_refused_with test (calculated_at past.now pair)) (listed_one pair.now) }
 {
     let Some(pair) = pair else {
         return None;
@@ -72,8 +72,8 @@ fn is_negative(refusal: Option<ChainRule>) -> bool
 // Rule 19: a side of a movement that is closed goes the wrong way.
 #[tactic(auto, unfolding(farm_history::specs::MovementRules::wrong_way))]
 fn wrong_way(past: &Past<'_>, command: &Command) -> Option<Rule>
-    requires readable { IsReadable (history_of past.now.site.now past.now.entries.now) }
-    ensures rule { result ≡ wrong_way (history_of past.now.site.now past.now.entries.now) command.now }
+    requires readable { IsReadable past.now }
+    ensures rule { result ≡ wrong_way past.now command.now }
 {
     let Command::Closing {
         movement,

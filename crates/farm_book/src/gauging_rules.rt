@@ -1,7 +1,7 @@
 //! The rules on a gauging, 6 to 8.
 
 ghost use Rattle.std.specs.Prelude.{◌≡◌, None, option_and_then};
-ghost use Rattle.history_lookups.specs.Pasts.{IsReadable, history_of};
+ghost use Rattle.history_lookups.specs.Pasts.{IsReadable};
 ghost use Rattle.farm_history.specs.Commands.{IsWellFormedCommand};
 ghost use Rattle.farm_history.specs.Fields.{first_bad_field};
 ghost use Rattle.farm_history.specs.Gauging.{gauging_after, gauging_in};
@@ -16,10 +16,10 @@ use strap_table::CapTable;
 
 /// Why a gauging is refused. `None` where it isn't refused, and for a command that is no gauging of a tank of the site.
 #[tactic(auto, unfolding(farm_history::specs::Gauging::gauging_after, farm_history::specs::History::tank_after))]
-pub fn refused_gauging(past: &Past<'_>, command: &Command) -> Option<Rule>
+pub(crate) fn refused_gauging(past: &Past<'_>, command: &Command) -> Option<Rule>
     requires command { IsWellFormedCommand command.now }
     requires in_range { first_bad_field command.now ≡ None }
-    ensures refused { result ≡ option_and_then refused_gauging (gauging_after (history_of past.now.site.now past.now.entries.now) command.now) }
+    ensures refused { result ≡ option_and_then refused_gauging (gauging_after past.now command.now) }
 {
     let tank = past.site.tank(tank_of(command)?)?;
     refused_in_tank(&past.site.rounding, tank, command)

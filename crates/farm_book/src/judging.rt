@@ -2,14 +2,14 @@
 
 ghost use Rattle.std.specs.Prelude.{◌≡◌, ◌+◌, ◌≤◌, ℕ, if◌then◌else◌, IfSome, None, Some, length};
 ghost use Rattle.std.specs.List.{list_any};
-ghost use Rattle.history_lookups.specs.Pasts.{IsReadable, history_of};
+ghost use Rattle.history_lookups.specs.Pasts.{IsReadable};
 ghost use Rattle.farm_history.specs.Commands.{IsWellFormedCommand, is_same_command, tanks_given};
 ghost use Rattle.farm_history.specs.History.{tank_after};
 ghost use Rattle.farm_history.specs.Places.{first_place};
 ghost use Rattle.farm_history.specs.Rules.{broken_by_command, is_full, is_missing, is_repeat, has_same_key, unknown_tank};
 ghost use Rattle.farm_history.specs.Verdicts.{IsLegal, repeated_or, verdict};
 ghost use Rattle.farm_book.specs.Kept.{AreIndexed};
-ghost use Rattle.farm_history.specs.declared.limits.TheConstants.{GREATEST_LIMIT, STOPS_BEYOND_LIMIT};
+ghost use Rattle.farm_history.specs.declared.limits.TheConstants.{MOST_LIMIT, STOPS_BEYOND_LIMIT};
 
 use crate::field_rule::first_bad_field;
 use crate::gauging_rules::refused_gauging;
@@ -20,14 +20,14 @@ use key_index::KeyIndex;
 
 /// What the rules say of a further entry, where there may be `limit` entries.
 #[tactic(auto, unfolding(farm_history::specs::Verdicts::verdict, farm_history::specs::Rules::broken_rule, farm_history::specs::Rules::key_reused, farm_history::specs::Rules::history_full))]
-pub fn verdict_of(limit: usize, past: &Past<'_>, keys: &KeyIndex, entry: &Entry) -> Verdict
-    requires limit { limit ≤ GREATEST_LIMIT }
-    requires readable { IsReadable (history_of past.now.site.now past.now.entries.now) }
-    requires legal { IsLegal limit (history_of past.now.site.now past.now.entries.now) }
-    requires indexed { AreIndexed keys.now past.now.entries.now }
+pub(crate) fn verdict_of(limit: usize, past: &Past<'_>, keys: &KeyIndex, entry: &Entry) -> Verdict
+    requires limit { limit ≤ MOST_LIMIT }
+    requires readable { IsReadable past.now }
+    requires legal { IsLegal limit past.now }
+    requires indexed { AreIndexed keys.now past.now.entries }
     requires command { IsWellFormedCommand entry.now.cmd }
-    ensures verdict { result ≡ verdict limit (history_of past.now.site.now past.now.entries.now) entry.now }
-    ensures repeated { (place : ℕ) → result ≡ Verdict.Repeat place → (1 ≤ place) × (place ≤ length past.now.entries.now) }
+    ensures verdict { result ≡ verdict limit past.now entry.now }
+    ensures repeated { (place : ℕ) → result ≡ Verdict.Repeat place → (1 ≤ place) × (place ≤ length past.now.entries) }
 {
     if let Some(place) = used_place(past, keys, entry) {
         return verdict_on_used(limit, past, place, entry);
@@ -43,20 +43,20 @@ pub fn verdict_of(limit: usize, past: &Past<'_>, keys: &KeyIndex, entry: &Entry)
 
 // The place at which the account and the key of an entry stand.
 fn used_place(past: &Past<'_>, keys: &KeyIndex, entry: &Entry) -> Option<u32>
-    requires indexed { AreIndexed keys.now past.now.entries.now }
-    ensures used { result ≡ first_place (has_same_key entry.now) past.now.entries.now }
-    ensures new { result ≡ None → first_place (is_repeat entry.now) past.now.entries.now ≡ None }
-    ensures within { IfSome result (λ place. (1 ≤ place) × (place ≤ length past.now.entries.now)) }
+    requires indexed { AreIndexed keys.now past.now.entries }
+    ensures used { result ≡ first_place (has_same_key entry.now) past.now.entries }
+    ensures new { result ≡ None → first_place (is_repeat entry.now) past.now.entries ≡ None }
+    ensures within { IfSome result (λ place. (1 ≤ place) × (place ≤ length past.now.entries)) }
 {
     keys.place_of(entry.account, entry.key)
 }
 
 // What is said of an entry whose account and key stand at a place: there the same command is repeated, and any other has a used key.
 fn verdict_on_used(limit: usize, past: &Past<'_>, place: u32, entry: &Entry) -> Verdict
-    requires legal { IsLegal limit (history_of past.now.site.now past.now.entries.now) }
-    requires used { first_place (has_same_key entry.now) past.now.entries.now ≡ Some place }
-    requires within { (1 ≤ place) × (place ≤ length past.now.entries.now) }
-    ensures verdict { result ≡ repeated_or (first_place (is_repeat entry.now) past.now.entries.now) (Verdict.Refused (Rule.KeyReused place)) }
+    requires legal { IsLegal limit past.now }
+    requires used { first_place (has_same_key entry.now) past.now.entries ≡ Some place }
+    requires within { (1 ≤ place) × (place ≤ length past.now.entries) }
+    ensures verdict { result ≡ repeated_or (first_place (is_repeat entry.now) past.now.entries) (Verdict.Refused (Rule.KeyReused place)) }
     ensures here { (repeated : ℕ) → result ≡ Verdict.Repeat repeated → repeated ≡ place }
 {
     let other = &past.entries[place as usize - 1];
@@ -76,7 +76,7 @@ fn is_same_command(command: &Command, other: &Command) -> bool
 
 // Whether a history of this many entries takes no further command.
 fn is_full(limit: usize, entries: usize, stop: bool) -> bool
-    requires limit { limit ≤ GREATEST_LIMIT }
+    requires limit { limit ≤ MOST_LIMIT }
     ensures full { result ≡ is_full limit entries stop }
 {
     limit + STOPS_BEYOND_LIMIT <= entries || (limit <= entries && !stop)
@@ -86,8 +86,8 @@ fn is_full(limit: usize, entries: usize, stop: bool) -> bool
 #[tactic(auto, unfolding(farm_history::specs::Rules::broken_by_command, farm_history::specs::Rules::out_of_range))]
 fn broken_by_command(past: &Past<'_>, command: &Command) -> Option<Rule>
     requires command { IsWellFormedCommand command.now }
-    requires readable { IsReadable (history_of past.now.site.now past.now.entries.now) }
-    ensures broken { result ≡ broken_by_command (history_of past.now.site.now past.now.entries.now) command.now }
+    requires readable { IsReadable past.now }
+    ensures broken { result ≡ broken_by_command past.now command.now }
 {
     if let Some(rule) = unknown_tank(past, command) {
         return Some(rule);
@@ -107,7 +107,7 @@ fn broken_by_command(past: &Past<'_>, command: &Command) -> Option<Rule>
 // Rule 3: a tank that a command gives isn't of the site.
 #[tactic(auto, unfolding(farm_history::specs::Rules::unknown_tank))]
 fn unknown_tank(past: &Past<'_>, command: &Command) -> Option<Rule>
-    ensures rule { result ≡ unknown_tank (history_of past.now.site.now past.now.entries.now) command.now }
+    ensures rule { result ≡ unknown_tank past.now command.now }
 {
     if gives_unknown_tank(past, command) {
         return Some(Rule::UnknownTank);
@@ -117,7 +117,7 @@ fn unknown_tank(past: &Past<'_>, command: &Command) -> Option<Rule>
 
 // Whether a command gives a tank that isn't of the site.
 fn gives_unknown_tank(past: &Past<'_>, command: &Command) -> bool
-    ensures unknown { result ≡ list_any (λ number. is_missing (tank_after (history_of past.now.site.now past.now.entries.now) number)) (tanks_given command.now) }
+    ensures unknown { result ≡ list_any (λ number. is_missing (tank_after past.now number)) (tanks_given command.now) }
 {
     match command {
         Command::Gauge { tank, .. }
@@ -135,7 +135,7 @@ fn gives_unknown_tank(past: &Past<'_>, command: &Command) -> bool
 // Whether the site has no tank of a number.
 #[tactic(auto, unfolding(farm_history::specs::History::tank_after))]
 fn is_missing(past: &Past<'_>, number: u16) -> bool
-    ensures missing { result ≡ is_missing (tank_after (history_of past.now.site.now past.now.entries.now) number) }
+    ensures missing { result ≡ is_missing (tank_after past.now number) }
 {
     past.site.tank(number).is_none()
 }

@@ -2,7 +2,7 @@
 //! breaks it. Rules 13 to 19 stand in `named_rules` and `figure_rules`.
 
 ghost use Rattle.std.specs.Prelude.{◌≡◌};
-ghost use Rattle.history_lookups.specs.Pasts.{IsReadable, history_of};
+ghost use Rattle.history_lookups.specs.Pasts.{IsReadable};
 ghost use Rattle.farm_history.specs.Commands.{tanks_needed};
 ghost use Rattle.farm_history.specs.Given.{first_given};
 ghost use Rattle.farm_history.specs.MovementRules.{already_reversed, is_closing, movement_named, no_movement, other_product, same_tank, settled, settled_after, settled_later, tank_busy, unknown_party, unknown_ticket};
@@ -17,9 +17,9 @@ use history_lookups::Past;
 
 /// The first rule on movements and tickets that a command breaks.
 #[tactic(auto, unfolding(farm_history::specs::Rules::broken_by_movement))]
-pub fn broken_by_movement(past: &Past<'_>, command: &Command) -> Option<Rule>
-    requires readable { IsReadable (history_of past.now.site.now past.now.entries.now) }
-    ensures broken { result ≡ broken_by_movement (history_of past.now.site.now past.now.entries.now) command.now }
+pub(crate) fn broken_by_movement(past: &Past<'_>, command: &Command) -> Option<Rule>
+    requires readable { IsReadable past.now }
+    ensures broken { result ≡ broken_by_movement past.now command.now }
 {
     if let Some(rule) = same_tank(command) {
         return Some(rule);
@@ -42,8 +42,8 @@ pub fn broken_by_movement(past: &Past<'_>, command: &Command) -> Option<Rule>
 // The first rule that is broken by the ticket which a Reverse names.
 #[tactic(auto, unfolding(farm_history::specs::Rules::broken_by_ticket))]
 fn broken_by_ticket(past: &Past<'_>, command: &Command) -> Option<Rule>
-    requires readable { IsReadable (history_of past.now.site.now past.now.entries.now) }
-    ensures broken { result ≡ broken_by_ticket (history_of past.now.site.now past.now.entries.now) command.now }
+    requires readable { IsReadable past.now }
+    ensures broken { result ≡ broken_by_ticket past.now command.now }
 {
     if let Some(rule) = unknown_ticket(past, command) {
         return Some(rule);
@@ -56,8 +56,8 @@ fn broken_by_ticket(past: &Past<'_>, command: &Command) -> Option<Rule>
 
 /// Rule 4: the party of a receipt or a delivery isn't of the site.
 #[tactic(auto, unfolding(farm_history::specs::MovementRules::unknown_party))]
-pub fn unknown_party(past: &Past<'_>, command: &Command) -> Option<Rule>
-    ensures rule { result ≡ unknown_party (history_of past.now.site.now past.now.entries.now) command.now }
+pub(crate) fn unknown_party(past: &Past<'_>, command: &Command) -> Option<Rule>
+    ensures rule { result ≡ unknown_party past.now command.now }
 {
     let Command::Opening(Plan::Outside { party, .. }) = command else {
         return None;
@@ -82,7 +82,7 @@ fn same_tank(command: &Command) -> Option<Rule>
 // Rule 10: the two tanks of a transfer hold different products.
 #[tactic(auto, unfolding(farm_history::specs::MovementRules::other_product, farm_history::specs::History::tank_after))]
 fn other_product(past: &Past<'_>, command: &Command) -> Option<Rule>
-    ensures rule { result ≡ other_product (history_of past.now.site.now past.now.entries.now) command.now }
+    ensures rule { result ≡ other_product past.now command.now }
 {
     let Command::Opening(Plan::Transfer { from, to, .. }) = command else {
         return None;
@@ -98,16 +98,16 @@ fn other_product(past: &Past<'_>, command: &Command) -> Option<Rule>
 // Rule 11: a tank of an Opening or a Settle is named by an open movement.
 #[tactic(auto, unfolding(farm_history::specs::MovementRules::tank_busy))]
 fn tank_busy(past: &Past<'_>, command: &Command) -> Option<Rule>
-    requires readable { IsReadable (history_of past.now.site.now past.now.entries.now) }
-    ensures rule { result ≡ tank_busy (history_of past.now.site.now past.now.entries.now) command.now }
+    requires readable { IsReadable past.now }
+    ensures rule { result ≡ tank_busy past.now command.now }
 {
     Some(Rule::TankBusy(holding(past, command)?))
 }
 
 // The place of the movement that holds a tank which a command needs free, the first tank's first.
 fn holding(past: &Past<'_>, command: &Command) -> Option<u32>
-    requires readable { IsReadable (history_of past.now.site.now past.now.entries.now) }
-    ensures holding { result ≡ first_given (holding_movement (history_of past.now.site.now past.now.entries.now)) (tanks_needed command.now) }
+    requires readable { IsReadable past.now }
+    ensures holding { result ≡ first_given (holding_movement past.now) (tanks_needed command.now) }
 {
     match command {
         Command::Opening(Plan::Outside { tank, .. }) | Command::Settle { tank, .. } => {
@@ -124,7 +124,7 @@ fn holding(past: &Past<'_>, command: &Command) -> Option<u32>
 // Rule 12: the movement of a Closing or a Cancel isn't the place of an open movement.
 #[tactic(auto, unfolding(farm_history::specs::MovementRules::no_movement))]
 fn no_movement(past: &Past<'_>, command: &Command) -> Option<Rule>
-    ensures rule { result ≡ no_movement (history_of past.now.site.now past.now.entries.now) command.now }
+    ensures rule { result ≡ no_movement past.now command.now }
 {
     let movement = movement_named(command)?;
     match past.open_movement(movement) {
@@ -146,7 +146,7 @@ fn movement_named(command: &Command) -> Option<u32>
 // Rule 20: the ticket of a Reverse isn't a Closing.
 #[tactic(auto, unfolding(farm_history::specs::MovementRules::unknown_ticket))]
 fn unknown_ticket(past: &Past<'_>, command: &Command) -> Option<Rule>
-    ensures rule { result ≡ unknown_ticket (history_of past.now.site.now past.now.entries.now) command.now }
+    ensures rule { result ≡ unknown_ticket past.now command.now }
 {
     let Command::Reverse { ticket } = command else {
         return None;
@@ -167,8 +167,8 @@ fn is_closing(command: &Command) -> bool
 // Rule 21, its first part: a Reverse names the ticket already.
 #[tactic(auto, unfolding(farm_history::specs::MovementRules::already_reversed))]
 fn already_reversed(past: &Past<'_>, command: &Command) -> Option<Rule>
-    requires readable { IsReadable (history_of past.now.site.now past.now.entries.now) }
-    ensures rule { result ≡ already_reversed (history_of past.now.site.now past.now.entries.now) command.now }
+    requires readable { IsReadable past.now }
+    ensures rule { result ≡ already_reversed past.now command.now }
 {
     let Command::Reverse { ticket } = command else {
         return None;
@@ -179,8 +179,8 @@ fn already_reversed(past: &Past<'_>, command: &Command) -> Option<Rule>
 // Rule 21, its second part: the last Settle of a tank of the ticket is later than the ticket.
 #[tactic(auto, unfolding(farm_history::specs::MovementRules::settled))]
 fn settled(past: &Past<'_>, command: &Command) -> Option<Rule>
-    requires readable { IsReadable (history_of past.now.site.now past.now.entries.now) }
-    ensures rule { result ≡ settled (history_of past.now.site.now past.now.entries.now) command.now }
+    requires readable { IsReadable past.now }
+    ensures rule { result ≡ settled past.now command.now }
 {
     let Command::Reverse { ticket: place } = command else {
         return None;
@@ -191,8 +191,8 @@ fn settled(past: &Past<'_>, command: &Command) -> Option<Rule>
 
 // The place of the last Settle of a tank of a ticket, where it is later than the ticket, the first tank first.
 fn settled_after(past: &Past<'_>, place: u32, ticket: &Ticket) -> Option<u32>
-    requires readable { IsReadable (history_of past.now.site.now past.now.entries.now) }
-    ensures settled { result ≡ settled_after (history_of past.now.site.now past.now.entries.now) place ticket.now }
+    requires readable { IsReadable past.now }
+    ensures settled { result ≡ settled_after past.now place ticket.now }
 {
     if let Some(settle) = settled_later(place, past.last_settlement(ticket.first.tank)) {
         return Some(settle);

@@ -3,7 +3,7 @@
 ghost use Rattle.std.specs.Prelude.{◌≡◌, not};
 ghost use Rattle.std.specs.List.{list_any};
 ghost use Rattle.history_lookups.specs.Pairs.{listed, listed_one};
-ghost use Rattle.history_lookups.specs.Pasts.{IsReadable, history_of};
+ghost use Rattle.history_lookups.specs.Pasts.{IsReadable};
 ghost use Rattle.farm_history.specs.Figures.{named_by};
 ghost use Rattle.farm_history.specs.Given.{first_given};
 ghost use Rattle.farm_history.specs.MovementRules.{has_reading, has_sample, names_each, names_too_few_or_many, stale_for, stale_reading, unknown_reading, unknown_sample};
@@ -15,9 +15,9 @@ use history_lookups::{Pairs, Past, is_gauging_of, is_sample_of};
 
 /// The first rule that is broken by what a command names for its tanks.
 #[tactic(auto, unfolding(farm_history::specs::Rules::broken_by_names))]
-pub fn broken_by_names(past: &Past<'_>, command: &Command) -> Option<Rule>
-    requires readable { IsReadable (history_of past.now.site.now past.now.entries.now) }
-    ensures broken { result ≡ broken_by_names (history_of past.now.site.now past.now.entries.now) command.now }
+pub(crate) fn broken_by_names(past: &Past<'_>, command: &Command) -> Option<Rule>
+    requires readable { IsReadable past.now }
+    ensures broken { result ≡ broken_by_names past.now command.now }
 {
     let pairs = past.named_by(command);
     if let Some(rule) = unknown_reading(past, command, &pairs) {
@@ -35,8 +35,8 @@ pub fn broken_by_names(past: &Past<'_>, command: &Command) -> Option<Rule>
 // Rule 13: a named reading isn't one of that tank, or a Closing names too few or too many.
 #[tactic(auto, unfolding(farm_history::specs::MovementRules::unknown_reading))]
 fn unknown_reading(past: &Past<'_>, command: &Command, pairs: &Pairs) -> Option<Rule>
-    requires pairs { listed pairs.now ≡ named_by (history_of past.now.site.now past.now.entries.now) command.now }
-    ensures rule { result ≡ unknown_reading (history_of past.now.site.now past.now.entries.now) command.now }
+    requires pairs { listed pairs.now ≡ named_by past.now command.now }
+    ensures rule { result ≡ unknown_reading past.now command.now }
 {
     if names_too_few_or_many(past, command)
         || lacks_reading(past, &pairs.first)
@@ -49,7 +49,7 @@ fn unknown_reading(past: &Past<'_>, command: &Command, pairs: &Pairs) -> Option<
 
 // Whether a command is a Closing that names another number of readings than its movement has tanks.
 fn names_too_few_or_many(past: &Past<'_>, command: &Command) -> bool
-    ensures names { result ≡ names_too_few_or_many (history_of past.now.site.now past.now.entries.now) command.now }
+    ensures names { result ≡ names_too_few_or_many past.now command.now }
 {
     let Command::Closing {
         movement,
@@ -77,7 +77,7 @@ fn names_each(plan: &Plan, second: &Option<Gauged>) -> bool
 
 // Whether a reading is named that isn't a gauge's reading or a dip of its tank.
 fn lacks_reading(past: &Past<'_>, pair: &Option<Named>) -> bool
-    ensures lacks { result ≡ list_any (λ pair. not (has_reading (history_of past.now.site.now past.now.entries.now) pair)) (listed_one pair.now) }
+    ensures lacks { result ≡ list_any (λ pair. not (has_reading past.now pair)) (listed_one pair.now) }
 {
     let Some(pair) = pair else {
         return false;
@@ -91,8 +91,8 @@ fn lacks_reading(past: &Past<'_>, pair: &Option<Named>) -> bool
 // Rule 14: a named sample isn't one of that tank.
 #[tactic(auto, unfolding(farm_history::specs::MovementRules::unknown_sample))]
 fn unknown_sample(past: &Past<'_>, command: &Command, pairs: &Pairs) -> Option<Rule>
-    requires pairs { listed pairs.now ≡ named_by (history_of past.now.site.now past.now.entries.now) command.now }
-    ensures rule { result ≡ unknown_sample (history_of past.now.site.now past.now.entries.now) command.now }
+    requires pairs { listed pairs.now ≡ named_by past.now command.now }
+    ensures rule { result ≡ unknown_sample past.now command.now }
 {
     if lacks_sample(past, &pairs.first) || lacks_sample(past, &pairs.second) {
         return Some(Rule::UnknownSample);
@@ -102,7 +102,7 @@ fn unknown_sample(past: &Past<'_>, command: &Command, pairs: &Pairs) -> Option<R
 
 // Whether a sample is named that isn't one of its tank.
 fn lacks_sample(past: &Past<'_>, pair: &Option<Named>) -> bool
-    ensures lacks { result ≡ list_any (λ pair. not (has_sample (history_of past.now.site.now past.now.entries.now) pair)) (listed_one pair.now) }
+    ensures lacks { result ≡ list_any (λ pair. not (has_sample past.now pair)) (listed_one pair.now) }
 {
     let Some(pair) = pair else {
         return false;
@@ -116,8 +116,8 @@ fn lacks_sample(past: &Past<'_>, pair: &Option<Named>) -> bool
 // Rule 15: a named reading is stale, the first tank's first.
 #[tactic(auto, unfolding(farm_history::specs::MovementRules::stale_reading))]
 fn stale_reading(past: &Past<'_>, command: &Command, pairs: &Pairs) -> Option<Rule>
-    requires pairs { listed pairs.now ≡ named_by (history_of past.now.site.now past.now.entries.now) command.now }
-    ensures rule { result ≡ stale_reading (history_of past.now.site.now past.now.entries.now) command.now }
+    requires pairs { listed pairs.now ≡ named_by past.now command.now }
+    ensures rule { result ≡ stale_reading past.now command.now }
 {
     let place = match stale_for(past, command, &pairs.first) {
         Some(place) => place,
@@ -128,7 +128,7 @@ fn stale_reading(past: &Past<'_>, command: &Command, pairs: &Pairs) -> Option<Ru
 
 // The place for which a named reading is stale.
 fn stale_for(past: &Past<'_>, command: &Command, pair: &Option<Named>) -> Option<u32>
-    ensures stale { result ≡ first_given (stale_for (history_of past.now.site.now past.now.entries.now) command.now) (listed_one pair.now) }
+    ensures stale { result ≡ first_given (stale_for past.now command.now) (listed_one pair.now) }
 {
     let Some(pair) = pair else {
         return None;

@@ -1,7 +1,7 @@
 //! Runs the cases of a folder through the program's runs, over ports, listeners and links in memory, and prints how many each file has.
 //!
 //! A case is a table of a TOML file: a name, the words, the input, the files of the folder, who comes to a listener, what a link answers,
-//! the calls that fail, and the status and the output that are wanted. A case that differs is printed with what was wanted and what came.
+//! the calls that fail, and the expected status and output. A case that differs is printed with what was expected and what came.
 //! README.md says how to read and add one.
 #![tactic(auto)]
 
@@ -36,7 +36,7 @@ fn main(rt: HostRuntime) -> anyhow::Result<()> {
     run_words(&stage, &mut data, words.get(1..), listing.files)
 }
 
-// Runs the files that words name, or all that are listed if there are none.
+// Runs the files that the words name, or all listed files if there are no words.
 fn run_words<R: Threads + Wait + Print + Sync, F: Folder>(
     stage: &Stage<'_, R>,
     data: &mut F,

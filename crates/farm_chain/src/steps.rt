@@ -77,7 +77,12 @@ fn hundred_thousand_squares(growth: i128) -> i128
 
 /// CTSh, the correction for the temperature of the shell: the square of its growth.
 #[tactic(auto, unfolding(crate::specs::Steps::shell_correction))]
-pub fn shell_correction(rounding: &RoundTable, shell: &Shell, liquid: Centi, ambient: Centi) -> Fac5
+pub(crate) fn shell_correction(
+    rounding: &RoundTable,
+    shell: &Shell,
+    liquid: Centi,
+    ambient: Centi,
+) -> Fac5
     requires { IsWithin (pos 0) MOST_COEFFICIENT shell.now.coefficient }
     ensures { result ≡ shell_correction rounding.now shell.now liquid ambient }
 {
@@ -91,7 +96,12 @@ pub fn shell_correction(rounding: &RoundTable, shell: &Shell, liquid: Centi, amb
 
 /// FRA, the adjustment for a floating roof: its mass over the observed density, taken off.
 #[tactic(auto, unfolding(crate::specs::Steps::roof_adjustment))]
-pub fn roof_adjustment(rounding: &RoundTable, floating: Kg, density: Dens, vcf: Fac5) -> Litres
+pub(crate) fn roof_adjustment(
+    rounding: &RoundTable,
+    floating: Kg,
+    density: Dens,
+    vcf: Fac5,
+) -> Litres
     requires { IsWithin (pos 0) MOST_ROOF_MASS floating }
     ensures value { result ≡ roof_adjustment rounding.now floating density vcf }
     ensures size { unsigned_abs result ≤ 10 ^ 16 + 100 }
@@ -107,7 +117,7 @@ pub fn roof_adjustment(rounding: &RoundTable, floating: Kg, density: Dens, vcf: 
 
 /// GOV, the gross observed volume: the volume above the water at the shell's temperature, and the roof's adjustment.
 #[tactic(auto, unfolding(crate::specs::Steps::gross_observed))]
-pub fn gross_observed(
+pub(crate) fn gross_observed(
     rounding: &RoundTable,
     tov: Litres,
     fw: Litres,
@@ -129,7 +139,7 @@ pub fn gross_observed(
 
 /// GSV, the gross standard volume.
 #[tactic(auto, unfolding(crate::specs::Steps::gross_standard))]
-pub fn gross_standard(rounding: &RoundTable, gov: Litres, vcf: Fac5) -> Litres
+pub(crate) fn gross_standard(rounding: &RoundTable, gov: Litres, vcf: Fac5) -> Litres
     requires { IsWithin (pos 0) (pos 1500000100) gov }
     ensures value { result ≡ gross_standard rounding.now gov vcf }
     ensures range { IsWithin (pos 0) (pos 2250000250) result }
@@ -140,7 +150,7 @@ pub fn gross_standard(rounding: &RoundTable, gov: Litres, vcf: Fac5) -> Litres
 
 /// NSV, the net standard volume: the gross one less sediment and water.
 #[tactic(auto, unfolding(crate::specs::Steps::net_standard))]
-pub fn net_standard(rounding: &RoundTable, gsv: Litres, sw: Permil5) -> Litres
+pub(crate) fn net_standard(rounding: &RoundTable, gsv: Litres, sw: Permil5) -> Litres
     requires { IsWithin (pos 0) (pos 2250000250) gsv }
     ensures value { result ≡ net_standard rounding.now gsv sw }
     ensures range { IsWithin (pos 0) (pos 2250000350) result }
@@ -151,7 +161,7 @@ pub fn net_standard(rounding: &RoundTable, gsv: Litres, sw: Permil5) -> Litres
 }
 
 /// SWV, the volume of sediment and water.
-pub fn sediment_and_water(gsv: Litres, nsv: Litres) -> Litres
+pub(crate) fn sediment_and_water(gsv: Litres, nsv: Litres) -> Litres
     requires gsv { IsWithin (pos 0) (pos 2250000250) gsv }
     requires nsv { IsWithin (pos 0) (pos 2250000350) nsv }
     ensures { result ≡ gsv -ℤ nsv }
@@ -161,7 +171,7 @@ pub fn sediment_and_water(gsv: Litres, nsv: Litres) -> Litres
 
 /// The mass of a net standard volume in vacuum.
 #[tactic(auto, unfolding(crate::specs::Steps::mass_of))]
-pub fn mass_of(rounding: &RoundTable, nsv: Litres, density: Dens) -> Kg
+pub(crate) fn mass_of(rounding: &RoundTable, nsv: Litres, density: Dens) -> Kg
     requires { IsWithin (pos 0) (pos 2250000350) nsv }
     ensures value { result ≡ mass_of rounding.now nsv density }
     ensures range { IsWithin (pos 0) (pos 2700000520) result }

@@ -18,7 +18,7 @@ fn blanks_at_start(text: &[u8]) -> usize
     ensures rest { drop result text.now ≡ drop_blanks text.now }
     ensures within { result ≤ length text.now }
 {
-    'bytes: for index in 0..text.len() {
+    for index in 0..text.len() {
         if !is_blank(text[index]) {
             return index;
         }
@@ -32,7 +32,7 @@ fn length_before_blanks(text: &[u8]) -> usize
     ensures within { result ≤ length text.now }
 {
     let len = text.len();
-    'bytes: for index in 0..len {
+    for index in 0..len {
         if !is_blank(text[len - index - 1]) {
             return len - index;
         }

@@ -12,7 +12,7 @@ use csv::{ByteRecord, Error, ErrorKind, Reader, ReaderBuilder};
 use std::alloc::Global;
 
 /// A reader that stands before the first record of a text.
-pub fn reader_of(alloc: Global, text: &[u8]) -> Reader<&[u8]>
+pub(crate) fn reader_of(alloc: Global, text: &[u8]) -> Reader<&[u8]>
     ensures at_record { IsAtRecord result }
     ensures left { left_of result ≡ records_of text.now }
     ensures even { is_even_left result ≡ have_equal_lengths (records_of text.now) }
@@ -23,7 +23,7 @@ pub fn reader_of(alloc: Global, text: &[u8]) -> Reader<&[u8]>
 }
 
 /// Reads the next record into `fields`, and says whether there was one.
-pub fn next(reader: &mut Reader<&[u8]>, fields: &mut ByteRecord) -> Result<bool, CsvFault>
+pub(crate) fn next(reader: &mut Reader<&[u8]>, fields: &mut ByteRecord) -> Result<bool, CsvFault>
     requires at_record { IsAtRecord reader.old }
     ensures at_record { IfOk result (λ found. found ≡ true → IsAtRecord reader.new) }
     ensures record { IfOk result (λ found. found ≡ true → left_of reader.old ≡ fields_of fields.new ∷ left_of reader.new) }
@@ -39,7 +39,7 @@ pub fn next(reader: &mut Reader<&[u8]>, fields: &mut ByteRecord) -> Result<bool,
 }
 
 /// Reads on to the end of the text, to see whether a record has another number of fields than the first.
-pub fn read_on(reader: &mut Reader<&[u8]>, fields: &mut ByteRecord) -> Result<(), CsvFault>
+pub(crate) fn read_on(reader: &mut Reader<&[u8]>, fields: &mut ByteRecord) -> Result<(), CsvFault>
     requires at_record { IsAtRecord reader.old }
     ensures even { OnOk result (is_even_left reader.old ≡ true) }
     ensures fault { IfErr result (IsFaultOfLengths (is_even_left reader.old)) }

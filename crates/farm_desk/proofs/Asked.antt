@@ -21,21 +21,21 @@ use Rattle.journaled_book.proofs.Keeping.{acknowledged_since, since_made}
 use Rattle.farm_desk.proofs.Continuing.{found_stays}
 use Rattle.farm_desk.proofs.Durable.{is_within}
 
--- what follows from a fault follows where the answer is one
+-- what follows from a fault follows if the answer is one
 pub cause_of : (replied : Result Reply NoReply) (answer : Answer) (P : Type 0) → answer ≡ answer_of replied → (replied ≡ Err unanswered.DiskFault → P) →
     answer ≡ DiskFault → P
 cause_of (Ok reply) answer P is follows fault = absurd cc
 cause_of (Err unanswered.DiskFault) answer P is follows fault = follows refl
 cause_of (Err unanswered.NoMemory) answer P is follows fault = absurd cc
 
--- what follows where there was no memory follows where the answer says so
+-- what follows from a lack of memory follows if the answer says so
 pub lacking_of : (replied : Result Reply NoReply) (answer : Answer) (P : Type 0) → answer ≡ answer_of replied → (replied ≡ Err unanswered.NoMemory → P) →
     answer ≡ NoMemory → P
 lacking_of (Ok reply) answer P is follows none = absurd cc
 lacking_of (Err unanswered.DiskFault) answer P is follows none = absurd cc
 lacking_of (Err unanswered.NoMemory) answer P is follows none = follows refl
 
--- what follows where there was no fault follows where the answer isn't one
+-- what follows without a fault follows if the answer isn't one
 pub quiet_of : (replied : Result Reply NoReply) (answer : Answer) (P : Type 0) → answer ≡ answer_of replied → (replied ≢ Err unanswered.DiskFault → P) →
     answer ≢ DiskFault → P
 quiet_of (Ok reply) answer P is follows none = follows (λ fault. absurd cc)
@@ -60,7 +60,7 @@ counted_on DiskFault failed after before between now counted is fits small once 
 counted_on NoMemory failed after before between now counted is fits small once quiet =
     counted_still failed after before between now counted (omega (arith, is)) fits (quiet (λ fault. absurd cc))
 
--- and where the answer isn't a fault the count stays
+-- and if the answer isn't a fault, the count stays
 pub not_counted : (answer : Answer) (failed after : ℕ) → after ≡ min (failed + faults_of answer) (2 ^ 64 - 1) → failed < 2 ^ 64 → answer ≢ DiskFault →
     after ≡ failed
 not_counted (Done reply) failed after is fits none = omega (arith, is, fits)
@@ -95,7 +95,7 @@ module _ {D : Type 0} (trace : D → Option (List State)) (moment faults : D →
       subst (λ (d : DeskState D). front_of history d.opened.entries ≡ front_of d.history d.opened.entries) same
       (found_stays view.history history view.opened.entries grown (is_within view.doubt view.history view.opened.entries is.least))
 
-  -- each image since stands for a prefix of its history
+  -- each image since encodes a prefix of its history
   pub asked_since : KeepsFront trace limit desk left.disk history
   asked_since =
       subst (λ (d : DeskState D). EachSince (trace d.disk) (trace left.disk) (RecoversFront limit history (certain d.doubt d.history))) same images

@@ -28,14 +28,14 @@ module _ {D : Type 0} (trace : D → Option (List State)) (limit : ℕ) (view de
       (subst (λ disk. Extends (trace view.found) (trace disk)) (sym is)
       (extends_more (trace view.found) (trace view.disk) (trace settled) before extends))
 
-  -- and each image since stands for a prefix of the history
+  -- and each image since encodes a prefix of the history
   pub finished_images : EachSince (trace view.disk) (trace settled) (RecoversFront limit view.history (certain view.doubt view.history)) →
       EachSince (trace desk.disk) (trace out) (RecoversFront limit desk.history (certain desk.doubt desk.history))
   finished_images images =
       subst (λ (d : DeskState D). EachSince (trace d.disk) (trace out) (RecoversFront limit d.history (certain d.doubt d.history))) same
       (subst (λ disk. EachSince (trace view.disk) (trace disk) (RecoversFront limit view.history (certain view.doubt view.history))) (sym is) images)
 
-  -- each image since the desk was made stands for a prefix of its history
+  -- each image since the desk was made encodes a prefix of its history
   pub finished_since : (moment faults : D → ℕ) (journal : JournalState D) → IsDesk trace moment faults limit view journal → Extends (trace view.disk) (trace settled) →
       EachSince (trace view.disk) (trace settled) (RecoversFront limit view.history (certain view.doubt view.history)) →
       EachFrom (trace out) desk.opened.moment (RecoversFront limit desk.history desk.opened.entries)
@@ -45,7 +45,7 @@ module _ {D : Type 0} (trace : D → Option (List State)) (limit : ℕ) (view de
       (since_made limit view.history view.history view.opened.entries (certain view.doubt view.history) view.opened.moment (trace view.disk) (trace settled)
       (inl refl) stands.least extends stands.since images))
 
-  -- each image now stands for its history, or with the last entry in doubt for that or for the history without it
+  -- each image now encodes its history or, with the last entry in doubt, that or the history without it
   pub finished_now : (doubt answered : Bool) (history : History) (journal : JournalState D) → journal.disk ≡ settled → history ≡ view.history →
       doubt ≡ answered → AreRecords trace limit doubt history journal → EachNow (trace out) (RecoversNow limit answered desk.history)
   finished_now doubt answered history journal on same_history settled_as kept =
@@ -55,39 +55,39 @@ module _ {D : Type 0} (trace : D → Option (List State)) (limit : ℕ) (view de
       (subst (λ doubt. EachNow (trace journal.disk) (RecoversNow limit doubt history)) settled_as
       (records_now trace limit doubt history journal kept))))
 
-  -- the count of the disk that is handed out rose where that of the settled one did
+  -- the count of the disk that is handed out rose if that of the settled one did
   pub finished_rose : (faults : D → ℕ) → Rose (faults view.disk) (faults settled) → Rose (faults desk.disk) (faults out)
   finished_rose faults rose =
       subst (λ (d : DeskState D). Rose (faults d.disk) (faults out)) same
       (subst (λ disk. Rose (faults view.disk) (faults disk)) (sym is) rose)
 
-  -- and stayed where it did
+  -- and stayed if it did
   pub finished_quiet : (faults : D → ℕ) → faults settled ≡ faults view.disk → faults out ≡ faults desk.disk
   finished_quiet faults quiet = ap faults is ∙ quiet ∙ ap (λ (d : DeskState D). faults d.disk) same
 
-  -- and counted one fault where it did
+  -- and counted one fault if it did
   pub finished_once : (faults : D → ℕ) → faults settled ≡ raised 1 (faults view.disk) → faults out ≡ raised 1 (faults desk.disk)
   finished_once faults once = ap faults is ∙ once ∙ ap (λ (d : DeskState D). raised 1 (faults d.disk)) same
 
-  -- where nothing was in doubt at the end, the disk counted just the faults that were answered
+  -- if nothing was in doubt at the end, the disk counted just the faults that were answered
   pub finished_counted : (faults : D → ℕ) → faults view.disk ≡ raised view.failed view.opened.faults → faults settled ≡ faults view.disk →
       faults out ≡ raised desk.failed desk.opened.faults
   finished_counted faults counted quiet =
       ap faults is ∙ quiet ∙ counted ∙ ap (λ (d : DeskState D). raised d.failed d.opened.faults) same
 
-  -- where the last entry stayed in doubt, one more
+  -- if the last entry stayed in doubt, one more
   pub finished_once_more : (faults : D → ℕ) → faults view.disk ≡ raised view.failed view.opened.faults → faults settled ≡ raised 1 (faults view.disk) →
       faults out ≡ raised (desk.failed + 1) desk.opened.faults
   finished_once_more faults counted once =
       ap faults is ∙ counted_once_more view.failed view.opened.faults (faults view.disk) (faults settled) counted once
       ∙ ap (λ (d : DeskState D). raised (d.failed + 1) d.opened.faults) same
 
--- what holds at an error holds where there is one
+-- what holds at an error holds if the result is one
 pub at_err : {T E : Type 0} (result : Result T E) (P : Type 0) → is_err result ≡ true → OnErr result P → P
 at_err (Ok value) P is holds = absurd cc
 at_err (Err fault) P is holds = holds
 
--- what holds at Ok holds where there is no error
+-- what holds at Ok holds if the result is no error
 pub at_ok : {T E : Type 0} (result : Result T E) (P : Type 0) → is_err result ≡ false → OnOk result P → P
 at_ok (Ok value) P is holds = holds
 at_ok (Err fault) P is holds = absurd cc

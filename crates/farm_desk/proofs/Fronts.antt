@@ -14,7 +14,7 @@ with_entries history entries = record { site = history.site; entries = entries }
 pub front_of_front : (history : History) (m n : ℕ) → n ≤ m → front_of (front_of history m) n ≡ front_of history n
 front_of_front history m n fewer = ap (with_entries history) (take-take n m history.entries fewer)
 
--- as far as a history goes, the prefixes of one that continues it are its own
+-- if a history continues another, their prefixes up to the other's length are the same
 pub front_of_longer : (first next : History) (n : ℕ) → Continues first next → n ≤ last_place first → front_of next n ≡ front_of first n
 front_of_longer first next n continues within =
     sym (front_of_front next (last_place first) n within) ∙ ap (λ (history : History). front_of history n) continues

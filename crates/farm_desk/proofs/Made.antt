@@ -29,7 +29,7 @@ pub empty_recordable : (limit : ℕ) (site : Described) → IsSite site → IsRe
 empty_recordable limit site sound = record { site = sound; legal = empty_is_legal limit site; typed = All-nil IsTyped }
 
 module _ {D : Type 0} (trace : D → Option (List State)) (limit : ℕ) where
-  -- each image that a crash leaves of a journal stands for the history that it keeps
+  -- each image that a crash leaves of a journal encodes the history that it keeps
   pub images_now : (history : History) (journal : JournalState D) → AreRecords trace limit false history journal →
       EachNow (trace journal.disk) (Recovers limit history)
   images_now history journal are =
@@ -63,12 +63,12 @@ module _ {D : Type 0} (trace : D → Option (List State)) (limit : ℕ) where
     recordable = recordable;
   }
 
-  -- where a journal stands for what was taken, a history was taken
+  -- if a journal keeps what was taken, a history was taken
   pub stands_for_some : (recovered : Option History) (journal : JournalState D) → StandsOf trace (taken_of recovered) journal → IsSome recovered
   stands_for_some None journal stands = absurd stands
   stands_for_some (Some history) journal stands = refl
 
--- bytes that are recovered stand for the history that was taken
+-- bytes that are recovered encode the history that was taken
 pub where_recovered : (limit : ℕ) (recovered : Option History) (history : History) (known : Option (List State)) → Some history ≡ recovered →
     IsRecordable limit history → WhereKnown known (λ states. IsRecovered (accepted_next limit) (taken_of recovered) (present states).seen) →
     WhereKnown known (λ states. Recovers limit history (present states).seen)
@@ -77,7 +77,7 @@ where_recovered limit recovered history (Some states) is recordable taken =
     let both = subst (λ recovered. IsRecovered (accepted_next limit) (taken_of recovered) (present states).seen) (sym is) taken in
     record { journal = both.0; recordable = recordable }
 
--- what a crash leaves of a journal that is made is no journal, or stands for the history of its site without an entry
+-- what a crash leaves of a journal that is made is no journal, or encodes the history of its site without an entry
 pub crash_safe : (limit : ℕ) (site : Described) (header : List ℕ) (old new : Option (List State)) → header ≡ site_encoding site → IsSite site →
     IsJournalCrashSafe header old new → IsCrashSafe limit site old new
 crash_safe limit site header old new header_is sound safe = λ short.
@@ -88,12 +88,12 @@ crash_safe limit site header old new header_is sound safe = λ short.
     })) is)
     (safe short)
 
--- nor is there one where nothing was done
+-- the same holds if nothing was done
 pub untouched_safe : (limit : ℕ) (site : Described) (trace : Option (List State)) → IsCrashSafe limit site trace trace
 untouched_safe limit site trace = λ short.
     since_now (IsNoneOrEmpty limit site) trace (now_weaker (λ image. length image < 13) (IsNoneOrEmpty limit site) trace (λ image few. inl (inl few)) short)
 
--- where the bytes are known, a refusal of the journal is one of recovery
+-- if the bytes are known, a refusal of the journal is one of recovery
 pub where_refused : (limit : ℕ) (recovered : Option History) (known : Option (List State)) (fault : RecoverFault) →
     ((bytes : List ℕ) (fault : RecoverFault) → IsRefusal (accepted_next limit) (taken_of recovered) bytes fault → IsRefused limit bytes fault) →
     WhereKnown known (λ states. IsRefusal (accepted_next limit) (taken_of recovered) (present states).seen fault) →

@@ -34,9 +34,9 @@ pub record FoundState (D : Type 0) : Type 0 where
 abbrev pub found_of : {D : Type 0} → DeskState D → FoundState D
 found_of desk = record { disk = desk.found; history = front_of desk.history desk.opened.entries; opened = desk.opened }
 
--- What holds of every desk. Each image that a crash may leave at a moment since it was made stands for a prefix of its history, with at
--- least the entries that it was made with. Each that a crash may leave now stands for its history; or, where the last entry is in doubt,
--- for that or for the history without it. Its history has the entries that it was made with. The states of its disk continue those of the
+-- What holds of every desk. Each image that a crash may leave at a moment since it was made encodes a prefix of its history, with at
+-- least the entries that it was made with. Each that a crash may leave now encodes its history or, if the last entry is in doubt,
+-- that or the history without it. Its history has the entries that it was made with. The states of its disk continue those of the
 -- disk that it was made with, whose moment and faults are its numbers, the moment isn't earlier, and the disk counted just as many faults
 -- since as its answers were.
 pub record IsDurable {D : Type 0} (trace : D → Option (List State)) (moment faults : D → ℕ) (limit : ℕ) (desk : DeskState D) : Type 0 where

@@ -1,11 +1,11 @@
-//! The desk.
+//! A desk that is open: it answers requests by its book and its journal, and hands back its disk at the end.
 
 ghost use Rattle.std.specs.Prelude.{◌≡◌, ◌≢◌, ◌+◌, ◌≤◌, false, true};
-ghost use Rattle.farm_base.specs.Counts.{Rose, raised};
-ghost use Rattle.farm_disk.specs.Runs.{EachNow, Extends};
+ghost use Rattle.farm_base.specs.Counts.{CountsOnceIf, raised};
+ghost use Rattle.farm_disk.specs.Runs.{EachNow, Extends, MovesOn};
 ghost use Rattle.farm_history.specs.Desk.{IsWellFormedAsk, desk_answer};
 ghost use Rattle.farm_history.specs.History.{last_place};
-ghost use Rattle.farm_history.specs.declared.limits.TheConstants.{GREATEST_LIMIT};
+ghost use Rattle.farm_history.specs.declared.limits.TheConstants.{MOST_LIMIT};
 ghost use Rattle.journaled_book.specs.Replies.{IsAnswered};
 ghost use Rattle.farm_desk.specs.Asking.{KeepsAcknowledged, KeepsFront};
 ghost use Rattle.journaled_book.specs.Histories.{RecoversFront, RecoversNow, certain};
@@ -50,7 +50,7 @@ impl<D: Disk, const LIMIT: usize> Model for Desk<D, LIMIT> {
 impl<D: Disk, const LIMIT: usize> Desk<D, LIMIT> {
     // The desk of a book and its journal, in which nothing is in doubt.
     pub(crate) fn of_records(journal: Journal<D>, book: Book<LIMIT>, bytes: Vec<u8>) -> Self
-        requires limit { LIMIT ≤ GREATEST_LIMIT }
+        requires limit { LIMIT ≤ MOST_LIMIT }
         requires kept { AreRecords D.trace LIMIT false book.history journal }
         ensures history { result.history ≡ book.entry.history }
         ensures disk { result.disk ≡ journal.disk }
@@ -80,7 +80,7 @@ impl<D: Disk, const LIMIT: usize> Desk<D, LIMIT> {
     /// Answers one request of a caller at a number of the clock, in seconds since 1970-01-01 00:00:00 UTC.
     ///
     /// It first opens the gate of an entry in doubt. A command that is accepted is then put into the journal, entered in the book, and its
-    /// gate is opened. A look-up, a refused command and a repeat make no call on the disk where nothing is in doubt.
+    /// gate is opened. A look-up, a refused command and a repeat make no call on the disk if nothing is in doubt.
     pub fn ask(&mut self, caller: u32, now: i64, ask: &Ask) -> Answer
         requires well_formed { IsWellFormedAsk ask.now }
         ensures answered { IsAnswered self.old.history self.new.history self.new.doubt (desk_answer LIMIT self.old.history caller now ask.now) result }
@@ -93,12 +93,8 @@ impl<D: Disk, const LIMIT: usize> Desk<D, LIMIT> {
 
         // Memory is taken before the first byte is written.
         ensures unwritten { self.old.doubt ≡ false → result ≡ Answer.NoMemory → self.new.disk ≡ self.old.disk }
-        ensures extends { Extends (D.trace self.old.disk) (D.trace self.new.disk) }
-        ensures moment { D.moment self.old.disk ≤ D.moment self.new.disk }
-        ensures never_falls { D.faults self.old.disk ≤ D.faults self.new.disk }
-        ensures cause { result ≡ Answer.DiskFault → Rose (D.faults self.old.disk) (D.faults self.new.disk) }
-        ensures quiet { result ≢ Answer.DiskFault → D.faults self.new.disk ≡ D.faults self.old.disk }
-        ensures once { result ≡ Answer.DiskFault → D.faults self.new.disk ≡ raised 1 (D.faults self.old.disk) }
+        ensures moves { MovesOn (D.trace self.old.disk) (D.trace self.new.disk) (D.moment self.old.disk) (D.moment self.new.disk) }
+        ensures counts { CountsOnceIf (result ≡ Answer.DiskFault) (D.faults self.old.disk) (D.faults self.new.disk) }
         ensures failed { result ≡ Answer.DiskFault → self.new.failed ≡ raised 1 self.old.failed }
         ensures not_failed { result ≢ Answer.DiskFault → self.new.failed ≡ self.old.failed }
         ensures opened { self.new.opened ≡ self.old.opened }
@@ -117,7 +113,7 @@ impl<D: Disk, const LIMIT: usize> Desk<D, LIMIT> {
         &self.records.book
     }
 
-    /// How many of its answers were `DiskFault`. The count stands still at the last `u64`.
+    /// How many of its answers were `DiskFault`. The count stays at the last `u64` once it is there.
     pub fn failed(&self) -> u64
         ensures count { result ≡ self.now.failed }
         ensures durable { IsDurable D.trace D.moment D.faults LIMIT self.now }
@@ -142,19 +138,15 @@ impl<D: Disk, const LIMIT: usize> Desk<D, LIMIT> {
 
     /// Its disk, after it has opened the gate of an entry in doubt once more, and whether that entry is still in doubt.
     ///
-    /// Where nothing is in doubt it makes no call. Takes no memory.
+    /// If nothing is in doubt, it makes no call. Takes no memory.
     pub fn finish(self) -> (D, bool)
         ensures untouched { self.doubt ≡ false → (result.0 ≡ self.disk) × (result.1 ≡ false) }
         ensures since { EachFrom (D.trace result.0) self.opened.moment (RecoversFront LIMIT self.history self.opened.entries) }
         ensures now { EachNow (D.trace result.0) (RecoversNow LIMIT result.1 self.history) }
         ensures acknowledged { KeepsAcknowledged D.trace LIMIT self result.0 }
-        ensures extends { Extends (D.trace self.disk) (D.trace result.0) }
+        ensures moves { MovesOn (D.trace self.disk) (D.trace result.0) (D.moment self.disk) (D.moment result.0) }
         ensures continues { Extends (D.trace self.found) (D.trace result.0) }
-        ensures moment { D.moment self.disk ≤ D.moment result.0 }
-        ensures never_falls { D.faults self.disk ≤ D.faults result.0 }
-        ensures cause { result.1 ≡ true → Rose (D.faults self.disk) (D.faults result.0) }
-        ensures quiet { result.1 ≡ false → D.faults result.0 ≡ D.faults self.disk }
-        ensures once { result.1 ≡ true → D.faults result.0 ≡ raised 1 (D.faults self.disk) }
+        ensures counts { CountsOnceIf (result.1 ≡ true) (D.faults self.disk) (D.faults result.0) }
         ensures counted { result.1 ≡ false → D.faults result.0 ≡ raised self.failed self.opened.faults }
         ensures counted_once_more { result.1 ≡ true → D.faults result.0 ≡ raised (self.failed + 1) self.opened.faults }
     {

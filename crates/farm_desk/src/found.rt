@@ -5,7 +5,7 @@ use farm_book::Book;
 use farm_disk::Disk;
 use std::marker::Model;
 
-/// What a desk was made with: its disk and its book then, and how it stood. No value of it is made: a desk tells it by its first entries, its
+/// What a desk was made with: its disk and its book then, and how it stood. It is never made: a desk gives it by its first entries, its
 /// numbers and a snapshot of its disk.
 #[derive(Drop)]
 pub struct Found<D: Disk, const LIMIT: usize> {

@@ -1,12 +1,12 @@
 //! How a desk is made, from a site or from the journal on a disk.
 
 ghost use Rattle.std.specs.Prelude.{◌≡◌, ◌≢◌, ◌≤◌, IfErr, IfOk, length};
-ghost use Rattle.farm_base.specs.Counts.{Rose};
 ghost use Rattle.farm_base.specs.Known.{WhereKnown};
 ghost use Rattle.farm_disk.specs.Images.{present};
-ghost use Rattle.farm_disk.specs.Runs.{Extends, WritesNothing};
+ghost use Rattle.farm_disk.specs.Runs.{MovesOn, WritesNothing};
 ghost use Rattle.farm_history.specs.History.{empty_history, last_place};
-ghost use Rattle.farm_history.specs.declared.limits.TheConstants.{GREATEST_LIMIT};
+ghost use Rattle.farm_history.specs.declared.limits.TheConstants.{MOST_LIMIT};
+ghost use Rattle.farm_journal.specs.Standing.{CountsMaking};
 ghost use Rattle.farm_journal.specs.Creating.{IsCreateRefusal, WasEmpty};
 ghost use Rattle.farm_site.specs.Described.{IsSite};
 ghost use Rattle.site_encoding.specs.Encoding.{site_encoding};
@@ -31,22 +31,18 @@ use std::alloc::Global;
 impl<D: Disk, const LIMIT: usize> Desk<D, LIMIT> {
     /// Makes the journal of a site on an empty disk, and its desk, which has no entry.
     ///
-    /// A crash within leaves no journal, or that of the site without an entry. Where it fails the disk is given back: `NotEmpty` for one that
-    /// has bytes, `DiskFault` where the disk failed, `NoMemory` before the disk's first call.
+    /// A crash within leaves no journal, or that of the site without an entry. If it fails, the disk is given back: `NotEmpty` if it
+    /// has bytes, `DiskFault` if the disk failed, `NoMemory` before the disk's first call.
     pub fn create(alloc: Global, disk: D, site: Site) -> Result<Self, (D, CreateFault)>
-        requires limit { LIMIT ≤ GREATEST_LIMIT }
+        requires limit { LIMIT ≤ MOST_LIMIT }
         ensures made { IfOk result (λ desk. desk.history ≡ empty_history (described site)) }
         ensures new { IfOk result (λ desk. IsJustMade D.moment D.faults desk 0) }
         ensures durable { IfOk result (λ desk. IsDurable D.trace D.moment D.faults LIMIT desk) }
         ensures was_empty { IfOk result (λ desk. WasEmpty (D.trace disk) (D.trace desk.disk)) }
         ensures refused { IfErr result (λ refusal. IsCreateRefusal D.trace disk refusal.0 refusal.1) }
         ensures crash_safe { IsCrashSafe LIMIT (described site) (D.trace disk) (D.trace (disk_left result)) }
-        ensures extends { Extends (D.trace disk) (D.trace (disk_left result)) }
-        ensures moment { D.moment disk ≤ D.moment (disk_left result) }
-        ensures never_falls { D.faults disk ≤ D.faults (disk_left result) }
-        ensures cause { IfErr result (λ refusal. refusal.1 ≡ CreateFault.DiskFault → Rose (D.faults disk) (D.faults refusal.0)) }
-        ensures quiet { IfErr result (λ refusal. refusal.1 ≢ CreateFault.DiskFault → D.faults refusal.0 ≡ D.faults disk) }
-        ensures quiet_made { IfOk result (λ desk. D.faults desk.disk ≡ D.faults disk) }
+        ensures moves { MovesOn (D.trace disk) (D.trace (disk_left result)) (D.moment disk) (D.moment (disk_left result)) }
+        ensures counts { CountsMaking D.faults CreateFault.DiskFault disk (disk_left result) result }
     {
         let (header, book, bytes) = match prepared(alloc, site) {
             Ok(prepared) => prepared,
@@ -58,23 +54,19 @@ impl<D: Disk, const LIMIT: usize> Desk<D, LIMIT> {
         }
     }
 
-    /// The desk of the journal that stands on a disk. Nothing of it is in doubt.
+    /// The desk of the journal on a disk. Nothing of it is in doubt.
     ///
-    /// Where the journal isn't recovered the disk is given back: `NotJournal` and `Damaged` as the bytes say, `DiskFault` where the disk
+    /// If the journal isn't recovered, the disk is given back: `NotJournal` and `Damaged` as the bytes say, `DiskFault` if the disk
     /// failed, and `NoMemory`. Nothing is written.
     pub fn recover(alloc: Global, disk: D) -> Result<Self, (D, RecoverFault)>
-        requires limit { LIMIT ≤ GREATEST_LIMIT }
+        requires limit { LIMIT ≤ MOST_LIMIT }
         ensures recovered { IfOk result (λ desk. WhereKnown (D.trace desk.disk) (λ states. Recovers LIMIT desk.history (present states).seen)) }
         ensures new { IfOk result (λ desk. IsJustMade D.moment D.faults desk (last_place desk.history)) }
         ensures durable { IfOk result (λ desk. IsDurable D.trace D.moment D.faults LIMIT desk) }
         ensures refused { IfErr result (λ refusal. WhereKnown (D.trace refusal.0) (λ states. IsRefused LIMIT (present states).seen refusal.1)) }
         ensures wrote_nothing { WritesNothing (D.trace disk) (D.trace (disk_left result)) }
-        ensures extends { Extends (D.trace disk) (D.trace (disk_left result)) }
-        ensures moment { D.moment disk ≤ D.moment (disk_left result) }
-        ensures never_falls { D.faults disk ≤ D.faults (disk_left result) }
-        ensures cause { IfErr result (λ refusal. refusal.1 ≡ RecoverFault.DiskFault → Rose (D.faults disk) (D.faults refusal.0)) }
-        ensures quiet { IfErr result (λ refusal. refusal.1 ≢ RecoverFault.DiskFault → D.faults refusal.0 ≡ D.faults disk) }
-        ensures quiet_recovered { IfOk result (λ desk. D.faults desk.disk ≡ D.faults disk) }
+        ensures moves { MovesOn (D.trace disk) (D.trace (disk_left result)) (D.moment disk) (D.moment (disk_left result)) }
+        ensures counts { CountsMaking D.faults RecoverFault.DiskFault disk (disk_left result) result }
     {
         let bytes = match Vec::with_capacity(alloc, MOST_ENTRY_BYTES) {
             Ok(bytes) => bytes,
@@ -96,7 +88,7 @@ fn prepared<const LIMIT: usize>(
     alloc: Global,
     site: Site,
 ) -> Result<(Vec<u8>, Book<LIMIT>, Vec<u8>), NoMemory>
-    requires limit { LIMIT ≤ GREATEST_LIMIT }
+    requires limit { LIMIT ≤ MOST_LIMIT }
     ensures header { IfOk result (λ prepared. prepared.0.items ≡ site_encoding (described site)) }
     ensures short { IfOk result (λ prepared. length prepared.0.items ≤ MAX_BODY) }
     ensures sound { IfOk result (λ prepared. IsSite (described site)) }

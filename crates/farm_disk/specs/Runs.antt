@@ -9,6 +9,11 @@ Extends old None = Unit {0}
 Extends None (Some new) = ⊥
 Extends (Some old) (Some new) = take (length old) new ≡ old
 
+-- where the states are known afterwards they continue those before, and the moment isn't an earlier one
+pub record MovesOn (old new : Option (List State)) (before now : ℕ) : Type 0 where
+  pub extends : Extends old new
+  pub moment : before ≤ now
+
 -- each image that a crash may leave now is such a list of bytes
 abbrev pub EachNow : Option (List State) → (List ℕ → Type 0) → Type 0
 EachNow trace IsSuch = WhereKnown trace (λ states. (image : List ℕ) → IsCrashImage (present states) image → IsSuch image)

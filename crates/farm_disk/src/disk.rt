@@ -1,7 +1,7 @@
 //! Disks, by the states that they have had.
 
 ghost use Rattle.std.specs.Prelude.{◌≡◌, ◌+◌, ℕ, List, OnErr, OnOk, Option, length};
-ghost use Rattle.farm_base.specs.Counts.{HasCause, raised};
+ghost use Rattle.farm_base.specs.Counts.{CountsOnce};
 ghost use Rattle.farm_base.specs.Known.{WhereKnown};
 ghost use Rattle.farm_disk.specs.Calls.{Measures, Passes, Reads, Syncs, Writes};
 ghost use Rattle.farm_disk.specs.Images.{IsCrashImage, State, present};
@@ -33,17 +33,13 @@ pub trait Disk {
     fn len(&mut self) -> Result<u64, Failed>
         ensures size { Measures (Self.trace self.old) (Self.trace self.new) result }
         ensures moment { Passes (Self.trace self.old) (Self.trace self.new) (Self.moment self.old) (Self.moment self.new) }
-        ensures cause { HasCause (Self.faults self.old) (Self.faults self.new) result }
-        ensures quiet { OnOk result (Self.faults self.new ≡ Self.faults self.old) }
-        ensures once { OnErr result (Self.faults self.new ≡ raised 1 (Self.faults self.old)) };
+        ensures counts { CountsOnce (Self.faults self.old) (Self.faults self.new) result };
 
     /// Reads bytes from an offset on into the front of `into`, and says how many; 0 for a buffer that has room is the end.
     fn read_at(&mut self, at: u64, into: &mut [u8]) -> Result<usize, Failed>
         ensures bytes { Reads (Self.trace self.old) (Self.trace self.new) at into.new result }
         ensures moment { Passes (Self.trace self.old) (Self.trace self.new) (Self.moment self.old) (Self.moment self.new) }
-        ensures cause { HasCause (Self.faults self.old) (Self.faults self.new) result }
-        ensures quiet { OnOk result (Self.faults self.new ≡ Self.faults self.old) }
-        ensures once { OnErr result (Self.faults self.new ≡ raised 1 (Self.faults self.old)) };
+        ensures counts { CountsOnce (Self.faults self.old) (Self.faults self.new) result };
 
     /// Writes all of `bytes` at an offset, over what is there and past the end, with zeros up to an offset past the end. A write
     /// without a byte takes its two moments and changes nothing.
@@ -52,17 +48,13 @@ pub trait Disk {
     fn write_at(&mut self, at: u64, bytes: &[u8]) -> Result<(), Failed>
         ensures states { Writes (Self.trace self.old) (Self.trace self.new) at bytes.now result }
         ensures moment { Passes (Self.trace self.old) (Self.trace self.new) (Self.moment self.old) (Self.moment self.new) }
-        ensures cause { HasCause (Self.faults self.old) (Self.faults self.new) result }
-        ensures quiet { OnOk result (Self.faults self.new ≡ Self.faults self.old) }
-        ensures once { OnErr result (Self.faults self.new ≡ raised 1 (Self.faults self.old)) };
+        ensures counts { CountsOnce (Self.faults self.old) (Self.faults self.new) result };
 
     /// Makes what reads give last: from then on a crash leaves it, but for the writes that begin later.
     fn sync(&mut self) -> Result<(), Failed>
         ensures states { Syncs (Self.trace self.old) (Self.trace self.new) result }
         ensures moment { Passes (Self.trace self.old) (Self.trace self.new) (Self.moment self.old) (Self.moment self.new) }
-        ensures cause { HasCause (Self.faults self.old) (Self.faults self.new) result }
-        ensures quiet { OnOk result (Self.faults self.new ≡ Self.faults self.old) }
-        ensures once { OnErr result (Self.faults self.new ≡ raised 1 (Self.faults self.old)) };
+        ensures counts { CountsOnce (Self.faults self.old) (Self.faults self.new) result };
 
     /// Where it stands. What reads give is among what a crash at this moment may leave.
     fn stand(&self) -> Stand

@@ -1,7 +1,7 @@
 //! A disk over a file of the system.
 
 ghost use Rattle.std.specs.Prelude.{◌≡◌, ◌≤◌, ◌+◌, length, string_bytes, IfOk, None, OnErr, OnOk};
-ghost use Rattle.farm_base.specs.Counts.{HasCause, Rose, raised};
+ghost use Rattle.farm_base.specs.Counts.{CountsOnce, Rose, raised};
 ghost use Rattle.farm_base.specs.Known.{WhereKnown};
 ghost use Rattle.farm_disk.specs.Calls.{Measures, Passes, Reads, Syncs, Writes};
 ghost use Rattle.farm_disk.specs.Files.{two_moments_more};
@@ -65,9 +65,7 @@ impl<R: Files<File = File> + AllocGlobal> FileDisk<R> {
     // What a call on the file gave, its fault counted.
     fn counted<T>(&mut self, answer: io::Result<T>) -> Result<T, Failed>
         ensures value { IfOk result (λ value. answer ≡ Ok value) }
-        ensures cause { HasCause self.old.faults self.new.faults result }
-        ensures once { OnErr result (self.new.faults ≡ raised 1 self.old.faults) }
-        ensures quiet { OnOk result (self.new.faults ≡ self.old.faults) }
+        ensures counts { CountsOnce self.old.faults self.new.faults result }
         ensures moment { self.new.moment ≡ self.old.moment }
         ensures path { self.new.path ≡ self.old.path }
     {
@@ -79,9 +77,7 @@ impl<R: Files<File = File> + AllocGlobal> FileDisk<R> {
 
     // The same of a write or a sync, which takes two moments.
     fn passed(&mut self, answer: io::Result<()>) -> Result<(), Failed>
-        ensures cause { HasCause self.old.faults self.new.faults result }
-        ensures once { OnErr result (self.new.faults ≡ raised 1 self.old.faults) }
-        ensures quiet { OnOk result (self.new.faults ≡ self.old.faults) }
+        ensures counts { CountsOnce self.old.faults self.new.faults result }
         ensures moment { self.new.moment ≡ two_moments_more self.old.moment }
         ensures never_falls { self.old.moment ≤ self.new.moment }
         ensures path { self.new.path ≡ self.old.path }
@@ -101,9 +97,7 @@ impl<R: Files<File = File> + AllocGlobal> Disk for FileDisk<R> {
     fn len(&mut self) -> Result<u64, Failed>
         ensures size { Measures (⟦<FileDisk<R> as Disk>⟧.trace self.old) (⟦<FileDisk<R> as Disk>⟧.trace self.new) result }
         ensures moment { Passes (⟦<FileDisk<R> as Disk>⟧.trace self.old) (⟦<FileDisk<R> as Disk>⟧.trace self.new) (⟦<FileDisk<R> as Disk>⟧.moment self.old) (⟦<FileDisk<R> as Disk>⟧.moment self.new) }
-        ensures cause { HasCause (⟦<FileDisk<R> as Disk>⟧.faults self.old) (⟦<FileDisk<R> as Disk>⟧.faults self.new) result }
-        ensures quiet { OnOk result (⟦<FileDisk<R> as Disk>⟧.faults self.new ≡ ⟦<FileDisk<R> as Disk>⟧.faults self.old) }
-        ensures once { OnErr result (⟦<FileDisk<R> as Disk>⟧.faults self.new ≡ raised 1 (⟦<FileDisk<R> as Disk>⟧.faults self.old)) }
+        ensures counts { CountsOnce (⟦<FileDisk<R> as Disk>⟧.faults self.old) (⟦<FileDisk<R> as Disk>⟧.faults self.new) result }
 
         // The opening of the file that failed is a failed call too, and a measuring takes no moment.
         ensures no_moment { self.new.moment ≡ self.old.moment }
@@ -116,9 +110,7 @@ impl<R: Files<File = File> + AllocGlobal> Disk for FileDisk<R> {
     fn read_at(&mut self, at: u64, into: &mut [u8]) -> Result<usize, Failed>
         ensures bytes { Reads (⟦<FileDisk<R> as Disk>⟧.trace self.old) (⟦<FileDisk<R> as Disk>⟧.trace self.new) at into.new result }
         ensures moment { Passes (⟦<FileDisk<R> as Disk>⟧.trace self.old) (⟦<FileDisk<R> as Disk>⟧.trace self.new) (⟦<FileDisk<R> as Disk>⟧.moment self.old) (⟦<FileDisk<R> as Disk>⟧.moment self.new) }
-        ensures cause { HasCause (⟦<FileDisk<R> as Disk>⟧.faults self.old) (⟦<FileDisk<R> as Disk>⟧.faults self.new) result }
-        ensures quiet { OnOk result (⟦<FileDisk<R> as Disk>⟧.faults self.new ≡ ⟦<FileDisk<R> as Disk>⟧.faults self.old) }
-        ensures once { OnErr result (⟦<FileDisk<R> as Disk>⟧.faults self.new ≡ raised 1 (⟦<FileDisk<R> as Disk>⟧.faults self.old)) }
+        ensures counts { CountsOnce (⟦<FileDisk<R> as Disk>⟧.faults self.old) (⟦<FileDisk<R> as Disk>⟧.faults self.new) result }
         ensures no_moment { self.new.moment ≡ self.old.moment }
         ensures path { self.new.path ≡ self.old.path }
     {
@@ -129,9 +121,7 @@ impl<R: Files<File = File> + AllocGlobal> Disk for FileDisk<R> {
     fn write_at(&mut self, at: u64, bytes: &[u8]) -> Result<(), Failed>
         ensures states { Writes (⟦<FileDisk<R> as Disk>⟧.trace self.old) (⟦<FileDisk<R> as Disk>⟧.trace self.new) at bytes.now result }
         ensures moment { Passes (⟦<FileDisk<R> as Disk>⟧.trace self.old) (⟦<FileDisk<R> as Disk>⟧.trace self.new) (⟦<FileDisk<R> as Disk>⟧.moment self.old) (⟦<FileDisk<R> as Disk>⟧.moment self.new) }
-        ensures cause { HasCause (⟦<FileDisk<R> as Disk>⟧.faults self.old) (⟦<FileDisk<R> as Disk>⟧.faults self.new) result }
-        ensures quiet { OnOk result (⟦<FileDisk<R> as Disk>⟧.faults self.new ≡ ⟦<FileDisk<R> as Disk>⟧.faults self.old) }
-        ensures once { OnErr result (⟦<FileDisk<R> as Disk>⟧.faults self.new ≡ raised 1 (⟦<FileDisk<R> as Disk>⟧.faults self.old)) }
+        ensures counts { CountsOnce (⟦<FileDisk<R> as Disk>⟧.faults self.old) (⟦<FileDisk<R> as Disk>⟧.faults self.new) result }
 
         // A write takes its two moments also where it failed.
         ensures two_moments { self.new.moment ≡ two_moments_more self.old.moment }
@@ -144,9 +134,7 @@ impl<R: Files<File = File> + AllocGlobal> Disk for FileDisk<R> {
     fn sync(&mut self) -> Result<(), Failed>
         ensures states { Syncs (⟦<FileDisk<R> as Disk>⟧.trace self.old) (⟦<FileDisk<R> as Disk>⟧.trace self.new) result }
         ensures moment { Passes (⟦<FileDisk<R> as Disk>⟧.trace self.old) (⟦<FileDisk<R> as Disk>⟧.trace self.new) (⟦<FileDisk<R> as Disk>⟧.moment self.old) (⟦<FileDisk<R> as Disk>⟧.moment self.new) }
-        ensures cause { HasCause (⟦<FileDisk<R> as Disk>⟧.faults self.old) (⟦<FileDisk<R> as Disk>⟧.faults self.new) result }
-        ensures quiet { OnOk result (⟦<FileDisk<R> as Disk>⟧.faults self.new ≡ ⟦<FileDisk<R> as Disk>⟧.faults self.old) }
-        ensures once { OnErr result (⟦<FileDisk<R> as Disk>⟧.faults self.new ≡ raised 1 (⟦<FileDisk<R> as Disk>⟧.faults self.old)) }
+        ensures counts { CountsOnce (⟦<FileDisk<R> as Disk>⟧.faults self.old) (⟦<FileDisk<R> as Disk>⟧.faults self.new) result }
         ensures two_moments { self.new.moment ≡ two_moments_more self.old.moment }
         ensures path { self.new.path ≡ self.old.path }
     {

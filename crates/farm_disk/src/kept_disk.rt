@@ -39,7 +39,7 @@ impl Model for KeptDisk {
 impl KeptDisk {
     /// A disk with these bytes, all of them synced.
     #[tactic(auto, unfolding(crate::specs::Memory::seen_of))]
-    pub fn new(alloc: Global, bytes: Vec<u8>) -> Result<Self, NoMemory>
+    pub(crate) fn new(alloc: Global, bytes: Vec<u8>) -> Result<Self, NoMemory>
         ensures start { IfOk result (λ disk. disk.start ≡ bytes.items) }
         ensures calls { IfOk result (λ disk. disk.calls ≡ []) }
     {
@@ -53,7 +53,7 @@ impl KeptDisk {
 
     /// Makes room for this many writes and syncs more, for copies of this many bytes of each write, and for this many bytes that
     /// reads give. Room for copies that was there before is given up.
-    pub fn reserve(
+    pub(crate) fn reserve(
         &mut self,
         alloc: Global,
         calls: usize,
@@ -75,14 +75,14 @@ impl KeptDisk {
     }
 
     /// The bytes that reads give.
-    pub fn seen(&self) -> &[u8]
+    pub(crate) fn seen(&self) -> &[u8]
         ensures { result.now ≡ seen_of self.now.start self.now.calls }
     {
         &self.seen
     }
 
     /// Keeps a write, and lets reads give what it wrote where it is done. Changes nothing where there is no memory.
-    pub fn write(
+    pub(crate) fn write(
         &mut self,
         alloc: Global,
         at: u64,
@@ -110,7 +110,7 @@ impl KeptDisk {
 
     /// Keeps a sync. Changes nothing where there is no memory.
     #[tactic(auto, using(crate::proofs::Replay::seen_of_sync))]
-    pub fn sync(&mut self, done: bool) -> Result<(), NoMemory>
+    pub(crate) fn sync(&mut self, done: bool) -> Result<(), NoMemory>
         ensures kept { OnOk result (self.new.calls ≡ self.old.calls ++ DiskCall.Sync done ∷ []) }
         ensures start { self.new.start ≡ self.old.start }
         ensures stays { OnErr result (self.new.calls ≡ self.old.calls) }
@@ -121,14 +121,14 @@ impl KeptDisk {
     }
 
     /// What a crash at a moment leaves by a fill.
-    pub fn image(&self, alloc: Global, moment: u64, fill: Fill) -> Result<Vec<u8>, NoMemory>
+    pub(crate) fn image(&self, alloc: Global, moment: u64, fill: Fill) -> Result<Vec<u8>, NoMemory>
         ensures { IfOk result (λ image. image.items ≡ rebuilt fill self.now.start self.now.start (found_at self.now.calls moment)) }
     {
         image_at(alloc, &self.start, &self.calls, moment, fill)
     }
 
     /// The present moment: each write or sync took two.
-    pub fn moment(&self) -> u64
+    pub(crate) fn moment(&self) -> u64
         ensures { result ≡ 2 * length self.now.calls }
     {
         2 * self.calls.len() as u64

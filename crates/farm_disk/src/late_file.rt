@@ -10,7 +10,7 @@ use std::os::unix::fs::FileExt;
 use std::rt::Files;
 
 // The greatest offset that the system takes.
-const LAST_OFFSET: u64 = i64::MAX as u64;
+const MOST_OFFSET: u64 = i64::MAX as u64;
 
 /// The file at a path. A call on it opens it where it isn't open, and leaves it closed where it can't.
 #[derive(Drop)]
@@ -30,7 +30,7 @@ impl<R> Model for LateFile<R> {
 
 impl<R: Files<File = File> + AllocGlobal> LateFile<R> {
     /// The file at this path, not opened yet.
-    pub fn new(rt: R, path: String) -> Self
+    pub(crate) fn new(rt: R, path: String) -> Self
         ensures { result ≡ string_bytes path }
     {
         LateFile {
@@ -51,7 +51,7 @@ impl<R: Files<File = File> + AllocGlobal> LateFile<R> {
     }
 
     /// How many bytes it holds.
-    pub fn size(&mut self) -> io::Result<u64>
+    pub(crate) fn size(&mut self) -> io::Result<u64>
         ensures { self.new ≡ self.old }
     {
         let file = self.take()?;
@@ -61,7 +61,7 @@ impl<R: Files<File = File> + AllocGlobal> LateFile<R> {
     }
 
     /// Reads bytes from an offset on, and says how many; 0 is the end, or a buffer without room.
-    pub fn read_at(&mut self, at: u64, into: &mut [u8]) -> io::Result<usize>
+    pub(crate) fn read_at(&mut self, at: u64, into: &mut [u8]) -> io::Result<usize>
         ensures within { IfOk result (λ count. count ≤ length into.new) }
         ensures path { self.new ≡ self.old }
     {
@@ -72,7 +72,7 @@ impl<R: Files<File = File> + AllocGlobal> LateFile<R> {
     }
 
     /// Writes all of `bytes` at an offset.
-    pub fn write_at(&mut self, at: u64, bytes: &[u8]) -> io::Result<()>
+    pub(crate) fn write_at(&mut self, at: u64, bytes: &[u8]) -> io::Result<()>
         ensures { self.new ≡ self.old }
     {
         let file = self.take()?;
@@ -82,7 +82,7 @@ impl<R: Files<File = File> + AllocGlobal> LateFile<R> {
     }
 
     /// Makes its bytes and its length last.
-    pub fn sync(&mut self) -> io::Result<()>
+    pub(crate) fn sync(&mut self) -> io::Result<()>
         ensures { self.new ≡ self.old }
     {
         let file = self.take()?;
@@ -113,7 +113,7 @@ fn write_whole(file: &File, at: u64, bytes: &[u8]) -> io::Result<()> {
 }
 
 fn check_offset(at: u64) -> io::Result<()> {
-    if at <= LAST_OFFSET {
+    if at <= MOST_OFFSET {
         Ok(())
     } else {
         Err(io::Error::from(ErrorKind::InvalidInput))

@@ -1,7 +1,7 @@
 //! A disk in memory.
 
 ghost use Rattle.std.specs.Prelude.{◌≡◌, ◌↔◌, ◌≤◌, ◌+◌, ◌-◌, ◌*◌, ◌++◌, [], ◌∷◌, false, IfOk, IsErr, OnErr, OnOk, Some, length, min};
-ghost use Rattle.farm_base.specs.Counts.{HasCause, raised};
+ghost use Rattle.farm_base.specs.Counts.{CountsOnce};
 ghost use Rattle.farm_base.specs.Known.{WhereKnown};
 ghost use Rattle.farm_disk.specs.Calls.{Measures, Passes, Reads, Syncs, Writes};
 ghost use Rattle.farm_disk.specs.Images.{IsCrashImage, at_rest, present, state_at};
@@ -93,9 +93,7 @@ impl Disk for MemDisk {
     fn len(&mut self) -> Result<u64, Failed>
         ensures size { Measures (⟦<MemDisk as Disk>⟧.trace self.old) (⟦<MemDisk as Disk>⟧.trace self.new) result }
         ensures moment { Passes (⟦<MemDisk as Disk>⟧.trace self.old) (⟦<MemDisk as Disk>⟧.trace self.new) (⟦<MemDisk as Disk>⟧.moment self.old) (⟦<MemDisk as Disk>⟧.moment self.new) }
-        ensures cause { HasCause (⟦<MemDisk as Disk>⟧.faults self.old) (⟦<MemDisk as Disk>⟧.faults self.new) result }
-        ensures quiet { OnOk result (⟦<MemDisk as Disk>⟧.faults self.new ≡ ⟦<MemDisk as Disk>⟧.faults self.old) }
-        ensures once { OnErr result (⟦<MemDisk as Disk>⟧.faults self.new ≡ raised 1 (⟦<MemDisk as Disk>⟧.faults self.old)) }
+        ensures counts { CountsOnce (⟦<MemDisk as Disk>⟧.faults self.old) (⟦<MemDisk as Disk>⟧.faults self.new) result }
 
         // A listed measuring fails, and no other.
         ensures listed { IsErr result ↔ FailsNext self.old.counted }
@@ -111,9 +109,7 @@ impl Disk for MemDisk {
     fn read_at(&mut self, at: u64, into: &mut [u8]) -> Result<usize, Failed>
         ensures bytes { Reads (⟦<MemDisk as Disk>⟧.trace self.old) (⟦<MemDisk as Disk>⟧.trace self.new) at into.new result }
         ensures moment { Passes (⟦<MemDisk as Disk>⟧.trace self.old) (⟦<MemDisk as Disk>⟧.trace self.new) (⟦<MemDisk as Disk>⟧.moment self.old) (⟦<MemDisk as Disk>⟧.moment self.new) }
-        ensures cause { HasCause (⟦<MemDisk as Disk>⟧.faults self.old) (⟦<MemDisk as Disk>⟧.faults self.new) result }
-        ensures quiet { OnOk result (⟦<MemDisk as Disk>⟧.faults self.new ≡ ⟦<MemDisk as Disk>⟧.faults self.old) }
-        ensures once { OnErr result (⟦<MemDisk as Disk>⟧.faults self.new ≡ raised 1 (⟦<MemDisk as Disk>⟧.faults self.old)) }
+        ensures counts { CountsOnce (⟦<MemDisk as Disk>⟧.faults self.old) (⟦<MemDisk as Disk>⟧.faults self.new) result }
 
         // A listed read fails, and no other: any other gives as much as there is room for.
         ensures listed { IsErr result ↔ FailsNext self.old.counted }
@@ -130,9 +126,7 @@ impl Disk for MemDisk {
     fn write_at(&mut self, at: u64, bytes: &[u8]) -> Result<(), Failed>
         ensures states { Writes (⟦<MemDisk as Disk>⟧.trace self.old) (⟦<MemDisk as Disk>⟧.trace self.new) at bytes.now result }
         ensures moment { Passes (⟦<MemDisk as Disk>⟧.trace self.old) (⟦<MemDisk as Disk>⟧.trace self.new) (⟦<MemDisk as Disk>⟧.moment self.old) (⟦<MemDisk as Disk>⟧.moment self.new) }
-        ensures cause { HasCause (⟦<MemDisk as Disk>⟧.faults self.old) (⟦<MemDisk as Disk>⟧.faults self.new) result }
-        ensures quiet { OnOk result (⟦<MemDisk as Disk>⟧.faults self.new ≡ ⟦<MemDisk as Disk>⟧.faults self.old) }
-        ensures once { OnErr result (⟦<MemDisk as Disk>⟧.faults self.new ≡ raised 1 (⟦<MemDisk as Disk>⟧.faults self.old)) }
+        ensures counts { CountsOnce (⟦<MemDisk as Disk>⟧.faults self.old) (⟦<MemDisk as Disk>⟧.faults self.new) result }
 
         // A listed write fails, and one that finds no memory, which changes nothing but the count. With room a listed one alone
         // fails, and has begun.
@@ -158,9 +152,7 @@ impl Disk for MemDisk {
     fn sync(&mut self) -> Result<(), Failed>
         ensures states { Syncs (⟦<MemDisk as Disk>⟧.trace self.old) (⟦<MemDisk as Disk>⟧.trace self.new) result }
         ensures moment { Passes (⟦<MemDisk as Disk>⟧.trace self.old) (⟦<MemDisk as Disk>⟧.trace self.new) (⟦<MemDisk as Disk>⟧.moment self.old) (⟦<MemDisk as Disk>⟧.moment self.new) }
-        ensures cause { HasCause (⟦<MemDisk as Disk>⟧.faults self.old) (⟦<MemDisk as Disk>⟧.faults self.new) result }
-        ensures quiet { OnOk result (⟦<MemDisk as Disk>⟧.faults self.new ≡ ⟦<MemDisk as Disk>⟧.faults self.old) }
-        ensures once { OnErr result (⟦<MemDisk as Disk>⟧.faults self.new ≡ raised 1 (⟦<MemDisk as Disk>⟧.faults self.old)) }
+        ensures counts { CountsOnce (⟦<MemDisk as Disk>⟧.faults self.old) (⟦<MemDisk as Disk>⟧.faults self.new) result }
 
         // A listed sync fails, and one that finds no memory, which changes nothing but the count. With room a listed one alone
         // fails, and has begun.

@@ -12,7 +12,10 @@ const STANDARD_ERROR: i32 = 2;
 ///
 /// Until it is dropped no other open of the file gets the lock, be it of this process or another. What the file holds is on the
 /// disk as it reads, and its name is in its folder.
-pub fn open_file<R: Files<File = File> + AllocGlobal>(rt: &R, path: &str) -> io::Result<File> {
+pub(crate) fn open_file<R: Files<File = File> + AllocGlobal>(
+    rt: &R,
+    path: &str,
+) -> io::Result<File> {
     let file = above_streams(open_or_make(rt, path)?)?;
     file.try_lock()?;
     settle(&file)?;

@@ -29,7 +29,7 @@ fn put(file: &mut [u8], from: usize, bytes: &[u8])
 /// Puts bytes over those of a file at an offset, and `filler` between its end and an offset past it. No byte changes nothing.
 ///
 /// Where there is no memory the file stays as it was.
-pub fn overlay(file: &mut Vec<u8>, at: u64, bytes: &[u8], filler: u8) -> Result<(), NoMemory>
+pub(crate) fn overlay(file: &mut Vec<u8>, at: u64, bytes: &[u8], filler: u8) -> Result<(), NoMemory>
     ensures over { OnOk result (file.new.items ≡ overlaid filler at bytes.now file.old.items) }
     ensures stays { OnErr result (file.new.items ≡ file.old.items) }
 
@@ -48,7 +48,7 @@ pub fn overlay(file: &mut Vec<u8>, at: u64, bytes: &[u8], filler: u8) -> Result<
 }
 
 /// Copies as many bytes from an offset on as there is room for, and says how many.
-pub fn copy_at(file: &[u8], at: u64, into: &mut [u8]) -> usize
+pub(crate) fn copy_at(file: &[u8], at: u64, into: &mut [u8]) -> usize
     ensures whole { result ≡ min (length into.old) (length file.now - at) }
     ensures copied { take result into.new ≡ take result (drop at file.now) }
 {

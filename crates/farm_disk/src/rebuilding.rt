@@ -84,7 +84,7 @@ impl Rebuilding {
 }
 
 /// What a crash at a moment leaves by a fill, of a disk that held these bytes and then took these calls.
-pub fn image_at(
+pub(crate) fn image_at(
     alloc: Global,
     start: &[u8],
     calls: &[DiskCall],

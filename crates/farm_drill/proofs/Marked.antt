@@ -273,7 +273,7 @@ is_next seed count =
     subst (λ last. IsMovement (next_number last) (drill_commands seed count) (commands_of course (next_number course.number)))
     (number_after seed count) of_number
 
--- each drill goes on by the movement of its next number
+-- each drill continues by the movement of its next number
 pub goes_on : GoesOn
 goes_on = λ seed count. record {
   movement = next_commands (course_after count (first_course seed));

@@ -8,7 +8,7 @@ use Rattle.farm_history.specs.History.{History}
 use Rattle.farm_recovery.specs.Laws.{OneHistory}
 use Rattle.journaled_book.specs.Histories.{Recovers}
 
--- Each image of the disk stands for the first history, and what is read there afterwards for the second: they are one.
+-- Each image of the disk encodes the first history, and what is read there afterwards encodes the second: they are one.
 pub recovered_same : (limit : ℕ) (first second : History) (disk : MemState) (left : List State) → OneHistory →
     ((image : List ℕ) → IsCrashImage (present (states_of disk.start disk.calls)) image → Recovers limit first image) →
     LeavesBytes (states_of disk.start disk.calls) left → Recovers limit second (present left).seen → second ≡ first

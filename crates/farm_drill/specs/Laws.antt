@@ -33,7 +33,7 @@ pub record IsMovement (number : ℕ) (so_far movement : List Command) : Type 0 w
   pub movement_is : movement ≡ moved (length so_far + 1) (first_tank + tank_index number) mark (level_at number)
 
 -- the commands of one movement more are those so far, and then the movement of the next number
-pub record MovesOn (seed count : ℕ) : Type 0 where
+pub record OneMovementMore (seed count : ℕ) : Type 0 where
   pub movement : List Command
   pub commands : drill_commands seed (suc count) ≡ drill_commands seed count ++ movement
   pub is_movement : IsMovement (number_of seed (suc count)) (drill_commands seed count) movement
@@ -42,6 +42,6 @@ pub record MovesOn (seed count : ℕ) : Type 0 where
 abbrev pub Begins : Type 0
 Begins = (seed : ℕ) → drill_commands seed zero ≡ first_commands
 
--- each drill goes on so
+-- each drill continues so
 abbrev pub GoesOn : Type 0
-GoesOn = (seed count : ℕ) → MovesOn seed count
+GoesOn = (seed count : ℕ) → OneMovementMore seed count

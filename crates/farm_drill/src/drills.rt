@@ -4,7 +4,7 @@ ghost use Rattle.std.specs.Prelude.{◌≡◌, ◌≤◌, IfOk, Ok, OnOk};
 ghost use Rattle.book_texts.specs.Summaries.{IsSummary, summary_text};
 ghost use Rattle.farm_drill.specs.Drills.{drill_history, row_site};
 ghost use Rattle.farm_drill.specs.Numbers.{most_drilled};
-ghost use Rattle.farm_history.specs.declared.limits.TheConstants.{GREATEST_LIMIT};
+ghost use Rattle.farm_history.specs.declared.limits.TheConstants.{MOST_LIMIT};
 ghost use Rattle.site_file.specs.Files.{site_of_files};
 ghost use Rattle.sample_site.specs.Files.{row_files};
 
@@ -24,7 +24,7 @@ pub fn drilled<const LIMIT: usize>(
     seed: u64,
     count: u32,
 ) -> Result<Vec<u8>, NoMemory>
-    requires limit { LIMIT ≤ GREATEST_LIMIT }
+    requires limit { LIMIT ≤ MOST_LIMIT }
     requires few { count ≤ most_drilled }
     ensures summary { IfOk result (λ text. text.items ≡ summary_text (drill_history LIMIT seed count)) }
     ensures looked_up { OnOk result (IsSummary (drill_history LIMIT seed count) (summary_text (drill_history LIMIT seed count))) }

@@ -3,7 +3,7 @@
 ghost use Rattle.std.specs.Prelude.{◌≡◌, ◌≤◌, IfOk, Ok, OnOk, false};
 ghost use Rattle.farm_drill.specs.Drills.{row_site};
 ghost use Rattle.farm_history.specs.History.{empty_history};
-ghost use Rattle.farm_history.specs.declared.limits.TheConstants.{GREATEST_LIMIT};
+ghost use Rattle.farm_history.specs.declared.limits.TheConstants.{MOST_LIMIT};
 ghost use Rattle.site_file.specs.Files.{site_of_files};
 ghost use Rattle.farm_site.specs.Sites.{described};
 ghost use Rattle.sample_site.specs.Files.{row_files};
@@ -17,7 +17,7 @@ use std::alloc::Global;
 
 /// A desk of the row site without an entry, on a disk in memory that fails no call.
 pub(crate) fn new_desk<const LIMIT: usize>(alloc: Global) -> Result<Desk<MemDisk, LIMIT>, NoMemory>
-    requires limit { LIMIT ≤ GREATEST_LIMIT }
+    requires limit { LIMIT ≤ MOST_LIMIT }
     ensures site { OnOk result (site_of_files row_files ≡ Ok row_site) }
     ensures certain { IfOk result (λ desk. desk.doubt ≡ false) }
     ensures history { IfOk result (λ desk. desk.history ≡ empty_history row_site) }
@@ -56,7 +56,7 @@ pub(crate) fn recovered<const LIMIT: usize>(
     alloc: Global,
     desk: Desk<MemDisk, LIMIT>,
 ) -> Result<Desk<MemDisk, LIMIT>, NoMemory>
-    requires limit { LIMIT ≤ GREATEST_LIMIT }
+    requires limit { LIMIT ≤ MOST_LIMIT }
     requires certain { desk.doubt ≡ false }
     ensures history { IfOk result (λ recovered. recovered.history ≡ desk.entry.history) }
 {

@@ -25,7 +25,7 @@ pub use limits::{
 pub use number_laws::defined_numbers;
 pub use quantity::{Quantity, Unit};
 pub use records::{Amount, ChainRule, Quantities, Reading, Sample, Shell};
-pub use shells::insulated_of;
+pub use shells::is_insulated;
 pub use units::{
     Centi, Deci, Dens, Fac5, HundredThousandth, HundredthDegree, Kg, Kilogram, Litre, Litres,
     Millimetre, Mm, Permil5, TenthKilogramPerCubicMetre, TenthMillimetre, ThousandthPercent,

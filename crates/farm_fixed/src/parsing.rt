@@ -30,14 +30,14 @@ pub struct Numeral {
 }
 
 /// Whether the text has a minus.
-pub fn is_negative(text: &[u8]) -> bool
+pub(crate) fn is_negative(text: &[u8]) -> bool
     ensures { result ≡ (slice_index text.now 0 == 45) }
 {
     matches!(text, [b'-', ..])
 }
 
 /// The text without its minus.
-pub fn unsigned_text(text: &[u8]) -> &[u8]
+pub(crate) fn unsigned_text(text: &[u8]) -> &[u8]
     ensures { result.now ≡ unsigned_text text.now }
 {
     match text {
@@ -47,7 +47,7 @@ pub fn unsigned_text(text: &[u8]) -> &[u8]
 }
 
 /// The digits that a text begins with, and the number that they write after those of `before`.
-pub fn digit_run(before: u64, text: &[u8]) -> DigitRun
+pub(crate) fn digit_run(before: u64, text: &[u8]) -> DigitRun
     requires { before ≤ 10 ^ 18 }
     ensures { IsDigitRun before text.now result }
 {
@@ -66,7 +66,7 @@ pub fn digit_run(before: u64, text: &[u8]) -> DigitRun
 
 /// The digits of a number's text, or the offset of the first byte after which no continuation is a number, or the length of a
 /// text that ends too early.
-pub fn numeral_of(text: &[u8]) -> Result<Numeral, usize>
+pub(crate) fn numeral_of(text: &[u8]) -> Result<Numeral, usize>
     ensures { MatchResult result (IsNumeralOf text.now) (λ offset. bad_offset text.now ≡ Some offset) }
 {
     let unsigned = unsigned_text(text);
@@ -96,7 +96,7 @@ pub fn numeral_of(text: &[u8]) -> Result<Numeral, usize>
 }
 
 /// A number with as many zeros after it, at most the ceiling.
-pub fn scaled(value: u64, zeros: usize) -> u64
+pub(crate) fn scaled(value: u64, zeros: usize) -> u64
     requires { zeros ≤ 5 }
     ensures { result ≡ min (value * 10 ^ zeros) (10 ^ 18) }
 {
@@ -104,7 +104,7 @@ pub fn scaled(value: u64, zeros: usize) -> u64
 }
 
 /// A magnitude under a minus or none.
-pub fn with_sign(negative: bool, magnitude: u64) -> i64
+pub(crate) fn with_sign(negative: bool, magnitude: u64) -> i64
     requires { magnitude ≤ 10 ^ 18 }
     ensures { result ≡ signed negative magnitude }
 {

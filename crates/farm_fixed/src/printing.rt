@@ -41,7 +41,7 @@ fn write_magnitude(units: u64, places: usize, buffer: &mut [u8]) -> usize
 }
 
 /// Writes a number of units at the end of a buffer of zeros, and returns where its text starts.
-pub fn write_text(units: i64, places: usize, buffer: &mut [u8]) -> usize
+pub(crate) fn write_text(units: i64, places: usize, buffer: &mut [u8]) -> usize
     requires units { unsigned_abs units ≤ 10 ^ 17 }
     requires places { places ≤ 5 }
     requires blank { buffer.old ≡ replicate 32 48 }

@@ -8,7 +8,7 @@ use Rattle.farm_history.specs.declared.command.Command.TheVariants.{Gauge, Dip, 
 use Rattle.farm_history.specs.declared.plan.Gauged.{Gauged}
 use Rattle.farm_history.specs.declared.plan.Plan.{Plan}
 use Rattle.farm_history.specs.declared.plan.Plan.TheVariants.{Outside, Transfer}
-use Rattle.farm_history.specs.Limits.{longest_list}
+use Rattle.farm_history.specs.Limits.{most_in_list}
 use Rattle.farm_ticket.specs.declared.side.Way.{Way}
 use Rattle.farm_ticket.specs.declared.side.Way.TheVariants.{Inward, Outward}
 
@@ -18,8 +18,8 @@ numbers_of few = take few.count few.values
 
 -- a short list has at most eight numbers, and zeros after them
 pub record IsShortList (few : Few) : Type 0 where
-  pub count : few.count ≤ longest_list
-  pub zeros : few.values ≡ numbers_of few ++ replicate (longest_list - few.count) (pos 0)
+  pub count : few.count ≤ most_in_list
+  pub zeros : few.values ≡ numbers_of few ++ replicate (most_in_list - few.count) (pos 0)
 
 -- each list of a command is a short list
 abbrev pub IsWellFormedCommand : Command → Type 0

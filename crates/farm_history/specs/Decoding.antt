@@ -14,7 +14,7 @@ use Rattle.farm_history.specs.declared.plan.Plan.{Plan}
 use Rattle.farm_history.specs.declared.plan.Plan.TheVariants.{Outside, Transfer}
 use Rattle.farm_ticket.specs.declared.side.Way.{Way}
 use Rattle.farm_ticket.specs.declared.side.Way.TheVariants.{Inward, Outward}
-use Rattle.farm_history.specs.Limits.{latest_moment, longest_list}
+use Rattle.farm_history.specs.Limits.{latest_moment, most_in_list}
 use Rattle.farm_history.specs.Encoding.{signed_bytes}
 
 -- a reader of values
@@ -55,7 +55,7 @@ numbers_at = counted_at signed_at
 
 -- numbers, and zeros after this many of them
 abbrev pub padded : ℕ → List ℤ → List ℤ
-padded count numbers = numbers ++ replicate (longest_list - count) (pos 0)
+padded count numbers = numbers ++ replicate (most_in_list - count) (pos 0)
 
 -- the short list of a count and as many numbers
 abbrev pub list_of : ℕ × List ℤ → Few
@@ -63,7 +63,7 @@ list_of counted = record { count = counted.0; values = padded counted.0 counted.
 
 -- a short list
 unfoldable pub list_at : Reader Few
-list_at = made_at list_of (then_at (byte_at (λ count. nat_le count longest_list)) numbers_at)
+list_at = made_at list_of (then_at (byte_at (λ count. nat_le count most_in_list)) numbers_at)
 
 -- the kind of a dip
 unfoldable pub kind_at : Reader Bool

@@ -6,7 +6,7 @@ use Rattle.farm_history.specs.declared.few.Few.{Few}
 use Rattle.farm_history.specs.declared.command.Command.{Command}
 use Rattle.farm_history.specs.declared.command.Command.TheVariants.{Gauge, Dip, Sample, Opening, Closing, Cancel, Reverse, Settle, Stop}
 use Rattle.farm_history.specs.declared.entry.Entry.{Entry}
-use Rattle.farm_history.specs.Limits.{longest_list}
+use Rattle.farm_history.specs.Limits.{most_in_list}
 use Rattle.farm_history.specs.declared.plan.Gauged.{Gauged}
 use Rattle.farm_history.specs.declared.plan.Plan.{Plan}
 use Rattle.farm_history.specs.declared.plan.Plan.TheVariants.{Outside, Transfer}
@@ -69,7 +69,7 @@ entry_encoding entry =
 
 -- a list is one of its type: as many numbers of 64 bits as the longest has
 abbrev pub IsTypedList : Few → Type 0
-IsTypedList few = (length few.values ≡ longest_list) × All (FitsSigned w64) few.values
+IsTypedList few = (length few.values ≡ most_in_list) × All (FitsSigned w64) few.values
 
 -- each number of what is named is one of its type
 abbrev pub IsTypedGauged : Gauged → Type 0

@@ -27,7 +27,7 @@ pub use decoding::BadEntry;
 pub use entry::Entry;
 pub use few::Few;
 pub use history_laws::laws;
-pub use limits::{GREATEST_LIMIT, LAST_MOMENT, LONGEST_LIST, MOST_ENTRY_BYTES, STOPS_BEYOND_LIMIT};
+pub use limits::{LAST_MOMENT, MOST_ENTRY_BYTES, MOST_IN_LIST, MOST_LIMIT, STOPS_BEYOND_LIMIT};
 pub use number_laws::defined_numbers;
 pub use plan::{Gauged, Named, Plan};
 pub use query::Query;

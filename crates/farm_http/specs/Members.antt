@@ -7,7 +7,7 @@ use Rattle.serde_json.specs.Find.{as_array, as_i64, as_number, as_str, get}
 use Rattle.serde_json.specs.Read.{read}
 use Rattle.farm_fixed.specs.Range.{is_within}
 use Rattle.farm_history.specs.declared.few.Few.{Few}
-use Rattle.farm_history.specs.Limits.{longest_list}
+use Rattle.farm_history.specs.Limits.{most_in_list}
 
 -- the value that bytes are: UTF-8, and a JSON text that nests at most 127 deep
 unfoldable pub value_of : List ℕ → Option Data
@@ -41,8 +41,8 @@ wholes_of (item value items) = option_and_then (λ number. option_map (λ number
 -- a short list of at most eight numbers
 abbrev pub few_of : List ℤ → Option Few
 few_of numbers =
-    if nat_lt longest_list (length numbers) then None
-    else Some (record { count = length numbers; values = numbers ++ replicate (longest_list - length numbers) (pos 0) })
+    if nat_lt most_in_list (length numbers) then None
+    else Some (record { count = length numbers; values = numbers ++ replicate (most_in_list - length numbers) (pos 0) })
 
 -- the short list that items are
 unfoldable pub few_of_items : Items → Option Few

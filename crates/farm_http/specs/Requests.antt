@@ -16,15 +16,15 @@ use Rattle.farm_http.specs.Members.{few_at, natural_at, text_at, value_of, whole
 use Rattle.serde_json.specs.Find.{get}
 use Rattle.farm_http.specs.declared.requests.LineAsked.{LineAsked}
 use Rattle.farm_http.specs.declared.requests.LineAsked.TheVariants as lines
-use Rattle.farm_http.specs.Limits.{greatest_account, greatest_key, greatest_party, greatest_place, greatest_tank}
+use Rattle.farm_http.specs.Limits.{most_account, most_key, most_party_number, most_place, most_tank_number}
 
 -- the number of a tank
 unfoldable pub tank_at : List ℕ → Data → Option ℕ
-tank_at name value = natural_at name 0 greatest_tank value
+tank_at name value = natural_at name 0 most_tank_number value
 
 -- a place of the history
 unfoldable pub place_at : List ℕ → Data → Option ℕ
-place_at name value = natural_at name 0 greatest_place value
+place_at name value = natural_at name 0 most_place value
 
 -- what is named for a tank: the place of a reading and that of a sample
 unfoldable pub gauged_at : List ℕ → List ℕ → Data → Option Gauged
@@ -34,8 +34,8 @@ gauged_at reading_name sample_name value = do
   Some (record { reading = reading; sample = sample })
 
 -- whether a dip's tapes are outages, by its kind
-unfoldable pub outage_of : List ℕ → Option Bool
-outage_of kind = if bytes_eq kind (codes "outage") then Some true else (if bytes_eq kind (codes "innage") then Some false else None)
+unfoldable pub is_outage : List ℕ → Option Bool
+is_outage kind = if bytes_eq kind (codes "outage") then Some true else (if bytes_eq kind (codes "innage") then Some false else None)
 
 -- a gauge's reading
 unfoldable pub gauge_of : Data → Option Command
@@ -52,7 +52,7 @@ unfoldable pub dip_of : Data → Option Command
 dip_of value = do
   tank ← tank_at (codes "tank") value
   kind ← text_at (codes "kind") value
-  outage ← outage_of kind
+  outage ← is_outage kind
   tapes ← few_at (codes "tapes") value
   water ← few_at (codes "water") value
   temperatures ← few_at (codes "temperatures") value
@@ -71,7 +71,7 @@ sample_of value = do
 unfoldable pub outside_of : Way → Data → Option Command
 outside_of way value = do
   tank ← tank_at (codes "tank") value
-  party ← natural_at (codes "party") 0 greatest_party value
+  party ← natural_at (codes "party") 0 most_party_number value
   gauged ← gauged_at (codes "reading") (codes "sample") value
   Some (Opening (Outside way tank party gauged))
 
@@ -145,8 +145,8 @@ command_of word value =
 -- a command that is to be done: an account from 1 to 999,999, a key from 0 to 2^63 - 1, and the command of the word
 unfoldable pub do_of : List ℕ → Data → Option Ask
 do_of word value = do
-  account ← natural_at (codes "account") 1 greatest_account value
-  key ← natural_at (codes "key") 0 greatest_key value
+  account ← natural_at (codes "account") 1 most_account value
+  key ← natural_at (codes "key") 0 most_key value
   command ← command_of word value
   Some (Do account key command)
 

@@ -3,10 +3,10 @@
 ghost use Rattle.std.specs.Prelude.{◌≡◌, IfSome};
 ghost use Rattle.serde_json.specs.View.{view};
 ghost use Rattle.farm_history.specs.Commands.{IsWellFormedCommand};
-ghost use Rattle.farm_http.specs.Requests.{cancel_of, closing_of, command_of, dip_of, gauge_of, gauged_at, opening_of, outage_of, outside_of, place_at, reverse_of, sample_of, second_of, settle_of, tank_at, transfer_of};
+ghost use Rattle.farm_http.specs.Requests.{cancel_of, closing_of, command_of, dip_of, gauge_of, gauged_at, opening_of, is_outage, outside_of, place_at, reverse_of, sample_of, second_of, settle_of, tank_at, transfer_of};
 
 use crate::members::{few_at, natural_at, text_at, whole_at};
-use crate::requests::{GREATEST_PARTY, GREATEST_PLACE, GREATEST_TANK};
+use crate::requests::{MOST_PARTY_NUMBER, MOST_PLACE, MOST_TANK_NUMBER};
 use farm_history::{Command, Gauged, Plan};
 use farm_ticket::Way;
 use serde_json::Value;
@@ -54,7 +54,7 @@ fn dip_of(value: &Value) -> Option<Command>
 {
     Some(Command::Dip {
         tank: tank_at(value, "tank")?,
-        outage: outage_of(text_at(value, "kind")?)?,
+        outage: is_outage(text_at(value, "kind")?)?,
         tapes: few_at(value, "tapes")?,
         water: few_at(value, "water")?,
         temperatures: few_at(value, "temperatures")?,
@@ -80,14 +80,14 @@ fn sample_of(value: &Value) -> Option<Command>
 pub(crate) fn tank_at(value: &Value, name: &str) -> Option<u16>
     ensures value { result ≡ tank_at name.now (view value.now) }
 {
-    let number = natural_at(value, name, 0, u64::from(GREATEST_TANK))?;
+    let number = natural_at(value, name, 0, u64::from(MOST_TANK_NUMBER))?;
     Some(number as u16)
 }
 
 // Whether a dip's tapes are outages, by its kind.
-#[tactic(auto, unfolding(crate::specs::Requests::outage_of))]
-fn outage_of(kind: &str) -> Option<bool>
-    ensures value { result ≡ outage_of kind.now }
+#[tactic(auto, unfolding(crate::specs::Requests::is_outage))]
+fn is_outage(kind: &str) -> Option<bool>
+    ensures value { result ≡ is_outage kind.now }
 {
     match kind {
         "outage" => Some(true),
@@ -117,7 +117,7 @@ fn outside_of(way: Way, value: &Value) -> Option<Command>
     ensures well_formed { IfSome result IsWellFormedCommand }
 {
     let tank = tank_at(value, "tank")?;
-    let party = natural_at(value, "party", 0, u64::from(GREATEST_PARTY))?;
+    let party = natural_at(value, "party", 0, u64::from(MOST_PARTY_NUMBER))?;
     let gauged = gauged_at(value, "reading", "sample")?;
     Some(Command::Opening(Plan::Outside {
         way,
@@ -217,6 +217,6 @@ fn gauged_at(value: &Value, reading: &str, sample: &str) -> Option<Gauged>
 pub(crate) fn place_at(value: &Value, name: &str) -> Option<u32>
     ensures value { result ≡ place_at name.now (view value.now) }
 {
-    let place = natural_at(value, name, 0, u64::from(GREATEST_PLACE))?;
+    let place = natural_at(value, name, 0, u64::from(MOST_PLACE))?;
     Some(place as u32)
 }

@@ -17,6 +17,6 @@ pub use answers::{body, laws};
 pub use number_laws::defined_numbers;
 pub use page::{Allow, Page};
 pub use requests::{
-    GREATEST_ACCOUNT, GREATEST_KEY, GREATEST_PARTY, GREATEST_PLACE, GREATEST_TANK, LineAsked, line,
+    LineAsked, MOST_ACCOUNT, MOST_KEY, MOST_PARTY_NUMBER, MOST_PLACE, MOST_TANK_NUMBER, line,
     posted,
 };

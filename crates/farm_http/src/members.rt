@@ -5,7 +5,7 @@ ghost use Rattle.serde_json.specs.View.{items_view, view};
 ghost use Rattle.farm_history.specs.Commands.{IsShortList};
 ghost use Rattle.farm_http.specs.Members.{few_at, few_of_items, natural_at, ranged, text_at, whole_at};
 
-use farm_history::{Few, LONGEST_LIST};
+use farm_history::{Few, MOST_IN_LIST};
 use serde_json::Value;
 
 /// The whole number that a member is.
@@ -59,10 +59,10 @@ fn few_of_items(items: &[Value]) -> Option<Few>
     ensures value { result ≡ few_of_items (items_view items.now) }
     ensures short { IfSome result IsShortList }
 {
-    if items.len() > LONGEST_LIST as usize {
+    if items.len() > MOST_IN_LIST as usize {
         return None;
     }
-    let mut values = [0; LONGEST_LIST as usize];
+    let mut values = [0; MOST_IN_LIST as usize];
     for (index, item) in items.iter().enumerate() {
         values[index] = item.as_i64()?;
     }

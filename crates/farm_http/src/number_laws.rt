@@ -1,17 +1,15 @@
 //! The numbers of the code are those of the definitions.
 
 ghost use Rattle.std.specs.Prelude.{◌≡◌};
-ghost use Rattle.farm_http.specs.Limits.{greatest_account, greatest_key, greatest_party, greatest_place, greatest_tank};
+ghost use Rattle.farm_http.specs.Limits.{most_account, most_key, most_party_number, most_place, most_tank_number};
 
-use crate::requests::{
-    GREATEST_ACCOUNT, GREATEST_KEY, GREATEST_PARTY, GREATEST_PLACE, GREATEST_TANK,
-};
+use crate::requests::{MOST_ACCOUNT, MOST_KEY, MOST_PARTY_NUMBER, MOST_PLACE, MOST_TANK_NUMBER};
 
 /// Does nothing: its contract is that each number that the definitions state is the code's.
 pub fn defined_numbers()
-    ensures greatest_account { GREATEST_ACCOUNT ≡ greatest_account }
-    ensures greatest_key { GREATEST_KEY ≡ greatest_key }
-    ensures greatest_tank { GREATEST_TANK ≡ greatest_tank }
-    ensures greatest_party { GREATEST_PARTY ≡ greatest_party }
-    ensures greatest_place { GREATEST_PLACE ≡ greatest_place }
+    ensures most_account { MOST_ACCOUNT ≡ most_account }
+    ensures most_key { MOST_KEY ≡ most_key }
+    ensures most_tank_number { MOST_TANK_NUMBER ≡ most_tank_number }
+    ensures most_party_number { MOST_PARTY_NUMBER ≡ most_party_number }
+    ensures most_place { MOST_PLACE ≡ most_place }
 {}

@@ -14,15 +14,15 @@ use serde_json::Value;
 use std::alloc::Global;
 
 /// The greatest account of a caller.
-pub const GREATEST_ACCOUNT: u32 = 999_999;
+pub const MOST_ACCOUNT: u32 = 999_999;
 /// The greatest key of a request.
-pub const GREATEST_KEY: u64 = 9_223_372_036_854_775_807;
+pub const MOST_KEY: u64 = 9_223_372_036_854_775_807;
 /// The greatest number of a tank.
-pub const GREATEST_TANK: u16 = 65_535;
+pub const MOST_TANK_NUMBER: u16 = 65_535;
 /// The greatest number of a party.
-pub const GREATEST_PARTY: u16 = 65_535;
+pub const MOST_PARTY_NUMBER: u16 = 65_535;
 /// The greatest place of a history.
-pub const GREATEST_PLACE: u32 = 4_294_967_295;
+pub const MOST_PLACE: u32 = 4_294_967_295;
 
 /// What a line asks for, or a body that is posted.
 #[derive(Debug, Drop, PartialEq, Eq)]
@@ -127,8 +127,8 @@ fn do_of(word: &str, value: &Value) -> Option<Ask>
     ensures value { result ≡ do_of word.now (view value.now) }
     ensures well_formed { IfSome result IsWellFormedAsk }
 {
-    let account = natural_at(value, "account", 1, u64::from(GREATEST_ACCOUNT))?;
-    let key = natural_at(value, "key", 0, GREATEST_KEY)?;
+    let account = natural_at(value, "account", 1, u64::from(MOST_ACCOUNT))?;
+    let key = natural_at(value, "key", 0, MOST_KEY)?;
     Some(Ask::Do {
         account: account as u32,
         key,

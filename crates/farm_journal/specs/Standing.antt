@@ -1,5 +1,6 @@
 -- How a journal stands on its disk, whatever a crash leaves.
-use Rattle.std.specs.Prelude.{◌≡◌, ◌⊎◌, ℕ, ◌+◌, ◌*◌, ◌^◌, ◌<◌, ◌≤◌, List, [], ◌∷◌, ◌++◌, length, Option, Some, None, option_map, Result, Ok, Err, IfSome, All}
+use Rattle.std.specs.Prelude.{◌≡◌, ◌≢◌, ◌⊎◌, ℕ, ◌+◌, ◌*◌, ◌^◌, ◌<◌, ◌≤◌, List, [], ◌∷◌, ◌++◌, length, Option, Some, None, option_map, Result, Ok, Err, IfErr, IfSome, OnOk, All}
+use Rattle.farm_base.specs.Counts.{Rose}
 use Rattle.farm_base.specs.Known.{WhereKnown}
 use Rattle.farm_disk.specs.Images.{Range, State, present, written_at}
 use Rattle.farm_journal.specs.Limits.{max_bodies}
@@ -74,6 +75,14 @@ pub record IsWithinOffsets (gate count : ℕ) (next_gate : Option ℕ) : Type 0 
 abbrev pub disk_left : {D F : Type 0} → Result (JournalState D) (D × F) → D
 disk_left (Ok journal) = journal.disk
 disk_left (Err refusal) = refusal.0
+
+-- What a call that makes something on a disk, or gives the disk back with a refusal, does to the disk's count of faults: the count never
+-- falls; a refusal for a fault of the disk raised it; after any other answer it is as it was.
+pub record CountsMaking {D J F : Type 0} (faults : D → ℕ) (fault : F) (disk left : D) (result : Result J (D × F)) : Type 0 where
+  pub never_falls : faults disk ≤ faults left
+  pub failed : IfErr result (λ refusal. refusal.1 ≡ fault → Rose (faults disk) (faults refusal.0))
+  pub quiet : IfErr result (λ refusal. refusal.1 ≢ fault → faults refusal.0 ≡ faults disk)
+  pub made : OnOk result (faults left ≡ faults disk)
 
 -- an open journal is one of what a taker has taken, the header first, and nothing is pending
 abbrev pub StandsOf : {D : Type 0} → (D → Option (List State)) → List (List ℕ) → JournalState D → Type 0

@@ -38,9 +38,9 @@ pub record IsCounted (size : ℕ) (ahead : List ℕ) : Type 0 where
   pub counts : take length_bytes ahead ≡ to_be_bytes w32 size
 
 -- this many bytes are counted; or no number is, and what is left isn't whole
-abbrev pub Counts : Option (List State) → ℕ → List ℕ → Option ℕ → Type 0
-Counts known offset ahead (Some size) = IsCounted size ahead
-Counts known offset ahead None = WhereLeft known offset (λ left. IsWhole left → ⊥)
+abbrev pub CountsAhead : Option (List State) → ℕ → List ℕ → Option ℕ → Type 0
+CountsAhead known offset ahead (Some size) = IsCounted size ahead
+CountsAhead known offset ahead None = WhereLeft known offset (λ left. IsWhole left → ⊥)
 
 -- a fault of the disk, or a lack of memory
 abbrev pub IsOutside : RecoverFault → Type 0

@@ -1,13 +1,13 @@
 //! The making of a journal.
 
 ghost use Rattle.std.specs.Prelude.{◌≡◌, ◌≢◌, ◌<◌, ◌≤◌, ◌++◌, [], ◌∷◌, ℕ, List, IfErr, IfOk, None, OnOk, length};
-ghost use Rattle.farm_base.specs.Counts.{HasCause, Rose};
+ghost use Rattle.farm_base.specs.Counts.{Counts, CountsIf};
 ghost use Rattle.farm_base.specs.Known.{WhereKnown};
 ghost use Rattle.farm_disk.specs.Images.{present};
-ghost use Rattle.farm_disk.specs.Runs.{Extends};
+ghost use Rattle.farm_disk.specs.Runs.{MovesOn};
 ghost use Rattle.farm_journal.specs.Creating.{GivesNone, IsCrashSafe, IsCreateRefusal, IsOpening, WasEmpty};
 ghost use Rattle.farm_journal.specs.Layout.{opening};
-ghost use Rattle.farm_journal.specs.Standing.{IsAtRest, Stands, disk_left};
+ghost use Rattle.farm_journal.specs.Standing.{CountsMaking, IsAtRest, Stands, disk_left};
 ghost use Rattle.farm_journal.specs.declared.limits.TheConstants.{MAX_BODY};
 
 use crate::limits::SIGNATURE;
@@ -30,12 +30,8 @@ impl<D: Disk> Journal<D> {
         ensures was_empty { IfOk result (λ journal. WasEmpty (D.trace disk) (D.trace journal.disk)) }
         ensures refused { IfErr result (λ refusal. IsCreateRefusal D.trace disk refusal.0 refusal.1) }
         ensures crash_safe { IsCrashSafe header.now (D.trace disk) (D.trace (disk_left result)) }
-        ensures extends { Extends (D.trace disk) (D.trace (disk_left result)) }
-        ensures moment { D.moment disk ≤ D.moment (disk_left result) }
-        ensures never_falls { D.faults disk ≤ D.faults (disk_left result) }
-        ensures cause { IfErr result (λ refusal. refusal.1 ≡ CreateFault.DiskFault → Rose (D.faults disk) (D.faults refusal.0)) }
-        ensures quiet { IfErr result (λ refusal. refusal.1 ≢ CreateFault.DiskFault → D.faults refusal.0 ≡ D.faults disk) }
-        ensures quiet_made { IfOk result (λ journal. D.faults journal.disk ≡ D.faults disk) }
+        ensures moves { MovesOn (D.trace disk) (D.trace (disk_left result)) (D.moment disk) (D.moment (disk_left result)) }
+        ensures counts { CountsMaking D.faults CreateFault.DiskFault disk (disk_left result) result }
     {
         let mut disk = disk;
         match laid_out(alloc, &mut disk, header) {
@@ -70,12 +66,8 @@ fn laid_out<D: Disk>(
     ensures was_empty { OnOk result (WasEmpty (D.trace disk.old) (D.trace disk.new)) }
     ensures refused { IfErr result (λ fault. IsCreateRefusal D.trace disk.old disk.new fault) }
     ensures crash_safe { IsCrashSafe header.now (D.trace disk.old) (D.trace disk.new) }
-    ensures extends { Extends (D.trace disk.old) (D.trace disk.new) }
-    ensures moment { D.moment disk.old ≤ D.moment disk.new }
-    ensures never_falls { D.faults disk.old ≤ D.faults disk.new }
-    ensures cause { IfErr result (λ fault. fault ≡ CreateFault.DiskFault → Rose (D.faults disk.old) (D.faults disk.new)) }
-    ensures quiet { IfErr result (λ fault. fault ≢ CreateFault.DiskFault → D.faults disk.new ≡ D.faults disk.old) }
-    ensures quiet_made { OnOk result (D.faults disk.new ≡ D.faults disk.old) }
+    ensures moves { MovesOn (D.trace disk.old) (D.trace disk.new) (D.moment disk.old) (D.moment disk.new) }
+    ensures counts { CountsIf (result ≡ Err CreateFault.DiskFault) (D.faults disk.old) (D.faults disk.new) }
 {
     let record = RecordBuffer::new(alloc)?;
     let bytes = opening_of(alloc, header)?;
@@ -93,10 +85,8 @@ fn lay_out<D: Disk>(disk: &mut D, bytes: &[u8]) -> Result<(), DiskFault>
         OnOk result (WhereKnown (D.trace disk.new) (λ states. IsAtRest header [] (present states))) }
     ensures crash_safe { (header : List ℕ) → IsOpening header bytes.now → GivesNone (D.trace disk.old) →
         IsCrashSafe header (D.trace disk.old) (D.trace disk.new) }
-    ensures extends { Extends (D.trace disk.old) (D.trace disk.new) }
-    ensures moment { D.moment disk.old ≤ D.moment disk.new }
-    ensures cause { HasCause (D.faults disk.old) (D.faults disk.new) result }
-    ensures quiet { OnOk result (D.faults disk.new ≡ D.faults disk.old) }
+    ensures moves { MovesOn (D.trace disk.old) (D.trace disk.new) (D.moment disk.old) (D.moment disk.new) }
+    ensures counts { Counts (D.faults disk.old) (D.faults disk.new) result }
 {
     write_synced(disk, 0, &[0])?;
     write_synced(disk, 1, &bytes[1..])?;

@@ -1,9 +1,9 @@
 //! An open journal, and the two steps in which it takes a body.
 
 ghost use Rattle.std.specs.Prelude.{◌≡◌, ◌<◌, ◌≤◌, ◌+◌, ◌++◌, [], ◌∷◌, ℕ, List, IsSome, MatchResult, None, OnErr, OnOk, Some, is_err, is_ok, is_some, length, max};
-ghost use Rattle.farm_base.specs.Counts.{HasCause, raised};
+ghost use Rattle.farm_base.specs.Counts.{CountsOnce};
 ghost use Rattle.farm_base.specs.Known.{WhereKnown};
-ghost use Rattle.farm_disk.specs.Runs.{EachSince, Extends};
+ghost use Rattle.farm_disk.specs.Runs.{EachSince, MovesOn};
 ghost use Rattle.farm_journal.specs.Layout.{IsJournalOf, counted};
 ghost use Rattle.farm_journal.specs.Standing.{IsEither, IsWithinOffsets, Stands};
 ghost use Rattle.farm_journal.specs.Steps.{AddsOneWrite};
@@ -84,11 +84,8 @@ impl<D: Disk> Journal<D> {
         ensures images { (header : List ℕ) (bodies : List (List ℕ)) → Stands D.trace header bodies None self.old →
             EachSince (D.trace self.old.disk) (D.trace self.new.disk) (IsJournalOf header bodies) }
         ensures one_write { OnOk result (AddsOneWrite (self.old.gate + 1) (counted body.now ++ 0 ∷ []) (D.trace self.old.disk) (D.trace self.new.disk)) }
-        ensures extends { Extends (D.trace self.old.disk) (D.trace self.new.disk) }
-        ensures moment { D.moment self.old.disk ≤ D.moment self.new.disk }
-        ensures cause { HasCause (D.faults self.old.disk) (D.faults self.new.disk) result }
-        ensures quiet { OnOk result (D.faults self.new.disk ≡ D.faults self.old.disk) }
-        ensures once { OnErr result (D.faults self.new.disk ≡ raised 1 (D.faults self.old.disk)) }
+        ensures moves { MovesOn (D.trace self.old.disk) (D.trace self.new.disk) (D.moment self.old.disk) (D.moment self.new.disk) }
+        ensures counts { CountsOnce (D.faults self.old.disk) (D.faults self.new.disk) result }
         ensures pending { is_some self.new.next_gate ≡ is_ok result }
         ensures count { self.new.count ≡ self.old.count }
         ensures room { self.new.room ≡ self.old.room }
@@ -108,11 +105,8 @@ impl<D: Disk> Journal<D> {
         ensures images { (header body : List ℕ) (bodies : List (List ℕ)) → Stands D.trace header bodies (Some body) self.old →
             EachSince (D.trace self.old.disk) (D.trace self.new.disk) (IsEither header bodies body) }
         ensures one_write { OnOk result (AddsOneWrite self.old.gate (1 ∷ []) (D.trace self.old.disk) (D.trace self.new.disk)) }
-        ensures extends { Extends (D.trace self.old.disk) (D.trace self.new.disk) }
-        ensures moment { D.moment self.old.disk ≤ D.moment self.new.disk }
-        ensures cause { HasCause (D.faults self.old.disk) (D.faults self.new.disk) result }
-        ensures quiet { OnOk result (D.faults self.new.disk ≡ D.faults self.old.disk) }
-        ensures once { OnErr result (D.faults self.new.disk ≡ raised 1 (D.faults self.old.disk)) }
+        ensures moves { MovesOn (D.trace self.old.disk) (D.trace self.new.disk) (D.moment self.old.disk) (D.moment self.new.disk) }
+        ensures counts { CountsOnce (D.faults self.old.disk) (D.faults self.new.disk) result }
         ensures pending { is_some self.new.next_gate ≡ is_err result }
         ensures counted { OnOk result (self.new.count ≡ self.old.count + 1) }
         ensures uncounted { OnErr result (self.new.count ≡ self.old.count) }

@@ -31,7 +31,7 @@ impl Model for RecordBuffer {
 
 impl RecordBuffer {
     /// Room for a record of an empty body.
-    pub fn new(alloc: Global) -> Result<Self, NoMemory>
+    pub(crate) fn new(alloc: Global) -> Result<Self, NoMemory>
         ensures { IfOk result (λ buffer. buffer.room ≡ 0) }
     {
         Ok(RecordBuffer {
@@ -41,7 +41,7 @@ impl RecordBuffer {
     }
 
     /// Makes room for a record of a body of this length, where there is less.
-    pub fn reserve(&mut self, length: usize) -> Result<(), NoMemory>
+    pub(crate) fn reserve(&mut self, length: usize) -> Result<(), NoMemory>
         ensures room { OnOk result (self.new.room ≡ max self.old.room length) }
         ensures stays { OnErr result (self.new.room ≡ self.old.room) }
     {
@@ -53,7 +53,7 @@ impl RecordBuffer {
     }
 
     /// Makes the record of a body with its gate open, and a closed gate after it.
-    pub fn make(&mut self, body: &[u8])
+    pub(crate) fn make(&mut self, body: &[u8])
         requires room { length body.now ≤ self.old.room }
         requires short { length body.now ≤ MAX_BODY }
         ensures made { self.new.made ≡ open_record body.now ++ 0 ∷ [] }
@@ -64,7 +64,7 @@ impl RecordBuffer {
     }
 
     /// The record that was last made.
-    pub fn made(&self) -> &[u8]
+    pub(crate) fn made(&self) -> &[u8]
         ensures { result.now ≡ self.now.made }
     {
         &self.bytes[..self.made]

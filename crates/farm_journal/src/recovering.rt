@@ -1,13 +1,13 @@
 //! The recovery of a journal.
 
 ghost use Rattle.std.specs.Prelude.{◌≡◌, ◌≢◌, ◌≤◌, ◌^◌, [], IfErr, IfOk, OnOk, length};
-ghost use Rattle.farm_base.specs.Counts.{Rose};
+ghost use Rattle.farm_base.specs.Counts.{CountsIf};
 ghost use Rattle.farm_base.specs.Known.{KeepsKnown, WhereKnown};
 ghost use Rattle.farm_disk.specs.Images.{present};
-ghost use Rattle.farm_disk.specs.Runs.{Extends, WritesNothing};
+ghost use Rattle.farm_disk.specs.Runs.{MovesOn, WritesNothing};
 ghost use Rattle.farm_journal.specs.Progress.{GoesOn, HasTaken, HasTakenAll, IsAllSynced, IsAnswer, IsDamageOr, IsGate, IsNoJournalOr, IsRefusedWith};
 ghost use Rattle.farm_journal.specs.Recovery.{IsNotJournal, IsRecovered, IsRefusal, IsWhole};
-ghost use Rattle.farm_journal.specs.Standing.{StandsOf, disk_left};
+ghost use Rattle.farm_journal.specs.Standing.{CountsMaking, StandsOf, disk_left};
 ghost use Rattle.farm_journal.specs.Windows.{IsCounted, Shows};
 ghost use Rattle.farm_journal.specs.declared.limits.TheConstants.{SIGNATURE_BYTES};
 
@@ -35,12 +35,8 @@ impl<D: Disk> Journal<D> {
         ensures stands { IfOk result (λ journal. StandsOf D.trace (T.taken taker.new) journal) }
         ensures refused { IfErr result (λ refusal. WhereKnown (D.trace refusal.0) (λ states. IsRefusal T.accepts (T.taken taker.new) (present states).seen refusal.1)) }
         ensures wrote_nothing { WritesNothing (D.trace disk) (D.trace (disk_left result)) }
-        ensures extends { Extends (D.trace disk) (D.trace (disk_left result)) }
-        ensures moment { D.moment disk ≤ D.moment (disk_left result) }
-        ensures never_falls { D.faults disk ≤ D.faults (disk_left result) }
-        ensures cause { IfErr result (λ refusal. refusal.1 ≡ RecoverFault.DiskFault → Rose (D.faults disk) (D.faults refusal.0)) }
-        ensures quiet { IfErr result (λ refusal. refusal.1 ≢ RecoverFault.DiskFault → D.faults refusal.0 ≡ D.faults disk) }
-        ensures quiet_recovered { IfOk result (λ journal. D.faults journal.disk ≡ D.faults disk) }
+        ensures moves { MovesOn (D.trace disk) (D.trace (disk_left result)) (D.moment disk) (D.moment (disk_left result)) }
+        ensures counts { CountsMaking D.faults RecoverFault.DiskFault disk (disk_left result) result }
     {
         let record = match RecordBuffer::new(alloc) {
             Ok(record) => record,
@@ -66,11 +62,8 @@ fn take_all<D: Disk, T: Taker>(window: &mut Window<D>, taker: &mut T) -> Result<
     ensures synced { OnOk result (IsAllSynced (D.trace window.new.disk)) }
     ensures refused { IfErr result (IsRefusedWith T.accepts (T.taken taker.new) (D.trace window.new.disk)) }
     ensures wrote_nothing { WritesNothing (D.trace window.old.disk) (D.trace window.new.disk) }
-    ensures extends { Extends (D.trace window.old.disk) (D.trace window.new.disk) }
-    ensures moment { D.moment window.old.disk ≤ D.moment window.new.disk }
-    ensures never_falls { D.faults window.old.disk ≤ D.faults window.new.disk }
-    ensures cause { result ≡ Err RecoverFault.DiskFault → Rose (D.faults window.old.disk) (D.faults window.new.disk) }
-    ensures quiet { result ≢ Err RecoverFault.DiskFault → D.faults window.new.disk ≡ D.faults window.old.disk }
+    ensures moves { MovesOn (D.trace window.old.disk) (D.trace window.new.disk) (D.moment window.old.disk) (D.moment window.new.disk) }
+    ensures counts { CountsIf (result ≡ Err RecoverFault.DiskFault) (D.faults window.old.disk) (D.faults window.new.disk) }
 {
     window.sync()?;
     take_header(window, taker)?;

@@ -1,13 +1,13 @@
 //! The bytes of a disk from an offset on, read in large pieces.
 
 ghost use Rattle.std.specs.Prelude.{◌≡◌, ◌<◌, ◌≤◌, ◌+◌, ◌-◌, ◌^◌, [], IfErr, IfOk, OnOk, drop, length, take};
-ghost use Rattle.farm_base.specs.Counts.{HasCause};
+ghost use Rattle.farm_base.specs.Counts.{Counts};
 ghost use Rattle.farm_base.specs.Known.{KeepsKnown};
 ghost use Rattle.farm_disk.specs.Calls.{Reads};
-ghost use Rattle.farm_disk.specs.Runs.{Extends, WritesNothing};
+ghost use Rattle.farm_disk.specs.Runs.{MovesOn, WritesNothing};
 ghost use Rattle.farm_journal.specs.Progress.{IsAllSynced};
 ghost use Rattle.farm_journal.specs.Recovery.{size_at};
-ghost use Rattle.farm_journal.specs.Windows.{BeginsWith, Counts, IsOutside, Looks, Shows};
+ghost use Rattle.farm_journal.specs.Windows.{BeginsWith, CountsAhead, IsOutside, Looks, Shows};
 ghost use Rattle.std.specs.Int.{to_be_bytes, w32};
 
 use crate::limits::LENGTH_BYTES;
@@ -45,7 +45,7 @@ impl<D> Model for Window<D> {
 
 impl<D: Disk> Window<D> {
     /// At the start of a disk, before anything is read.
-    pub fn new(alloc: Global, disk: D) -> Self
+    pub(crate) fn new(alloc: Global, disk: D) -> Self
         ensures disk { result.disk ≡ disk }
         ensures offset { result.offset ≡ 0 }
         ensures ahead { result.ahead ≡ [] }
@@ -60,14 +60,12 @@ impl<D: Disk> Window<D> {
     }
 
     /// Syncs the disk, before anything is read.
-    pub fn sync(&mut self) -> Result<(), RecoverFault>
+    pub(crate) fn sync(&mut self) -> Result<(), RecoverFault>
         ensures synced { OnOk result (IsAllSynced (D.trace self.new.disk)) }
         ensures fault { IfErr result (λ fault. fault ≡ RecoverFault.DiskFault) }
         ensures wrote_nothing { WritesNothing (D.trace self.old.disk) (D.trace self.new.disk) }
-        ensures extends { Extends (D.trace self.old.disk) (D.trace self.new.disk) }
-        ensures moment { D.moment self.old.disk ≤ D.moment self.new.disk }
-        ensures cause { HasCause (D.faults self.old.disk) (D.faults self.new.disk) result }
-        ensures quiet { OnOk result (D.faults self.new.disk ≡ D.faults self.old.disk) }
+        ensures moves { MovesOn (D.trace self.old.disk) (D.trace self.new.disk) (D.moment self.old.disk) (D.moment self.new.disk) }
+        ensures counts { Counts (D.faults self.old.disk) (D.faults self.new.disk) result }
         ensures offset { self.new.offset ≡ self.old.offset }
         ensures ahead { self.new.ahead ≡ self.old.ahead }
     {
@@ -78,14 +76,14 @@ impl<D: Disk> Window<D> {
     }
 
     /// The bytes that were read from the offset on.
-    pub fn ahead(&self) -> &[u8]
+    pub(crate) fn ahead(&self) -> &[u8]
         ensures { result.now ≡ self.now.ahead }
     {
         &self.bytes[self.from..self.to]
     }
 
     /// Whether at least this many bytes are ahead; reads what is missing.
-    pub fn look(&mut self, need: usize) -> Result<bool, RecoverFault>
+    pub(crate) fn look(&mut self, need: usize) -> Result<bool, RecoverFault>
         requires shows { Shows D.trace self.old }
         requires offset { self.old.offset ≤ 2 ^ 60 }
         ensures shows { Shows D.trace self.new }
@@ -117,11 +115,11 @@ impl<D: Disk> Window<D> {
 
     /// How many bytes are counted ahead: those after their length in 4 bytes, where all of them are there and they aren't more
     /// than a body has.
-    pub fn counted(&mut self) -> Result<Option<usize>, RecoverFault>
+    pub(crate) fn counted(&mut self) -> Result<Option<usize>, RecoverFault>
         requires shows { Shows D.trace self.old }
         requires offset { self.old.offset ≤ 2 ^ 60 }
         ensures shows { Shows D.trace self.new }
-        ensures counted { IfOk result (Counts (D.trace self.new.disk) self.old.offset self.new.ahead) }
+        ensures counted { IfOk result (CountsAhead (D.trace self.new.disk) self.old.offset self.new.ahead) }
         ensures fault { IfErr result IsOutside }
         ensures keeps { KeepsKnown (D.trace self.old.disk) (D.trace self.new.disk) (D.faults self.old.disk) (D.faults self.new.disk)
             RecoverFault.DiskFault result }
@@ -139,7 +137,7 @@ impl<D: Disk> Window<D> {
     }
 
     /// Goes past bytes that are ahead.
-    pub fn pass(&mut self, count: usize)
+    pub(crate) fn pass(&mut self, count: usize)
         requires ahead { count ≤ length self.old.ahead }
         requires offset { self.old.offset ≤ 2 ^ 60 }
         ensures disk { self.new.disk ≡ self.old.disk }
@@ -152,14 +150,14 @@ impl<D: Disk> Window<D> {
     }
 
     /// The offset at which it is.
-    pub fn offset(&self) -> u64
+    pub(crate) fn offset(&self) -> u64
         ensures { result ≡ self.now.offset }
     {
         self.offset
     }
 
     /// Its disk.
-    pub fn into_disk(self) -> D
+    pub(crate) fn into_disk(self) -> D
         ensures { result ≡ self.disk }
     {
         self.disk
@@ -188,8 +186,7 @@ fn read_piece<D: Disk>(
     ensures front { take to bytes.new.items ≡ take to bytes.old.items }
     ensures size { length bytes.new.items ≡ length bytes.old.items }
     ensures moment { D.moment disk.old ≤ D.moment disk.new }
-    ensures cause { HasCause (D.faults disk.old) (D.faults disk.new) result }
-    ensures quiet { OnOk result (D.faults disk.new ≡ D.faults disk.old) }
+    ensures counts { Counts (D.faults disk.old) (D.faults disk.new) result }
 {
     disk.read_at(at, &mut bytes[to..])
 }

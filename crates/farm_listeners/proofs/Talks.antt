@@ -3,26 +3,28 @@ use Rattle.std.proofs.Common.{◌≡◌, ℕ, ◌+◌, ◌-◌, ◌^◌, min, tr
 use Rattle.std.specs.Prelude.{◌==◌}
 use Rattle.farm_base.proofs.BoolTests.{and_parts}
 use Rattle.std.proofs.lemmas.Bool.Decides.{nat_tests}
-use Rattle.farm_base.specs.Counts.{HasCause}
+use Rattle.farm_base.specs.Counts.{Counts}
 use Rattle.farm_listeners.specs.Listeners.{IsFreshConnection}
 use Rattle.farm_listeners.specs.Objects.{TalkState, is_new_talk, known_talk}
 
 -- a call that raises one of two counts raises both as one
-pub one_count_rises : {T E : Type 0} (before now other : ℕ) (result : Result T E) → HasCause before now result →
-    HasCause (min (before + other) (2 ^ 64 - 1)) (min (now + other) (2 ^ 64 - 1)) result
-one_count_rises before now other (Ok done) cause = record { never_falls = omega (arith, cause.never_falls); failed = tt }
-one_count_rises before now other (Err e) cause = record {
-  never_falls = omega (arith, cause.never_falls);
-  failed = omega (arith, cause.never_falls, cause.failed);
+pub one_count_rises : {T E : Type 0} (before now other : ℕ) (result : Result T E) → Counts before now result →
+    Counts (min (before + other) (2 ^ 64 - 1)) (min (now + other) (2 ^ 64 - 1)) result
+one_count_rises before now other (Ok done) counts = record { never_falls = omega (arith, counts.never_falls); failed = tt; quiet = omega (arith, counts.quiet) }
+one_count_rises before now other (Err e) counts = record {
+  never_falls = omega (arith, counts.never_falls);
+  failed = omega (arith, counts.never_falls, counts.failed);
+  quiet = tt;
 }
 
 -- the same of the other count
-pub other_count_rises : {T E : Type 0} (other before now : ℕ) (result : Result T E) → HasCause before now result →
-    HasCause (min (other + before) (2 ^ 64 - 1)) (min (other + now) (2 ^ 64 - 1)) result
-other_count_rises other before now (Ok done) cause = record { never_falls = omega (arith, cause.never_falls); failed = tt }
-other_count_rises other before now (Err e) cause = record {
-  never_falls = omega (arith, cause.never_falls);
-  failed = omega (arith, cause.never_falls, cause.failed);
+pub other_count_rises : {T E : Type 0} (other before now : ℕ) (result : Result T E) → Counts before now result →
+    Counts (min (other + before) (2 ^ 64 - 1)) (min (other + now) (2 ^ 64 - 1)) result
+other_count_rises other before now (Ok done) counts = record { never_falls = omega (arith, counts.never_falls); failed = tt; quiet = omega (arith, counts.quiet) }
+other_count_rises other before now (Err e) counts = record {
+  never_falls = omega (arith, counts.never_falls);
+  failed = omega (arith, counts.never_falls, counts.failed);
+  quiet = tt;
 }
 
 -- a list whose length tests as 0 has no item

@@ -49,7 +49,7 @@ impl Model for KeptEvents {
 
 impl KeptEvents {
     /// No event yet, and no memory taken.
-    pub fn new(alloc: Global) -> Self
+    pub(crate) fn new(alloc: Global) -> Self
         ensures known { result.events ≡ Some [] }
     {
         KeptEvents {
@@ -61,21 +61,21 @@ impl KeptEvents {
     }
 
     /// The ports that the listener was asked to listen on.
-    pub fn ports(&self) -> &[u16]
+    pub(crate) fn ports(&self) -> &[u16]
         ensures known { WhereKnown self.now.events (λ events. ports_of events ≡ result.now) }
     {
         &self.ports
     }
 
     /// The connections that were handed back.
-    pub fn talks(&self) -> &[Talk]
+    pub(crate) fn talks(&self) -> &[Talk]
         ensures known { WhereKnown self.now.events (λ events. left_of events ≡ map known_talk result.now) }
     {
         &self.talks
     }
 
     /// Makes room for two events more. Where there is no memory the events stay as they were.
-    pub fn make_room(&mut self) -> Result<(), NoMemory>
+    pub(crate) fn make_room(&mut self) -> Result<(), NoMemory>
         ensures room { OnOk result (2 ≤ self.new.room) }
         ensures there { 2 ≤ self.old.room → IsOk result }
         ensures events { self.new.events ≡ self.old.events }
@@ -97,7 +97,7 @@ impl KeptEvents {
     }
 
     /// An event couldn't be kept.
-    pub fn forget(&mut self)
+    pub(crate) fn forget(&mut self)
         ensures forgotten { self.new.events ≡ None }
         ensures room { self.new.room ≡ self.old.room }
     {
@@ -105,7 +105,7 @@ impl KeptEvents {
     }
 
     /// Keeps, where there is room, that the listener was asked to listen on a port.
-    pub fn listened(&mut self, port: u16, failed: bool)
+    pub(crate) fn listened(&mut self, port: u16, failed: bool)
         ensures added { AddsEvents self.old.events self.new.events (Listened port failed ∷ []) }
         ensures kept { 0 < self.old.room → IsSome self.old.events → IsSome self.new.events }
         ensures room { self.old.room ≤ self.new.room + 1 }
@@ -118,7 +118,7 @@ impl KeptEvents {
     }
 
     /// Keeps, where there is room, that a connection came.
-    pub fn came(&mut self)
+    pub(crate) fn came(&mut self)
         ensures added { AddsEvents self.old.events self.new.events (Came ∷ []) }
         ensures kept { 0 < self.old.room → IsSome self.old.events → IsSome self.new.events }
         ensures room { self.old.room ≤ self.new.room + 1 }
@@ -130,7 +130,7 @@ impl KeptEvents {
     }
 
     /// Keeps, where there is room, that a connection was handed back. Takes no memory.
-    pub fn left(&mut self, talk: Talk)
+    pub(crate) fn left(&mut self, talk: Talk)
         ensures added { AddsEvents self.old.events self.new.events (Left (known_talk talk) ∷ []) }
         ensures kept { 0 < self.old.room → IsSome self.old.events → IsSome self.new.events }
         ensures room { self.old.room ≤ self.new.room + 1 }
@@ -143,7 +143,7 @@ impl KeptEvents {
     }
 
     /// Keeps, where there is room, that no more connections will come.
-    pub fn ended(&mut self)
+    pub(crate) fn ended(&mut self)
         ensures added { AddsEvents self.old.events self.new.events (Ended ∷ []) }
         ensures kept { 0 < self.old.room → IsSome self.old.events → IsSome self.new.events }
         ensures room { self.old.room ≤ self.new.room + 1 }

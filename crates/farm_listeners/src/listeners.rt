@@ -1,7 +1,7 @@
 //! Listeners, to which connections come.
 
 ghost use Rattle.std.specs.Prelude.{◌≡◌, ℕ, IfOk, List, OnOk, Option};
-ghost use Rattle.farm_base.specs.Counts.{HasCause};
+ghost use Rattle.farm_base.specs.Counts.{Counts};
 ghost use Rattle.farm_listeners.specs.Listeners.{Accepts, Event, EventsAddUp, HandsBack, IfCame, IsFreshConnection, Listens, NoCallAddsNone, connection_of};
 
 use farm_ports::{Failed, Sink, Source};
@@ -31,8 +31,7 @@ pub trait Listener {
     /// Begins to listen on a port.
     fn listen(&mut self, port: u16) -> Result<(), Failed>
         ensures event { Listens (Self.events self.old) (Self.events self.new) port result }
-        ensures cause { HasCause (Self.faults self.old) (Self.faults self.new) result }
-        ensures quiet { OnOk result (Self.faults self.new ≡ Self.faults self.old) };
+        ensures counts { Counts (Self.faults self.old) (Self.faults self.new) result };
 
     /// Gives the next connection. It is new: where its bytes are known none was taken or put, and its count of faults is 0.
     ///
@@ -41,8 +40,7 @@ pub trait Listener {
         ensures event { Accepts (Self.events self.old) (Self.events self.new) result }
         ensures fresh { IfOk result (λ accepted. IfCame accepted (λ conn.
             IsFreshConnection (connection_of Self.Conn.stream Self.Conn.held Self.Conn.faults conn))) }
-        ensures cause { HasCause (Self.faults self.old) (Self.faults self.new) result }
-        ensures quiet { OnOk result (Self.faults self.new ≡ Self.faults self.old) };
+        ensures counts { Counts (Self.faults self.old) (Self.faults self.new) result };
 
     /// Takes back a connection that was served. It takes no memory.
     fn done(&mut self, conn: Self::Conn)

@@ -1,7 +1,7 @@
 //! A connection in memory.
 
 ghost use Rattle.std.specs.Prelude.{◌≡◌, ◌↔◌, ◌⊎◌, ◌+◌, ◌-◌, ◌<◌, [], flat_map, length, min, IfOk, IsErr, IsSomeAnd, OnOk, Some};
-ghost use Rattle.farm_base.specs.Counts.{HasCause};
+ghost use Rattle.farm_base.specs.Counts.{Counts};
 ghost use Rattle.farm_ports.specs.Pieces.{end_after, ends_from};
 ghost use Rattle.farm_ports.specs.Ports.{PutGives, TakeGives};
 ghost use Rattle.farm_listeners.specs.Objects.{is_new_talk};
@@ -100,8 +100,7 @@ impl Source for Talk {
     fn take(&mut self, into: &mut [u8]) -> Result<usize, Failed>
         ensures bytes { TakeGives (⟦<Talk as Port>⟧.stream self.old) (⟦<Talk as Port>⟧.stream self.new) into.new result }
         ensures held { ⟦<Talk as Port>⟧.held self.new ≡ ⟦<Talk as Port>⟧.held self.old }
-        ensures cause { HasCause (⟦<Talk as Port>⟧.faults self.old) (⟦<Talk as Port>⟧.faults self.new) result }
-        ensures quiet { OnOk result (⟦<Talk as Port>⟧.faults self.new ≡ ⟦<Talk as Port>⟧.faults self.old) }
+        ensures counts { Counts (⟦<Talk as Port>⟧.faults self.old) (⟦<Talk as Port>⟧.faults self.new) result }
 
         // Only a listed take fails, and any other gives the rest of a piece, or as much as there is room for.
         ensures listed { IsErr result ↔ FailsNext self.old.source.calls }
@@ -121,8 +120,7 @@ impl Sink for Talk {
     fn put(&mut self, bytes: &[u8]) -> Result<usize, Failed>
         ensures bytes { PutGives (⟦<Talk as Port>⟧.held self.old) (⟦<Talk as Port>⟧.held self.new) bytes.now result }
         ensures stream { ⟦<Talk as Port>⟧.stream self.new ≡ ⟦<Talk as Port>⟧.stream self.old }
-        ensures cause { HasCause (⟦<Talk as Port>⟧.faults self.old) (⟦<Talk as Port>⟧.faults self.new) result }
-        ensures quiet { OnOk result (⟦<Talk as Port>⟧.faults self.new ≡ ⟦<Talk as Port>⟧.faults self.old) }
+        ensures counts { Counts (⟦<Talk as Port>⟧.faults self.old) (⟦<Talk as Port>⟧.faults self.new) result }
 
         // A listed put fails; any other takes the whole piece, or finds no memory.
         ensures listed { FailsNext self.old.sink.calls → IsErr result }

@@ -1,7 +1,7 @@
 //! A listener over TCP.
 
 ghost use Rattle.std.specs.Prelude.{◌≡◌, false, is_ok, IfOk, IsErr, None, Ok, OnOk};
-ghost use Rattle.farm_base.specs.Counts.{HasCause};
+ghost use Rattle.farm_base.specs.Counts.{Counts};
 ghost use Rattle.farm_listeners.specs.Listeners.{Accepts, HandsBack, IfCame, IsFreshConnection, Listens, connection_of};
 
 use crate::{Accepted, Listener, TcpTalk};
@@ -70,8 +70,7 @@ impl<R: Net<Listener = TcpListener, Stream = TcpStream> + Clock + Copy> Listener
 
     fn listen(&mut self, port: u16) -> Result<(), Failed>
         ensures event { Listens (⟦<TcpPost<R> as Listener>⟧.events self.old) (⟦<TcpPost<R> as Listener>⟧.events self.new) port result }
-        ensures cause { HasCause (⟦<TcpPost<R> as Listener>⟧.faults self.old) (⟦<TcpPost<R> as Listener>⟧.faults self.new) result }
-        ensures quiet { OnOk result (⟦<TcpPost<R> as Listener>⟧.faults self.new ≡ ⟦<TcpPost<R> as Listener>⟧.faults self.old) }
+        ensures counts { Counts (⟦<TcpPost<R> as Listener>⟧.faults self.old) (⟦<TcpPost<R> as Listener>⟧.faults self.new) result }
         ensures listening { self.new.listening ≡ is_ok result }
         ensures over { self.new.over ≡ self.old.over }
     {
@@ -89,8 +88,7 @@ impl<R: Net<Listener = TcpListener, Stream = TcpStream> + Clock + Copy> Listener
         ensures event { Accepts (⟦<TcpPost<R> as Listener>⟧.events self.old) (⟦<TcpPost<R> as Listener>⟧.events self.new) result }
         ensures fresh { IfOk result (λ accepted. IfCame accepted (λ conn.
             IsFreshConnection (connection_of ⟦<TcpTalk<R> as Port>⟧.stream ⟦<TcpTalk<R> as Port>⟧.held ⟦<TcpTalk<R> as Port>⟧.faults conn))) }
-        ensures cause { HasCause (⟦<TcpPost<R> as Listener>⟧.faults self.old) (⟦<TcpPost<R> as Listener>⟧.faults self.new) result }
-        ensures quiet { OnOk result (⟦<TcpPost<R> as Listener>⟧.faults self.new ≡ ⟦<TcpPost<R> as Listener>⟧.faults self.old) }
+        ensures counts { Counts (⟦<TcpPost<R> as Listener>⟧.faults self.old) (⟦<TcpPost<R> as Listener>⟧.faults self.new) result }
 
         // It never ends. Before a listen it fails, and it leaves the listening as it was.
         ensures never_ends { result ≡ Ok Accepted.End → ⊥ }

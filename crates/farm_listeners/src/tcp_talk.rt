@@ -1,7 +1,7 @@
 //! A connection over TCP.
 
 ghost use Rattle.std.specs.Prelude.{◌≡◌, IfOk, OnOk};
-ghost use Rattle.farm_base.specs.Counts.{HasCause};
+ghost use Rattle.farm_base.specs.Counts.{Counts};
 ghost use Rattle.farm_ports.specs.Ports.{PutGives, TakeGives};
 
 use farm_ports::{Failed, Port, Sink, Source};
@@ -101,8 +101,7 @@ impl<R: Clock + Copy> Source for TcpTalk<R> {
     fn take(&mut self, into: &mut [u8]) -> Result<usize, Failed>
         ensures bytes { TakeGives (⟦<TcpTalk<R> as Port>⟧.stream self.old) (⟦<TcpTalk<R> as Port>⟧.stream self.new) into.new result }
         ensures held { ⟦<TcpTalk<R> as Port>⟧.held self.new ≡ ⟦<TcpTalk<R> as Port>⟧.held self.old }
-        ensures cause { HasCause (⟦<TcpTalk<R> as Port>⟧.faults self.old) (⟦<TcpTalk<R> as Port>⟧.faults self.new) result }
-        ensures quiet { OnOk result (⟦<TcpTalk<R> as Port>⟧.faults self.new ≡ ⟦<TcpTalk<R> as Port>⟧.faults self.old) }
+        ensures counts { Counts (⟦<TcpTalk<R> as Port>⟧.faults self.old) (⟦<TcpTalk<R> as Port>⟧.faults self.new) result }
         ensures over { self.new.over ≡ self.old.over }
     {
         if self.is_late() {
@@ -119,8 +118,7 @@ impl<R: Clock + Copy> Sink for TcpTalk<R> {
     fn put(&mut self, bytes: &[u8]) -> Result<usize, Failed>
         ensures bytes { PutGives (⟦<TcpTalk<R> as Port>⟧.held self.old) (⟦<TcpTalk<R> as Port>⟧.held self.new) bytes.now result }
         ensures stream { ⟦<TcpTalk<R> as Port>⟧.stream self.new ≡ ⟦<TcpTalk<R> as Port>⟧.stream self.old }
-        ensures cause { HasCause (⟦<TcpTalk<R> as Port>⟧.faults self.old) (⟦<TcpTalk<R> as Port>⟧.faults self.new) result }
-        ensures quiet { OnOk result (⟦<TcpTalk<R> as Port>⟧.faults self.new ≡ ⟦<TcpTalk<R> as Port>⟧.faults self.old) }
+        ensures counts { Counts (⟦<TcpTalk<R> as Port>⟧.faults self.old) (⟦<TcpTalk<R> as Port>⟧.faults self.new) result }
         ensures over { self.new.over ≡ self.old.over }
     {
         match self.stream.write(bytes) {

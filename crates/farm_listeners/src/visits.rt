@@ -1,7 +1,7 @@
 //! A listener in memory.
 
 ghost use Rattle.std.specs.Prelude.{◌≡◌, ◌<◌, ◌≤◌, ◌+◌, [], drop, filter, map, IfOk, IsErr, IsOk, IsSome, MatchResult, OnOk, Some, if◌then◌else◌, is_ok};
-ghost use Rattle.farm_base.specs.Counts.{HasCause};
+ghost use Rattle.farm_base.specs.Counts.{Counts};
 ghost use Rattle.farm_base.specs.Known.{WhereKnown};
 ghost use Rattle.farm_ports.specs.Objects.{CountsCall, FailsNext};
 ghost use Rattle.farm_listeners.specs.Listeners.{Accepts, AddsAccepted, HandsBack, IfCame, IsFreshConnection, Listens, connection_of, left_of, ports_of};
@@ -121,8 +121,7 @@ impl Listener for Visits {
 
     fn listen(&mut self, port: u16) -> Result<(), Failed>
         ensures event { Listens (⟦<Visits as Listener>⟧.events self.old) (⟦<Visits as Listener>⟧.events self.new) port result }
-        ensures cause { HasCause (⟦<Visits as Listener>⟧.faults self.old) (⟦<Visits as Listener>⟧.faults self.new) result }
-        ensures quiet { OnOk result (⟦<Visits as Listener>⟧.faults self.new ≡ ⟦<Visits as Listener>⟧.faults self.old) }
+        ensures counts { Counts (⟦<Visits as Listener>⟧.faults self.old) (⟦<Visits as Listener>⟧.faults self.new) result }
 
         // A listed listen fails, and one that finds no memory: with room a listed one alone, and each is kept.
         ensures listed { FailsNext self.old.calls → IsErr result }
@@ -147,8 +146,7 @@ impl Listener for Visits {
         ensures event { Accepts (⟦<Visits as Listener>⟧.events self.old) (⟦<Visits as Listener>⟧.events self.new) result }
         ensures fresh { IfOk result (λ accepted. IfCame accepted (λ talk.
             IsFreshConnection (connection_of ⟦<Talk as Port>⟧.stream ⟦<Talk as Port>⟧.held ⟦<Talk as Port>⟧.faults talk))) }
-        ensures cause { HasCause (⟦<Visits as Listener>⟧.faults self.old) (⟦<Visits as Listener>⟧.faults self.new) result }
-        ensures quiet { OnOk result (⟦<Visits as Listener>⟧.faults self.new ≡ ⟦<Visits as Listener>⟧.faults self.old) }
+        ensures counts { Counts (⟦<Visits as Listener>⟧.faults self.old) (⟦<Visits as Listener>⟧.faults self.new) result }
 
         // A listed accept fails, and one that finds no memory: with room a listed one alone. Any other answers what the next item
         // says: idle exactly at an idle place, and the end exactly after the last item.

@@ -1,7 +1,7 @@
 //! All of a text into a sink, and up to a number of bytes out of a source.
 
 ghost use Rattle.std.specs.Prelude.{◌≡◌, ◌≢◌, ℕ, ◌<◌, ◌≤◌, List, vec_len, IfOk, OnErr, OnOk};
-ghost use Rattle.farm_base.specs.Counts.{HasCause, Rose};
+ghost use Rattle.farm_base.specs.Counts.{Counts, CountsIf};
 ghost use Rattle.farm_base.specs.Known.{Takes};
 ghost use Rattle.farm_ports.specs.Ports.{PutsAll, ReadsOn, ReadsUpTo};
 
@@ -15,8 +15,7 @@ const CHUNK: usize = 8_192;
 pub fn put_all<K: Sink>(sink: &mut K, text: &[u8]) -> Result<(), Failed>
     ensures bytes { PutsAll (K.held sink.old) (K.held sink.new) text.now result }
     ensures stream { K.stream sink.new ≡ K.stream sink.old }
-    ensures cause { HasCause (K.faults sink.old) (K.faults sink.new) result }
-    ensures quiet { OnOk result (K.faults sink.new ≡ K.faults sink.old) }
+    ensures counts { Counts (K.faults sink.old) (K.faults sink.new) result }
 {
     let mut done = 0;
     while done < text.len() {
@@ -36,9 +35,7 @@ pub fn read_up_to<S: Source>(
     ensures read { IfOk result (λ v. ReadsUpTo (S.stream source.old) (S.stream source.new) most v.items) }
     ensures front { OnErr result ((bytes : List ℕ) × Takes (S.stream source.old) (S.stream source.new) bytes) }
     ensures held { S.held source.new ≡ S.held source.old }
-    ensures never_falls { S.faults source.old ≤ S.faults source.new }
-    ensures failed { result ≡ Err PortFault.Failed → Rose (S.faults source.old) (S.faults source.new) }
-    ensures quiet { result ≢ Err PortFault.Failed → S.faults source.new ≡ S.faults source.old }
+    ensures counts { CountsIf (result ≡ Err PortFault.Failed) (S.faults source.old) (S.faults source.new) }
 {
     let mut bytes = Vec::new(alloc);
     while bytes.len() < most {
@@ -55,9 +52,7 @@ fn read_on<S: Source>(source: &mut S, bytes: &mut Vec<u8>, most: usize) -> Resul
     ensures read { IfOk result (ReadsOn (S.stream source.old) (S.stream source.new) bytes.old.items bytes.new.items most) }
     ensures front { OnErr result ((taken : List ℕ) × Takes (S.stream source.old) (S.stream source.new) taken) }
     ensures held { S.held source.new ≡ S.held source.old }
-    ensures never_falls { S.faults source.old ≤ S.faults source.new }
-    ensures failed { result ≡ Err PortFault.Failed → Rose (S.faults source.old) (S.faults source.new) }
-    ensures quiet { result ≢ Err PortFault.Failed → S.faults source.new ≡ S.faults source.old }
+    ensures counts { CountsIf (result ≡ Err PortFault.Failed) (S.faults source.old) (S.faults source.new) }
 {
     let mut chunk = [0; CHUNK];
     let wanted = CHUNK.min(most - bytes.len());

@@ -1,7 +1,7 @@
 //! A folder of the system.
 
 ghost use Rattle.std.specs.Prelude.{◌≡◌, ◌≢◌, ◌≤◌, length, string_bytes, IfOk, None};
-ghost use Rattle.farm_base.specs.Counts.{Rose};
+ghost use Rattle.farm_base.specs.Counts.{CountsIf};
 ghost use Rattle.farm_base.specs.Known.{Stays, WhereKnown};
 ghost use Rattle.farm_ports.specs.Folders.{ReadsFile, file_named};
 
@@ -62,12 +62,10 @@ impl<R: Files> Folder for DirFolder<R> {
     fn read(&mut self, alloc: Global, name: &str, most: usize) -> Result<Vec<u8>, FolderFault>
         ensures bytes { IfOk result (λ bytes. WhereKnown (⟦<DirFolder<R> as Folder>⟧.files self.new) (ReadsFile name.now most bytes.items)) }
         ensures files { Stays (⟦<DirFolder<R> as Folder>⟧.files self.old) (⟦<DirFolder<R> as Folder>⟧.files self.new) }
-        ensures never_falls { ⟦<DirFolder<R> as Folder>⟧.faults self.old ≤ ⟦<DirFolder<R> as Folder>⟧.faults self.new }
-        ensures failed { result ≡ Err PortFault.Failed → Rose (⟦<DirFolder<R> as Folder>⟧.faults self.old) (⟦<DirFolder<R> as Folder>⟧.faults self.new) }
+        ensures counts { CountsIf (result ≡ Err PortFault.Failed) (⟦<DirFolder<R> as Folder>⟧.faults self.old) (⟦<DirFolder<R> as Folder>⟧.faults self.new) }
 
-        // Of the bytes no clause says more than how many there may be. A read that doesn't fail counts no fault.
+        // Of the bytes no clause says more than how many there may be.
         ensures within { IfOk result (λ bytes. length bytes.items ≤ most) }
-        ensures quiet { result ≢ Err PortFault.Failed → self.new.faults ≡ self.old.faults }
         ensures directory { self.new.over ≡ self.old.over }
         ensures missing_only { ⟦<DirFolder<R> as Folder>⟧.lists_no_failure self.old → result ≡ Err PortFault.Failed →
             WhereKnown (⟦<DirFolder<R> as Folder>⟧.files self.new) (λ files. file_named name.now files ≡ None) }

@@ -1,7 +1,7 @@
 //! Which calls of an object in memory are to fail, and how many have.
 
 ghost use Rattle.std.specs.Prelude.{◌≡◌, ◌↔◌, ◌≤◌, IsErr, OnErr, OnOk};
-ghost use Rattle.farm_base.specs.Counts.{HasCause, Rose, raised};
+ghost use Rattle.farm_base.specs.Counts.{CountsOnce, Rose, raised};
 ghost use Rattle.farm_ports.specs.Objects.{CountsCall, FailsNext, no_calls};
 
 use crate::Failed;
@@ -38,9 +38,7 @@ impl FailingCalls {
     /// Counts a call, and fails it where its number is listed.
     pub fn begin(&mut self) -> Result<(), Failed>
         ensures listed { IsErr result ↔ FailsNext self.old }
-        ensures cause { HasCause self.old.faults self.new.faults result }
-        ensures quiet { OnOk result (self.new.faults ≡ self.old.faults) }
-        ensures once { OnErr result (self.new.faults ≡ raised 1 self.old.faults) }
+        ensures counts { CountsOnce self.old.faults self.new.faults result }
         ensures counted { CountsCall self.old self.new }
     {
         self.made = self.made.saturating_add(1);

@@ -1,7 +1,7 @@
 //! A folder in memory.
 
 ghost use Rattle.std.specs.Prelude.{◌≡◌, ◌≢◌, ◌↔◌, ◌≤◌, ◌⊎◌, [], IfOk, IsOk, option_map, Some, None};
-ghost use Rattle.farm_base.specs.Counts.{Rose};
+ghost use Rattle.farm_base.specs.Counts.{CountsIf};
 ghost use Rattle.farm_base.specs.Known.{Stays, WhereKnown};
 ghost use Rattle.farm_ports.specs.Folders.{ReadsFile, file_named, files_of};
 
@@ -68,15 +68,13 @@ impl Folder for Files {
     fn read(&mut self, alloc: Global, name: &str, most: usize) -> Result<Vec<u8>, FolderFault>
         ensures bytes { IfOk result (λ bytes. WhereKnown (⟦<Files as Folder>⟧.files self.new) (ReadsFile name.now most bytes.items)) }
         ensures files { Stays (⟦<Files as Folder>⟧.files self.old) (⟦<Files as Folder>⟧.files self.new) }
-        ensures never_falls { ⟦<Files as Folder>⟧.faults self.old ≤ ⟦<Files as Folder>⟧.faults self.new }
-        ensures failed { result ≡ Err PortFault.Failed → Rose (⟦<Files as Folder>⟧.faults self.old) (⟦<Files as Folder>⟧.faults self.new) }
+        ensures counts { CountsIf (result ≡ Err PortFault.Failed) (⟦<Files as Folder>⟧.faults self.old) (⟦<Files as Folder>⟧.faults self.new) }
 
         // A listed read fails, and so does that of a name that no file has; any other gives bytes or finds no memory.
         ensures listed { FailsNext self.old.calls → result ≡ Err PortFault.Failed }
         ensures missing { (result ≡ Err PortFault.Failed)
             ↔ (FailsNext self.old.calls ⊎ (file_named name.now self.old.files ≡ None)) }
         ensures counted { CountsCall self.old.calls self.new.calls }
-        ensures quiet { result ≢ Err PortFault.Failed → ⟦<Files as Folder>⟧.faults self.new ≡ ⟦<Files as Folder>⟧.faults self.old }
         ensures kept { ⟦<Files as Folder>⟧.files self.new ≡ ⟦<Files as Folder>⟧.files self.old }
         ensures missing_only { ⟦<Files as Folder>⟧.lists_no_failure self.old → result ≡ Err PortFault.Failed →
             WhereKnown (⟦<Files as Folder>⟧.files self.new) (λ files. file_named name.now files ≡ None) }

@@ -1,7 +1,7 @@
 //! Folders of files.
 
 ghost use Rattle.std.specs.Prelude.{◌≡◌, ◌≢◌, ◌≤◌, ℕ, List, Option, IfOk, None};
-ghost use Rattle.farm_base.specs.Counts.{Rose};
+ghost use Rattle.farm_base.specs.Counts.{CountsIf};
 ghost use Rattle.farm_base.specs.Known.{Stays, WhereKnown};
 ghost use Rattle.farm_ports.specs.Folders.{File, ReadsFile, file_named};
 
@@ -28,9 +28,7 @@ pub trait Folder {
     fn read(&mut self, alloc: Global, name: &str, most: usize) -> Result<Vec<u8>, FolderFault>
         ensures bytes { IfOk result (λ bytes. WhereKnown (Self.files self.new) (ReadsFile name.now most bytes.items)) }
         ensures files { Stays (Self.files self.old) (Self.files self.new) }
-        ensures never_falls { Self.faults self.old ≤ Self.faults self.new }
-        ensures failed { result ≡ Err PortFault.Failed → Rose (Self.faults self.old) (Self.faults self.new) }
-        ensures quiet { result ≢ Err PortFault.Failed → Self.faults self.new ≡ Self.faults self.old }
+        ensures counts { CountsIf (result ≡ Err PortFault.Failed) (Self.faults self.old) (Self.faults self.new) }
 
         // Where no failure is listed, a read fails only for a name that no file has, and none is listed afterwards.
         ensures missing_only { Self.lists_no_failure self.old → result ≡ Err PortFault.Failed →

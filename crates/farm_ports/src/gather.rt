@@ -1,7 +1,7 @@
 //! A sink in memory.
 
 ghost use Rattle.std.specs.Prelude.{◌≡◌, ◌⊎◌, ◌+◌, ◌<◌, [], length, IfOk, OnOk, IsOk, IsErr, Some, None};
-ghost use Rattle.farm_base.specs.Counts.{HasCause};
+ghost use Rattle.farm_base.specs.Counts.{Counts};
 ghost use Rattle.farm_ports.specs.Ports.{PutGives};
 
 use crate::failing_calls::FailingCalls;
@@ -73,14 +73,13 @@ impl Sink for Gather {
     fn put(&mut self, bytes: &[u8]) -> Result<usize, Failed>
         ensures bytes { PutGives (⟦<Gather as Port>⟧.held self.old) (⟦<Gather as Port>⟧.held self.new) bytes.now result }
         ensures stream { ⟦<Gather as Port>⟧.stream self.new ≡ ⟦<Gather as Port>⟧.stream self.old }
-        ensures cause { HasCause (⟦<Gather as Port>⟧.faults self.old) (⟦<Gather as Port>⟧.faults self.new) result }
+        ensures counts { Counts (⟦<Gather as Port>⟧.faults self.old) (⟦<Gather as Port>⟧.faults self.new) result }
 
         // A listed put fails; any other takes the whole piece, or finds no memory.
         ensures listed { FailsNext self.old.calls → IsErr result }
         ensures room { IsErr result → FailsNext self.old.calls ⊎ (self.old.room < length self.old.bytes + length bytes.now) }
         ensures whole { IfOk result (λ count. count ≡ length bytes.now) }
         ensures counted { CountsCall self.old.calls self.new.calls }
-        ensures quiet { OnOk result (⟦<Gather as Port>⟧.faults self.new ≡ ⟦<Gather as Port>⟧.faults self.old) }
     {
         self.calls.begin()?;
         if self.bytes.extend_from_slice(bytes).is_err() {

@@ -31,7 +31,7 @@ impl Model for KeptCalls {
 
 impl KeptCalls {
     /// No call yet, and room for one pause.
-    pub fn new(alloc: Global) -> Result<Self, NoMemory>
+    pub(crate) fn new(alloc: Global) -> Result<Self, NoMemory>
         ensures known { IfOk result (λ kept. kept.calls ≡ Some []) }
         ensures room { IfOk result (λ kept. HasRoom 1 kept.calls kept.room) }
     {
@@ -43,7 +43,7 @@ impl KeptCalls {
     }
 
     /// The calls, where they are known.
-    pub fn get(&self) -> &[LinkCall]
+    pub(crate) fn get(&self) -> &[LinkCall]
         ensures known { WhereKnown self.now.calls (λ calls. calls ≡ result.now) }
     {
         &self.calls
@@ -52,7 +52,12 @@ impl KeptCalls {
     /// Makes room for this many calls and for one pause after them, and for this many bytes of each.
     ///
     /// Room for bytes that was there before is given up. Where there is no memory all stays as it was.
-    pub fn reserve(&mut self, alloc: Global, calls: usize, size: usize) -> Result<(), NoMemory>
+    pub(crate) fn reserve(
+        &mut self,
+        alloc: Global,
+        calls: usize,
+        size: usize,
+    ) -> Result<(), NoMemory>
         ensures room { OnOk result (HasRoom (calls + 1) self.new.calls self.new.room) }
         ensures count { OnOk result (self.new.copies.count ≡ calls) }
         ensures size { OnOk result (self.new.copies.size ≡ size) }
@@ -68,7 +73,7 @@ impl KeptCalls {
     }
 
     /// Makes room for a call and for one pause after it.
-    pub fn make_room(&mut self) -> Result<(), NoMemory>
+    pub(crate) fn make_room(&mut self) -> Result<(), NoMemory>
         ensures room { OnOk result (HasRoom 2 self.new.calls self.new.room) }
         ensures stays { OnOk result (self.new.calls ≡ self.old.calls) }
         ensures forgotten { IsErr result → self.new.calls ≡ None }
@@ -84,7 +89,7 @@ impl KeptCalls {
     }
 
     /// Makes room for a call and for one pause after it, and copies the bytes of the call.
-    pub fn copy(&mut self, alloc: Global, bytes: &[u8]) -> Result<Bytes, NoMemory>
+    pub(crate) fn copy(&mut self, alloc: Global, bytes: &[u8]) -> Result<Bytes, NoMemory>
         ensures copied { IfOk result (λ copy. copy ≡ bytes.now) }
         ensures room { IsOk result → HasRoom 2 self.new.calls self.new.room }
         ensures stays { IsOk result → self.new.calls ≡ self.old.calls }
@@ -102,7 +107,7 @@ impl KeptCalls {
     }
 
     /// Keeps a call where there is room for it. Takes no memory.
-    pub fn push(&mut self, call: LinkCall)
+    pub(crate) fn push(&mut self, call: LinkCall)
         ensures added { AddsCalls self.old.calls self.new.calls (call ∷ []) }
         ensures known { CanKeep 1 self.old.calls self.old.room → IsSome self.new.calls }
         ensures room { HasRoom 2 self.old.calls self.old.room → HasRoom 1 self.new.calls self.new.room }
@@ -114,7 +119,7 @@ impl KeptCalls {
     }
 
     /// Makes room for a call that moved no bytes and for one pause after it, and keeps the call.
-    pub fn keep(&mut self, call: LinkCall)
+    pub(crate) fn keep(&mut self, call: LinkCall)
         ensures added { AddsCalls self.old.calls self.new.calls (call ∷ []) }
         ensures known { CanKeep 2 self.old.calls self.old.room → IsSome self.new.calls }
         ensures room { HasRoom 1 self.new.calls self.new.room }

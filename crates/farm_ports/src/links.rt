@@ -1,7 +1,7 @@
 //! Links to devices that answer over a connection, as the gauges of a line do.
 
 ghost use Rattle.std.specs.Prelude.{◌≡◌, ℕ, [], ◌∷◌, List, OnOk, Option};
-ghost use Rattle.farm_base.specs.Counts.{HasCause};
+ghost use Rattle.farm_base.specs.Counts.{Counts};
 ghost use Rattle.farm_ports.specs.Links.{AddsCalls, CallsAddUp, Connects, NoCallAddsNone, Receives, Sends};
 ghost use Rattle.farm_ports.specs.declared.links.LinkCall.{LinkCall};
 
@@ -45,22 +45,19 @@ pub trait Link {
     /// Drops the connection before, and connects to a host, an address or a name, and a port.
     fn connect(&mut self, host: &[u8], port: u16) -> Result<(), Failed>
         ensures call { Connects (Self.calls self.old) (Self.calls self.new) host.now port result }
-        ensures cause { HasCause (Self.faults self.old) (Self.faults self.new) result }
-        ensures quiet { OnOk result (Self.faults self.new ≡ Self.faults self.old) };
+        ensures counts { Counts (Self.faults self.old) (Self.faults self.new) result };
 
     /// Sends bytes off the front of `bytes`, and says how many: at least one of a piece that has any.
     fn send(&mut self, bytes: &[u8]) -> Result<usize, Failed>
         ensures call { Sends (Self.calls self.old) (Self.calls self.new) bytes.now result }
-        ensures cause { HasCause (Self.faults self.old) (Self.faults self.new) result }
-        ensures quiet { OnOk result (Self.faults self.new ≡ Self.faults self.old) };
+        ensures counts { Counts (Self.faults self.old) (Self.faults self.new) result };
 
     /// Receives bytes into the front of `into`, and says how many: at least one for a buffer that has room.
     ///
     /// The end of what the device sends, and an answer that doesn't come in time, are faults.
     fn recv(&mut self, into: &mut [u8]) -> Result<usize, Failed>
         ensures call { Receives (Self.calls self.old) (Self.calls self.new) into.new result }
-        ensures cause { HasCause (Self.faults self.old) (Self.faults self.new) result }
-        ensures quiet { OnOk result (Self.faults self.new ≡ Self.faults self.old) };
+        ensures counts { Counts (Self.faults self.old) (Self.faults self.new) result };
 
     /// Lets one second pass.
     fn pause(&mut self)

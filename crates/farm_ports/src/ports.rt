@@ -1,7 +1,7 @@
 //! The ports: what a source, a sink and a port of both owe, and a call that failed.
 
 ghost use Rattle.std.specs.Prelude.{◌≡◌, ◌≤◌, ℕ, List, OnOk, Option};
-ghost use Rattle.farm_base.specs.Counts.{HasCause, Rose, raised};
+ghost use Rattle.farm_base.specs.Counts.{Counts, Rose, raised};
 ghost use Rattle.farm_base.specs.Known.{Stream};
 ghost use Rattle.farm_ports.specs.Ports.{PutGives, TakeGives};
 
@@ -42,8 +42,7 @@ pub trait Source: Port {
     fn take(&mut self, into: &mut [u8]) -> Result<usize, Failed>
         ensures bytes { TakeGives (Self.stream self.old) (Self.stream self.new) into.new result }
         ensures held { Self.held self.new ≡ Self.held self.old }
-        ensures cause { HasCause (Self.faults self.old) (Self.faults self.new) result }
-        ensures quiet { OnOk result (Self.faults self.new ≡ Self.faults self.old) };
+        ensures counts { Counts (Self.faults self.old) (Self.faults self.new) result };
 }
 
 /// A sink for bytes.
@@ -52,6 +51,5 @@ pub trait Sink: Port {
     fn put(&mut self, bytes: &[u8]) -> Result<usize, Failed>
         ensures bytes { PutGives (Self.held self.old) (Self.held self.new) bytes.now result }
         ensures stream { Self.stream self.new ≡ Self.stream self.old }
-        ensures cause { HasCause (Self.faults self.old) (Self.faults self.new) result }
-        ensures quiet { OnOk result (Self.faults self.new ≡ Self.faults self.old) };
+        ensures counts { Counts (Self.faults self.old) (Self.faults self.new) result };
 }

@@ -2,7 +2,7 @@
 
 ghost use Rattle.std.specs.Prelude.{◌≡◌, None, OnOk};
 ghost use Rattle.std.specs.Io.KnownBytes.{ReadConsumes, WriteAppends};
-ghost use Rattle.farm_base.specs.Counts.{HasCause};
+ghost use Rattle.farm_base.specs.Counts.{Counts};
 ghost use Rattle.farm_ports.specs.Ports.{PutGives, TakeGives};
 
 use crate::{Failed, Port, Sink, Source};
@@ -53,11 +53,10 @@ impl<R: Read> Source for StdSource<R> {
     fn take(&mut self, into: &mut [u8]) -> Result<usize, Failed>
         ensures bytes { TakeGives (⟦<StdSource<R> as Port>⟧.stream self.old) (⟦<StdSource<R> as Port>⟧.stream self.new) into.new result }
         ensures held { ⟦<StdSource<R> as Port>⟧.held self.new ≡ ⟦<StdSource<R> as Port>⟧.held self.old }
-        ensures cause { HasCause (⟦<StdSource<R> as Port>⟧.faults self.old) (⟦<StdSource<R> as Port>⟧.faults self.new) result }
+        ensures counts { Counts (⟦<StdSource<R> as Port>⟧.faults self.old) (⟦<StdSource<R> as Port>⟧.faults self.new) result }
 
         // What a take gives is what one read gave.
         ensures reader { ReadConsumes (R.remaining self.old.over) (R.remaining self.new.over) result into.new }
-        ensures quiet { OnOk result (self.new.faults ≡ self.old.faults) }
     {
         match self.inner.read(into) {
             Ok(count) => Ok(count),
@@ -110,11 +109,10 @@ impl<W: Write> Sink for StdSink<W> {
     fn put(&mut self, bytes: &[u8]) -> Result<usize, Failed>
         ensures bytes { PutGives (⟦<StdSink<W> as Port>⟧.held self.old) (⟦<StdSink<W> as Port>⟧.held self.new) bytes.now result }
         ensures stream { ⟦<StdSink<W> as Port>⟧.stream self.new ≡ ⟦<StdSink<W> as Port>⟧.stream self.old }
-        ensures cause { HasCause (⟦<StdSink<W> as Port>⟧.faults self.old) (⟦<StdSink<W> as Port>⟧.faults self.new) result }
+        ensures counts { Counts (⟦<StdSink<W> as Port>⟧.faults self.old) (⟦<StdSink<W> as Port>⟧.faults self.new) result }
 
         // What a put takes is what one write took.
         ensures writer { WriteAppends (W.contents self.old.over) (W.contents self.new.over) result bytes.now }
-        ensures quiet { OnOk result (self.new.faults ≡ self.old.faults) }
     {
         match self.inner.write(bytes) {
             // A writer that takes nothing of a piece would keep its caller waiting forever.

@@ -32,7 +32,7 @@ impl Model for Responses {
 
 impl Responses {
     /// These responses, and nothing to receive before the first send. Takes no memory.
-    pub fn new(alloc: Global, responses: Vec<Vec<u8>>) -> Self
+    pub(crate) fn new(alloc: Global, responses: Vec<Vec<u8>>) -> Self
         ensures coming { result.coming ≡ map (λ response. response.items) responses.items }
         ensures left { result.left ≡ [] }
     {
@@ -44,14 +44,14 @@ impl Responses {
     }
 
     /// What is left to receive.
-    pub fn left(&self) -> &[u8]
+    pub(crate) fn left(&self) -> &[u8]
         ensures { result.now ≡ self.now.left }
     {
         &self.current[self.offset..]
     }
 
     /// Drops what was left.
-    pub fn drop_left(&mut self)
+    pub(crate) fn drop_left(&mut self)
         ensures coming { self.new.coming ≡ self.old.coming }
         ensures left { self.new.left ≡ [] }
     {
@@ -59,7 +59,7 @@ impl Responses {
     }
 
     /// Drops what was left, and turns to the next response.
-    pub fn go_on(&mut self)
+    pub(crate) fn go_on(&mut self)
         ensures coming { self.new.coming ≡ responses_after self.old.coming }
         ensures left { self.new.left ≡ first_response self.old.coming }
     {
@@ -71,7 +71,7 @@ impl Responses {
     }
 
     /// Passes over bytes that were received.
-    pub fn advance(&mut self, count: usize)
+    pub(crate) fn advance(&mut self, count: usize)
         requires within { count ≤ length self.old.left }
         ensures coming { self.new.coming ≡ self.old.coming }
         ensures left { self.new.left ≡ drop count self.old.left }

@@ -1,7 +1,7 @@
 //! A source in memory.
 
 ghost use Rattle.std.specs.Prelude.{◌≡◌, ◌↔◌, ◌+◌, ◌-◌, ◌<◌, ◌≤◌, [], length, min, IfOk, OnOk, IsErr, IsSomeAnd, flat_map, Some, None};
-ghost use Rattle.farm_base.specs.Counts.{HasCause};
+ghost use Rattle.farm_base.specs.Counts.{Counts};
 ghost use Rattle.farm_ports.specs.Ports.{TakeGives, TakesFront};
 ghost use Rattle.farm_ports.specs.Pieces.{at_offset, end_after, ends_from};
 
@@ -89,12 +89,11 @@ impl Source for Script {
     fn take(&mut self, into: &mut [u8]) -> Result<usize, Failed>
         ensures bytes { TakeGives (⟦<Script as Port>⟧.stream self.old) (⟦<Script as Port>⟧.stream self.new) into.new result }
         ensures held { ⟦<Script as Port>⟧.held self.new ≡ ⟦<Script as Port>⟧.held self.old }
-        ensures cause { HasCause (⟦<Script as Port>⟧.faults self.old) (⟦<Script as Port>⟧.faults self.new) result }
+        ensures counts { Counts (⟦<Script as Port>⟧.faults self.old) (⟦<Script as Port>⟧.faults self.new) result }
 
         // Only a listed take fails, and any other gives the rest of a piece, or as much as there is room for.
         ensures listed { IsErr result ↔ FailsNext self.old.calls }
         ensures counted { CountsCall self.old.calls self.new.calls }
-        ensures quiet { OnOk result (⟦<Script as Port>⟧.faults self.new ≡ ⟦<Script as Port>⟧.faults self.old) }
         ensures piece { IfOk result (λ count. count
             ≡ min (length into.new) (end_after self.old.taken (length self.old.bytes) self.old.ends - self.old.taken)) }
         ensures ends { self.new.ends ≡ self.old.ends }

@@ -1,7 +1,7 @@
 //! A link over a TCP connection of the system.
 
 ghost use Rattle.std.specs.Prelude.{◌≡◌, ◌<◌, ◌≤◌, ◌∷◌, [], false, is_ok, IfOk, IsErr, None, OnOk};
-ghost use Rattle.farm_base.specs.Counts.{HasCause, Rose};
+ghost use Rattle.farm_base.specs.Counts.{Counts, Rose};
 ghost use Rattle.farm_ports.specs.Links.{AddsCalls, Connects, Receives, Sends};
 
 use crate::{Failed, Link, LinkCall};
@@ -77,8 +77,7 @@ impl<R: Net + Clock> TcpLink<R> {
         ensures within { IfOk result (λ count. count ≤ most) }
         ensures some { IfOk result (λ count. 0 < most → 0 < count) }
         ensures failed { IsErr answer → IsErr result }
-        ensures cause { HasCause self.old.faults self.new.faults result }
-        ensures quiet { OnOk result (self.new.faults ≡ self.old.faults) }
+        ensures counts { Counts self.old.faults self.new.faults result }
         ensures over { self.new.over ≡ self.old.over }
         ensures connected { self.new.connected ≡ self.old.connected }
     {
@@ -97,8 +96,7 @@ impl<R: Net + Clock> Link for TcpLink<R> {
 
     fn connect(&mut self, host: &[u8], port: u16) -> Result<(), Failed>
         ensures call { Connects (⟦<TcpLink<R> as Link>⟧.calls self.old) (⟦<TcpLink<R> as Link>⟧.calls self.new) host.now port result }
-        ensures cause { HasCause (⟦<TcpLink<R> as Link>⟧.faults self.old) (⟦<TcpLink<R> as Link>⟧.faults self.new) result }
-        ensures quiet { OnOk result (⟦<TcpLink<R> as Link>⟧.faults self.new ≡ ⟦<TcpLink<R> as Link>⟧.faults self.old) }
+        ensures counts { Counts (⟦<TcpLink<R> as Link>⟧.faults self.old) (⟦<TcpLink<R> as Link>⟧.faults self.new) result }
         ensures connected { self.new.connected ≡ is_ok result }
         ensures over { self.new.over ≡ self.old.over }
     {
@@ -114,8 +112,7 @@ impl<R: Net + Clock> Link for TcpLink<R> {
 
     fn send(&mut self, bytes: &[u8]) -> Result<usize, Failed>
         ensures call { Sends (⟦<TcpLink<R> as Link>⟧.calls self.old) (⟦<TcpLink<R> as Link>⟧.calls self.new) bytes.now result }
-        ensures cause { HasCause (⟦<TcpLink<R> as Link>⟧.faults self.old) (⟦<TcpLink<R> as Link>⟧.faults self.new) result }
-        ensures quiet { OnOk result (⟦<TcpLink<R> as Link>⟧.faults self.new ≡ ⟦<TcpLink<R> as Link>⟧.faults self.old) }
+        ensures counts { Counts (⟦<TcpLink<R> as Link>⟧.faults self.old) (⟦<TcpLink<R> as Link>⟧.faults self.new) result }
 
         // Without a connection it fails, and it leaves the connection as it was.
         ensures unconnected { self.old.connected ≡ false → IsErr result }
@@ -131,8 +128,7 @@ impl<R: Net + Clock> Link for TcpLink<R> {
 
     fn recv(&mut self, into: &mut [u8]) -> Result<usize, Failed>
         ensures call { Receives (⟦<TcpLink<R> as Link>⟧.calls self.old) (⟦<TcpLink<R> as Link>⟧.calls self.new) into.new result }
-        ensures cause { HasCause (⟦<TcpLink<R> as Link>⟧.faults self.old) (⟦<TcpLink<R> as Link>⟧.faults self.new) result }
-        ensures quiet { OnOk result (⟦<TcpLink<R> as Link>⟧.faults self.new ≡ ⟦<TcpLink<R> as Link>⟧.faults self.old) }
+        ensures counts { Counts (⟦<TcpLink<R> as Link>⟧.faults self.old) (⟦<TcpLink<R> as Link>⟧.faults self.new) result }
         ensures unconnected { self.old.connected ≡ false → IsErr result }
         ensures connected { self.new.connected ≡ self.old.connected }
         ensures over { self.new.over ≡ self.old.over }

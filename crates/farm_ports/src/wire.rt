@@ -1,7 +1,7 @@
 //! A link in memory.
 
 ghost use Rattle.std.specs.Prelude.{◌≡◌, ◌⊎◌, ◌≤◌, ◌+◌, ◌++◌, [], ◌∷◌, drop, length, map, min, take, IfOk, IsErr, IsOk, IsSome, MatchResult, OnErr, OnOk, Some, if◌then◌else◌, is_ok};
-ghost use Rattle.farm_base.specs.Counts.{HasCause};
+ghost use Rattle.farm_base.specs.Counts.{Counts};
 ghost use Rattle.farm_base.specs.Known.{WhereKnown};
 ghost use Rattle.farm_ports.specs.Links.{AddsCalls, Connects, Receives, Sends};
 ghost use Rattle.farm_ports.specs.Objects.{CountsCall, FailsNext};
@@ -103,8 +103,7 @@ impl Wire {
         ensures nothing { self.old.left ≡ [] → IsErr result }
         ensures some { IsOk result → self.old.left ≡ [] → ⊥ }
         ensures only { IsErr result → FailsNext self.old.counted ⊎ (self.old.left ≡ []) }
-        ensures cause { HasCause self.old.counted.faults self.new.counted.faults result }
-        ensures quiet { OnOk result (self.new.counted.faults ≡ self.old.counted.faults) }
+        ensures counts { Counts self.old.counted.faults self.new.counted.faults result }
         ensures counted { CountsCall self.old.counted self.new.counted }
         ensures calls { self.new.calls ≡ self.old.calls }
         ensures room { self.new.room ≡ self.old.room }
@@ -127,8 +126,7 @@ impl Link for Wire {
 
     fn connect(&mut self, host: &[u8], port: u16) -> Result<(), Failed>
         ensures call { Connects (⟦<Wire as Link>⟧.calls self.old) (⟦<Wire as Link>⟧.calls self.new) host.now port result }
-        ensures cause { HasCause (⟦<Wire as Link>⟧.faults self.old) (⟦<Wire as Link>⟧.faults self.new) result }
-        ensures quiet { OnOk result (⟦<Wire as Link>⟧.faults self.new ≡ ⟦<Wire as Link>⟧.faults self.old) }
+        ensures counts { Counts (⟦<Wire as Link>⟧.faults self.old) (⟦<Wire as Link>⟧.faults self.new) result }
 
         // A listed connect fails, and one that finds no memory: with room a listed one alone. What was left to receive is
         // dropped in each case.
@@ -158,8 +156,7 @@ impl Link for Wire {
 
     fn send(&mut self, bytes: &[u8]) -> Result<usize, Failed>
         ensures call { Sends (⟦<Wire as Link>⟧.calls self.old) (⟦<Wire as Link>⟧.calls self.new) bytes.now result }
-        ensures cause { HasCause (⟦<Wire as Link>⟧.faults self.old) (⟦<Wire as Link>⟧.faults self.new) result }
-        ensures quiet { OnOk result (⟦<Wire as Link>⟧.faults self.new ≡ ⟦<Wire as Link>⟧.faults self.old) }
+        ensures counts { Counts (⟦<Wire as Link>⟧.faults self.old) (⟦<Wire as Link>⟧.faults self.new) result }
 
         // A listed send fails, and one that finds no memory: with room a listed one alone. Any other takes the whole piece and
         // turns to the next response.
@@ -195,8 +192,7 @@ impl Link for Wire {
 
     fn recv(&mut self, into: &mut [u8]) -> Result<usize, Failed>
         ensures call { Receives (⟦<Wire as Link>⟧.calls self.old) (⟦<Wire as Link>⟧.calls self.new) into.new result }
-        ensures cause { HasCause (⟦<Wire as Link>⟧.faults self.old) (⟦<Wire as Link>⟧.faults self.new) result }
-        ensures quiet { OnOk result (⟦<Wire as Link>⟧.faults self.new ≡ ⟦<Wire as Link>⟧.faults self.old) }
+        ensures counts { Counts (⟦<Wire as Link>⟧.faults self.old) (⟦<Wire as Link>⟧.faults self.new) result }
 
         // A listed receive fails, one where nothing is left, and one that finds no memory: with room the first two alone. Any
         // other gives as much as there is room for.

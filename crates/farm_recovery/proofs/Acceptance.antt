@@ -40,7 +40,7 @@ tests_as_next : (limit : ℕ) (history : History) (entry : Entry) → IsNext lim
 tests_as_next limit history entry next =
     ap (λ given. is_accepted given && int_le (last_moment history) entry.at) next.accepted ∙ tests_in_order (last_moment history) entry.at next.moment
 
--- bytes are those of an entry that may come next, where what is read of them tests so
+-- bytes are those of an entry that may come next, if what is read of them passes the test
 next_of : (limit : ℕ) (history : History) (bytes : List ℕ) (read : Result Entry ℕ) → IsBytes bytes → whole_entry bytes ≡ read →
     is_next limit (Some history) read ≡ true → IsNextEncoding limit history bytes
 next_of limit history bytes (Err left) fits reads is = absurd cc
@@ -77,7 +77,7 @@ accepted_is_next laws limit history bytes fits is accepted =
 pub site_is_accepted : PartsAreRead → (limit : ℕ) (bytes : List ℕ) → IsSiteEncoding bytes → IsTrue (accepted_next limit [] bytes)
 site_is_accepted laws limit bytes is = ap is_ok (site_only laws bytes is.site is.sound is.encoded)
 
--- bytes are those of a site, where a site is read of them
+-- bytes are those of a site, if a site is read of them
 site_of : PartsAreRead → (bytes : List ℕ) (read : Result Described SiteBytesFault) → IsBytes bytes → whole_site bytes ≡ read → is_ok read ≡ true →
     IsSiteEncoding bytes
 site_of laws bytes (Err fault) fits reads is = absurd cc

@@ -20,7 +20,7 @@ use Rattle.farm_recovery.specs.Recovery.{IsSiteEncoding}
 use Rattle.farm_recovery.proofs.Acceptance.{accepted_is_next, accepted_is_site, site_is_accepted}
 use Rattle.journaled_book.proofs.Growing.{encodings_more, more_recordable}
 
--- what holds of the history of a book that is there holds of the history that is there
+-- what holds of a book's history, if a book was made, holds of the history that was recovered
 pub of_history : (P : History → Type 0) (book : Option Kept) (recovered : Option History) →
     option_map (λ (book : Kept). book.history) book ≡ recovered → IfSome book (λ (book : Kept). P book.history) → IfSome recovered P
 of_history P None recovered view is = subst (λ recovered. IfSome recovered P) view tt
@@ -31,7 +31,7 @@ comes_out_false : (test : Bool) → (test ≡ true → ⊥) → IsFalse test
 comes_out_false true never = absurd (never refl)
 comes_out_false false never = refl
 
--- where nothing was taken, a site's bytes are accepted
+-- if nothing was taken, a site's bytes are accepted
 pub header_accepted : PartsAreRead → (limit : ℕ) (taken : List (List ℕ)) (bytes : List ℕ) (site : Described) → taken ≡ [] → IsSite site →
     bytes ≡ site_encoding site → IsTrue (accepted_next limit taken bytes)
 header_accepted laws limit taken bytes site nothing sound encoded =

@@ -1,4 +1,4 @@
--- Bytes that stand for a history are a journal, and aren't damaged.
+-- Bytes that encode a history are a journal, and aren't damaged.
 use Rattle.std.proofs.Common.{◌≡◌, ◌∙◌, ⊎_elim, inl, inr, ℕ, zero, suc, ◌+◌, Bool, true, false, not, ◌&&◌, List, [], ◌∷◌, ◌++◌, length, get_or, take, drop, Some, All, IsFalse, refl, sym, ap, subst, arith, bytes_eq, length-append}
 use Rattle.std.specs.Cmp.Lexicographic.{pointwise, pointwise_decides}
 use Rattle.std.proofs.lemmas.Bool.{and_parts}
@@ -52,13 +52,13 @@ accepts_others taken others bytes none = λ front back other split.
 all_accepted : (taken : List (List ℕ)) → AreAccepted (λ others other. true) taken
 all_accepted taken = λ front back bytes split. refl
 
--- an entry that stands among typed ones is typed
+-- an entry among typed ones is typed
 typed_at : (entries before after : List Entry) (entry : Entry) → entries ≡ before ++ entry ∷ after → All IsTyped entries → IsTyped entry
 typed_at entries before after entry split typed =
     subst IsTyped (ap (λ entries. get_or entries (length before) entry) split ∙ get_or_at before entry after entry (length before) refl)
     (typed (length before) entry (omega (arith, ap length split, length-append before (entry ∷ after))))
 
--- what stands among the bytes of a history, after those of another one, is the bytes of an entry that may come next after that one
+-- bytes among those of a history, after those of another one, are the bytes of an entry that may come next after that one
 next_among : PartsAreRead → (limit : ℕ) (history other : History) (bytes : List ℕ) (back : List (List ℕ)) → IsRecordable limit history →
     IsRecordable limit other → taken_of (Some history) ≡ taken_of (Some other) ++ bytes ∷ back → IsNextEncoding limit other bytes
 next_among laws limit history other bytes back is other_is split =
@@ -142,7 +142,7 @@ module _ (laws : PartsAreRead) (limit : ℕ) (history : History) (bytes : List �
   not_damaged_at (suc place) damaged =
       not_damaged_with damaged.history damaged.after (drop (length (counting_of damaged.history)) bytes) refl damaged.after.damaged
 
--- bytes that stand for a history are a journal, and aren't damaged
+-- bytes that encode a history are a journal, and aren't damaged
 pub recovered_is_not_refused : PartsAreRead → RecoveredIsNotRefused
 recovered_is_not_refused laws limit place history bytes is = (
   λ none. whole_is_not_refused (λ taken bytes. true) (taken_of (Some history)) [] bytes 0 (is.journal, all_accepted (taken_of (Some history))) (inl none),

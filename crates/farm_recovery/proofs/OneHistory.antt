@@ -1,4 +1,4 @@
--- Bytes stand for one history at most.
+-- Bytes encode one history at most.
 use Rattle.std.proofs.Common.{◌≡◌, ◌∙◌, ℕ, List, [], ◌∷◌, ◌++◌, map, Some, refl, sym, ap}
 use Rattle.farm_history.specs.declared.entry.Entry.{Entry}
 use Rattle.farm_history.specs.Encoding.{entry_encoding}
@@ -23,14 +23,14 @@ same_history laws limit first second is other sites entries =
     ∙ decoded laws limit second other in
     cc
 
--- bytes stand for one history at most
+-- bytes encode one history at most
 pub one_history : PartsAreRead → OneHistory
 one_history laws limit first second bytes is other =
     let same =
     one_meaning (site_encoding first.site) (site_encoding second.site) (entry_encodings first) (entry_encodings second) bytes is.journal other.journal in
     same_history laws limit first second is.recordable other.recordable same.0 same.1
 
--- where bytes stand among the bytes of entries: those of the entries before them, and of an entry
+-- the place of bytes among the bytes of entries: the entries before them, and the entry that is theirs
 pub record IsAmong (entries : List Entry) (front : List (List ℕ)) (bytes : List ℕ) : Type 0 where
   pub before : List Entry
   pub entry : Entry
@@ -39,7 +39,7 @@ pub record IsAmong (entries : List Entry) (front : List (List ℕ)) (bytes : Lis
   pub front_is : map entry_encoding before ≡ front
   pub bytes_are : bytes ≡ entry_encoding entry
 
--- bytes that stand among those of entries are an entry's
+-- bytes among those of entries are an entry's
 pub among : (entries : List Entry) (front back : List (List ℕ)) (bytes : List ℕ) → map entry_encoding entries ≡ front ++ bytes ∷ back →
     IsAmong entries front bytes
 among [] [] back bytes is = absurd cc

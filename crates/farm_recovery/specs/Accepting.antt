@@ -18,7 +18,7 @@ after (Ok entry) (Some entries) = Some (entry ∷ entries)
 after (Ok entry) None = None
 after (Err left) entries = None
 
--- the entries that these bytes are, none where one isn't an entry's
+-- the entries that these bytes encode; None if one isn't an entry's
 abbrev pub entries_of : List (List ℕ) → Option (List Entry)
 entries_of [] = Some []
 entries_of (body ∷ bodies) = after (whole_entry body) (entries_of bodies)
@@ -40,7 +40,7 @@ abbrev pub accepted_next : ℕ → Accepts
 accepted_next limit [] bytes = is_ok (whole_site bytes)
 accepted_next limit (header ∷ bodies) bytes = is_next limit (history_with (whole_site header) (entries_of bodies)) (whole_entry bytes)
 
--- what a history was taken from, the site's bytes first; nothing where there is no history yet
+-- what a history was taken from, the site's bytes first; nothing if there is no history yet
 abbrev pub taken_of : Option History → List (List ℕ)
 taken_of None = []
 taken_of (Some history) = site_encoding history.site ∷ entry_encodings history

@@ -5,11 +5,11 @@ use Rattle.farm_journal.specs.Recovery.{IsNotJournal}
 use Rattle.journaled_book.specs.Histories.{Recovers}
 use Rattle.farm_recovery.specs.Recovery.{IsDamagedAt}
 
--- bytes stand for one history at most
+-- bytes encode one history at most
 abbrev pub OneHistory : Type 0
 OneHistory = (limit : ℕ) (first second : History) (bytes : List ℕ) → Recovers limit first bytes → Recovers limit second bytes → first ≡ second
 
--- bytes that stand for a history are a journal, and aren't damaged
+-- bytes that encode a history are a journal, and aren't damaged
 abbrev pub RecoveredIsNotRefused : Type 0
 RecoveredIsNotRefused = (limit place : ℕ) (history : History) (bytes : List ℕ) → Recovers limit history bytes →
     (IsNotJournal bytes → ⊥) × (IsDamagedAt limit place bytes → ⊥)

@@ -1,4 +1,4 @@
--- Why the bytes of a journal stand for no history.
+-- Why the bytes of a journal encode no history.
 use Rattle.std.specs.Prelude.{◌≡◌, ◌⊎◌, ℕ, ◌+◌, zero, suc, List, [], ◌∷◌, length, take, drop, All}
 use Rattle.farm_book.specs.Entering.{IsNextEncoding}
 use Rattle.farm_history.specs.History.{History, last_place}
@@ -22,7 +22,7 @@ pub record IsSiteDamaged (bytes : List ℕ) : Type 0 where
   pub damaged : (IsWhole (after_signature bytes) → ⊥) ⊎
       (IsWhole (after_signature bytes) × (IsSiteEncoding (counted_in (after_signature bytes)) → ⊥))
 
--- What is expected after a history is damaged: there is no gate; or the gate is open, and the record is cut short or its length is over the
+-- What is expected after a history is damaged: the gate is missing; or it is open, and the record is cut short or its length is over the
 -- limit, or its bytes are those of no entry that may come next.
 abbrev pub IsEntryDamaged : ℕ → History → List ℕ → Type 0
 IsEntryDamaged limit history [] = Unit {0}

@@ -1,6 +1,6 @@
-//! What the bytes of a journal stand for: the book that its header and its bodies make, taken one after another, or why they make none.
+//! The history that the bytes of a journal encode: the book that its header and bodies make, taken one after another, or why they don't.
 //!
-//! The header is a site's bytes, and each body those of an entry that may come next, as `farm_history` defines it. Bytes stand for one
+//! The header is a site's bytes, and each body those of an entry that may come next, as `farm_history` defines it. Bytes encode one
 //! history at most.
 #![tactic(auto)]
 

@@ -2,7 +2,7 @@
 
 ghost use Rattle.std.specs.Prelude.{◌≡◌, ◌+◌, ◌<◌, ◌≤◌, ℕ, List, None, Some, IsSome};
 ghost use Rattle.farm_history.specs.History.{last_place};
-ghost use Rattle.farm_history.specs.declared.limits.TheConstants.{GREATEST_LIMIT, STOPS_BEYOND_LIMIT};
+ghost use Rattle.farm_history.specs.declared.limits.TheConstants.{MOST_LIMIT, STOPS_BEYOND_LIMIT};
 ghost use Rattle.farm_journal.specs.Recovery.{IsJudged, IsRefusal, TakesNext};
 ghost use Rattle.farm_journal.specs.declared.faults.RecoverFault.{RecoverFault};
 ghost use Rattle.farm_recovery.specs.Accepting.{accepted_next, taken_of};
@@ -16,7 +16,7 @@ use site_decoding::{SiteBytesFault, SiteFromBytes, decoding_laws};
 use std::alloc::Global;
 use std::marker::Model;
 
-/// The book that a journal's header and bodies have made so far, none before the header.
+/// The book that a journal's header and bodies have made so far; `None` before the header.
 #[derive(Drop)]
 pub struct Recovering<const LIMIT: usize> {
     alloc: Global,
@@ -26,26 +26,26 @@ pub struct Recovering<const LIMIT: usize> {
 impl<const LIMIT: usize> Model for Recovering<LIMIT> {
     ghost use Rattle.std.specs.Prelude.{◌≤◌, Option, IfSome, option_map};
     ghost use Rattle.farm_history.specs.History.{History};
-    ghost use Rattle.farm_history.specs.declared.limits.TheConstants.{GREATEST_LIMIT};
+    ghost use Rattle.farm_history.specs.declared.limits.TheConstants.{MOST_LIMIT};
     ghost use Rattle.journaled_book.specs.Histories.{IsRecordable};
 
     ghost Value = { Option History };
 
     ghost view = { λ recovering. option_map (λ book. book.history) recovering.book };
 
-    ghost invariant = { λ recovering. (LIMIT ≤ GREATEST_LIMIT) × IfSome recovering.book (λ book. IsRecordable LIMIT book.history) };
+    ghost invariant = { λ recovering. (LIMIT ≤ MOST_LIMIT) × IfSome recovering.book (λ book. IsRecordable LIMIT book.history) };
 }
 
 impl<const LIMIT: usize> Recovering<LIMIT> {
     /// Nothing is recovered yet.
     pub fn new(alloc: Global) -> Self
-        requires limit { LIMIT ≤ GREATEST_LIMIT }
+        requires limit { LIMIT ≤ MOST_LIMIT }
         ensures nothing { result ≡ None }
     {
         Recovering { alloc, book: None }
     }
 
-    /// Does nothing: its contract is what a refusal says of the bytes, where these were taken.
+    /// Does nothing: its contract is what a refusal says of the bytes, given what was taken of them.
     pub fn refusals(&self)
         ensures refused { (bytes : List ℕ) (fault : RecoverFault) →
             IsRefusal (accepted_next LIMIT) (taken_of self.now) bytes fault → IsRefused LIMIT bytes fault }
@@ -54,7 +54,7 @@ impl<const LIMIT: usize> Recovering<LIMIT> {
         let _ = &self.book;
     }
 
-    /// The book, where the header was taken.
+    /// The book, once the header was taken.
     pub fn into_book(self) -> Book<LIMIT>
         requires header { IsSome self }
         ensures history { Some result.history ≡ self.entry }

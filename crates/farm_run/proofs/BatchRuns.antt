@@ -55,7 +55,7 @@ put_before_fault : (steps : List Step) (old new : Option (List ℕ)) (sink : Cou
     PutAnswers old new sink steps
 put_before_fault steps old new sink end put = elim put [ inl whole ↦ inl whole | inr failed ↦ inr (failed.1, failed.2, failed.3, failed.4) ]
 
--- every line was asked by a batch that ended otherwise than at a line too many, where no port failed
+-- every line was asked by a batch that ended otherwise than at a line too many, if no port failed
 all_asked : (in_hand : List ℕ) (to : Option Stream) (steps : List Step) (source sink : Count) (end : BatchEnd) → EndsAs in_hand to steps source sink end →
     ((number : ℕ) → end ≢ Long number) → ¬ (HasRisen source) → ¬ (HasRisen sink) → AskedAll in_hand to steps
 all_asked in_hand to steps source sink Done ends other source_quiet sink_quiet = ends

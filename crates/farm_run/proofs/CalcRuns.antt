@@ -13,7 +13,7 @@ use Rattle.calc_input.proofs.RefusedLines.{refusal_right}
 use Rattle.farm_run.specs.OutputTexts.{calc_of, calc_text, text_of_figures}
 use Rattle.farm_run.specs.Texts.{refusal_text}
 use Rattle.run_reports.specs.Reports.{Output}
-use Rattle.farm_run.specs.Runs.{Answers, CalcRun, OneAnswerRun, given}
+use Rattle.farm_run.specs.Runs.{CalcRun, OneAnswerRun, OutputHas, given}
 use Rattle.run_reports.proofs.Known.{known_map}
 use Rattle.farm_run.proofs.Runs.{run_answering}
 
@@ -22,7 +22,7 @@ refused_figures : (answer : Result Quantities Refused) (why : Refused) → text_
 refused_figures (Ok figures) why is = cc
 refused_figures (Err other) why is = cc
 
--- where the text that is expected is a refusal, so is the answer
+-- if the text that is expected is a refusal, so is the answer
 refused_answer : (bytes : List ℕ) (why : Refused) → calc_of bytes ≡ Some (Err why) → answer_of bytes ≡ Err why
 unfolding calc_text
 refused_answer bytes why is = let text_is : text_of_figures (answer_of bytes) ≡ Err why = cc in refused_figures (answer_of bytes) why text_is
@@ -52,7 +52,7 @@ read_enough (Some old) (Some new) bytes reads = elim (long_or_short (length byte
 
 -- the run of `calc` that read these bytes and answered them
 pub calc_answered : (old new : Option Stream) (bytes : List ℕ) (source : Count) (output : Output) (status : ℕ) → IsQuiet source →
-    ReadsUpTo old new (MOST_INPUT_BYTES + 1) bytes → Answers 4 refusal_text (calc_of bytes) output status → CalcRun (given old new) source output status
+    ReadsUpTo old new (MOST_INPUT_BYTES + 1) bytes → OutputHas 4 refusal_text (calc_of bytes) output status → CalcRun (given old new) source output status
 calc_answered old new bytes source output status quiet reads answers =
     calc_run (given old new) source output status (
     run_answering 4 refusal_text calc_of (given old new) (calc_of bytes) source output status quiet (read_enough old new bytes reads) answers

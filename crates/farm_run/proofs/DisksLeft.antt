@@ -13,7 +13,7 @@ use Rattle.run_reports.proofs.DisksLeft.{leaves_history, surer_after}
 use Rattle.run_reports.specs.declared.limits.TheConstants.{BOOK_LIMIT}
 use Rattle.farm_run.specs.BatchRuns.{LeavesOnDisk}
 
--- replies rest on no more entries where there may be more
+-- replies rest on no more entries if there may be more
 still_acknowledged : (most more : ℕ) (steps : List Step) → most ≤ more → AreAcknowledged most steps → AreAcknowledged more steps
 still_acknowledged most more steps fewer each =
     All-weaker (λ (step : Step). IsReply step.page → last_place step.history ≤ most) (λ (step : Step). IsReply step.page → last_place step.history ≤ more)

@@ -16,16 +16,16 @@ use Rattle.farm_run.specs.Texts.{not_empty_line}
 use Rattle.run_reports.proofs.Printing.{says_last, without_text}
 use Rattle.run_reports.proofs.Known.{known_map}
 
--- a list that is longer than none isn't empty
+-- a list that is longer than the empty one isn't empty
 some_bytes : (bytes : List ℕ) → 0 < length bytes → bytes ≢ []
 some_bytes [] some = absurd (omega (arith, some))
 some_bytes (byte ∷ bytes) some = λ none. cc
 
--- nor is one of another length than none
+-- nor is one of another length than 0
 other_length : (bytes : List ℕ) (size : ℕ) → size ≡ length bytes → size ≢ 0 → bytes ≢ []
 other_length bytes size is some = some_bytes bytes (omega (arith, is, some))
 
--- a list that is as long as none is empty
+-- a list of length 0 is empty
 no_bytes : (bytes : List ℕ) (size : ℕ) → size ≡ length bytes → size ≡ 0 → bytes ≡ []
 no_bytes [] size is none = refl
 no_bytes (byte ∷ bytes) size is none = absurd (omega (arith, is, none))
@@ -111,11 +111,11 @@ module _ (old new : Option (List State)) (disk : Count) (output : Output) (statu
     disk_kept = stays;
   }
 
--- a disk that holds a number of bytes other than none has some
+-- a disk that holds a number of bytes other than 0 has some
 pub has_some : (trace : Option (List State)) (size : ℕ) → WhereKnown trace (λ states. size ≡ length (present states).seen) → size ≢ 0 →
     WhereKnown trace (λ states. (present states).seen ≢ [])
 has_some trace size is some = known_map trace _ _ (λ states same. other_length (present states).seen size same some) is
 
--- one that holds none gives none
+-- one that holds no bytes gives none
 pub has_none : (trace : Option (List State)) (size : ℕ) → WhereKnown trace (λ states. size ≡ length (present states).seen) → size ≡ 0 → GivesNone trace
 has_none trace size is none = known_map trace _ _ (λ states same. no_bytes (present states).seen size same none) is

@@ -4,7 +4,7 @@ use Rattle.farm_base.specs.Counts.{Count, HasRisen, IsQuiet}
 use Rattle.farm_base.specs.Known.{WhereKnown}
 use Rattle.run_reports.specs.Texts.{no_memory_line, port_fault_line}
 use Rattle.run_reports.specs.Reports.{Delivers, LacksMemory, Output, Puts, Refuses}
-use Rattle.farm_run.specs.Runs.{Answers, OneAnswerRun, text_of, unused}
+use Rattle.farm_run.specs.Runs.{OneAnswerRun, OutputHas, text_of, unused}
 use Rattle.run_reports.proofs.Known.{known_map, where_known}
 use Rattle.run_reports.proofs.Printing.{puts_ends, says_ends, says_last}
 use Rattle.run_reports.proofs.Refusals.{IsRefusalStatus}
@@ -15,7 +15,7 @@ unused_quiet rose = omega (arith, rose)
 
 -- an answer that isn't put, since there was no memory
 pub answers_lacking : {Why : Type 0} (refusal : ℕ) (says : Why → List ℕ) (has : Option (Result (List ℕ) Why)) (output : Output) (status : ℕ) →
-    IsRefusalStatus refusal → LacksMemory output status → Answers refusal says has output status
+    IsRefusalStatus refusal → LacksMemory output status → OutputHas refusal says has output status
 answers_lacking refusal says has output status small lacks = record {
   statuses = elim lacks.statuses [ inl fault ↦ inr (inr (inl fault)) | inr memory ↦ inr (inr (inr memory)) ];
   done = λ zero. elim lacks.statuses [ inl fault ↦ absurd (omega arith) | inr memory ↦ absurd (omega arith) ];
@@ -37,7 +37,7 @@ not_both has text why answer refusal = cc
 
 -- a refusal
 pub answers_refusing : {Why : Type 0} (refusal : ℕ) (says : Why → List ℕ) (has : Option (Result (List ℕ) Why)) (output : Output) (status : ℕ) (why : Why) →
-    IsRefusalStatus refusal → has ≡ Some (Err why) → Refuses output refusal (says why) status → Answers refusal says has output status
+    IsRefusalStatus refusal → has ≡ Some (Err why) → Refuses output refusal (says why) status → OutputHas refusal says has output status
 answers_refusing refusal says has output status why small reason refuses =
     elim refuses.statuses [
       | inl same ↦ record {
@@ -59,7 +59,7 @@ answers_refusing refusal says has output status why small reason refuses =
 
 -- an answer
 pub answers_delivering : {Why : Type 0} (refusal : ℕ) (says : Why → List ℕ) (has : Option (Result (List ℕ) Why)) (output : Output) (status : ℕ) (text : List ℕ) →
-    IsRefusalStatus refusal → has ≡ Some (Ok text) → Delivers output text status → Answers refusal says has output status
+    IsRefusalStatus refusal → has ≡ Some (Ok text) → Delivers output text status → OutputHas refusal says has output status
 answers_delivering refusal says has output status text small answer delivers = record {
   statuses = elim delivers.statuses [ inl zero ↦ inl zero | inr six ↦ inr (inr (inl six)) ];
   done = λ zero. (text, answer, delivers.done zero);
@@ -75,10 +75,10 @@ answers_delivering refusal says has output status text small answer delivers = r
   complete = λ other is still quiet. elim delivers.statuses [ inl zero ↦ inl zero | inr six ↦ absurd (quiet (delivers.faulted six)) ];
 }
 
--- the run over a port that didn't fail, where what is known of the input is what it has
+-- the run over a port that didn't fail, if what is known of the input is what it has
 pub run_answering : {I Why : Type 0} (refusal : ℕ) (says : Why → List ℕ) (has : I → Option (Result (List ℕ) Why)) (input : Option I)
     (known : Option (Result (List ℕ) Why)) (port : Count) (output : Output) (status : ℕ) →
-    IsQuiet port → WhereKnown input (λ k. has k ≡ known) → Answers refusal says known output status → OneAnswerRun refusal says has input port output status
+    IsQuiet port → WhereKnown input (λ k. has k ≡ known) → OutputHas refusal says known output status → OneAnswerRun refusal says has input port output status
 run_answering refusal says has input known port output status port_quiet same answers = record {
   statuses = answers.statuses;
   done = λ zero. let done = answers.done zero in known_map input _ _ (λ k is. (done.0, is ∙ done.1, done.2)) same;

@@ -59,7 +59,7 @@ NotCreated NoMemory output status = LacksMemory output status
 -- A journal of a site is made on an empty disk, or it is reported why not.
 pub record SiteInit (site : Described) (old new : Option (List State)) (disk : Count) (output : Output) (status : ℕ) : Type 0 where
   pub statuses : (status ≡ 0) ⊎ (status ≡ 3) ⊎ (status ≡ 5) ⊎ (status ≡ 6) ⊎ (status ≡ 7)
-  -- the disk was empty, nothing was printed, and whatever a crash leaves stands for the history of the site without an entry
+  -- the disk was empty, nothing was printed, and whatever a crash leaves encodes the history of the site without an entry
   pub made : status ≡ 0 → WasEmpty old new × EachNow new (Recovers book_limit (empty_history site)) × Adds output.old output.new []
   pub not_empty : status ≡ 3 → HasBytes old new × Says output [] [] not_empty_line
   pub disk_failed : status ≡ 5 → HasRisen disk × Says output [] [] disk_fault_line
@@ -67,7 +67,7 @@ pub record SiteInit (site : Described) (old new : Option (List State)) (disk : C
   pub faulted : status ≡ 6 → HasRisen output.count × Says output [] (no_memory_line ∷ []) port_fault_line
   pub memory_only : status ≡ 7 → IsQuiet output.count × Says output [] [] no_memory_line
   pub disk_quiet : status ≢ 5 → IsQuiet disk
-  -- whatever a crash leaves at a moment of the run is no journal, or stands for the history of the site without an entry
+  -- whatever a crash leaves at a moment of the run is no journal, or encodes the history of the site without an entry
   pub crash_safe : IsCrashSafe book_limit site old new
 
 -- a site was read, and its journal was made or not

@@ -24,7 +24,7 @@ pub record PutsReport (found : History) (day : ℤ) (output : Output) (status : 
   -- the report in the words of the rule
   pub meaning : IsDayReport found day (day_report_text found day)
 
--- The bytes of the disk stand for a history, on which nothing was written, and its report was put.
+-- The bytes of the disk encode a history, on which nothing was written, and its report was put.
 pub record ReportsHistory {D : Type 0} (trace : D → Option (List State)) (faults : D → ℕ) (day : ℤ) (old new : D) (output : Output) (status : ℕ) : Type 0 where
   pub found : History
   pub recovers : WhereKnown (trace new) (λ states. Recovers book_limit found (present states).seen)

@@ -4,7 +4,7 @@ use Rattle.farm_base.specs.Counts.{Count, HasRisen, IsQuiet}
 use Rattle.farm_base.specs.Known.{WhereKnown, Stream, Adds}
 use Rattle.farm_ports.specs.Folders.{File}
 use Rattle.calendar_days.specs.Calendar.{IsFirstSecond}
-use Rattle.command_line.specs.Limits.{greatest_port, most_drilled, most_rounds}
+use Rattle.command_line.specs.Limits.{most_port, most_drilled, most_rounds}
 use Rattle.command_line.specs.declared.commands.Subcommand.{Subcommand}
 use Rattle.command_line.specs.declared.commands.Subcommand.TheVariants.{Batch, Calc, Drill, Init, Report, Serve, Table}
 use Rattle.command_line.specs.declared.serve.ServeOptions.{ServeOptions}
@@ -30,7 +30,7 @@ needs_values (Some (Drill options)) = true
 
 -- the last post of `serve` has a port, and its rounds are within their limit
 pub record AreServed (options : ServeOptions) : Type 0 where
-  pub ports : options.port + options.workers ≤ greatest_port + 1
+  pub ports : options.port + options.workers ≤ most_port + 1
   pub rounds : options.rounds ≤ most_rounds
 
 -- the values of a command are such as its options may have
@@ -147,5 +147,5 @@ abbrev pub unused : Count
 unused = record { before = 0; now = 0 }
 
 -- what a command does with what its input has
-abbrev pub Answers : {Why : Type 0} → ℕ → (Why → List ℕ) → Option (Result (List ℕ) Why) → Output → ℕ → Type 0
-Answers refusal says has output status = OneAnswerRun refusal says (λ known. known) (Some has) unused output status
+abbrev pub OutputHas : {Why : Type 0} → ℕ → (Why → List ℕ) → Option (Result (List ℕ) Why) → Output → ℕ → Type 0
+OutputHas refusal says has output status = OneAnswerRun refusal says (λ known. known) (Some has) unused output status

@@ -16,7 +16,7 @@ ghost use Rattle.farm_run.specs.InitRuns.{InitRun};
 ghost use Rattle.farm_run.specs.ReportRuns.{ReportRun};
 ghost use Rattle.farm_run.specs.Texts.{refusal_text};
 ghost use Rattle.run_reports.specs.Reports.{Delivers, LacksMemory, output_of};
-ghost use Rattle.farm_run.specs.Runs.{Answers, AreValues, CalcRun, StopsAtMissing, TableRun, UsageRun, given, uses_disk, uses_folder, uses_input};
+ghost use Rattle.farm_run.specs.Runs.{AreValues, CalcRun, OutputHas, StopsAtMissing, TableRun, UsageRun, given, uses_disk, uses_folder, uses_input};
 
 use crate::batch_run::batch;
 use crate::drill_run::drill;
@@ -113,7 +113,7 @@ pub fn run_alone<S: Source, K: Sink, F: Folder, D: Disk, C: Clock>(
     }
 }
 
-/// Runs a command that isn't `serve`, or what arguments that are none do, as `run_alone` says.
+/// Runs a command that isn't `serve`, or answers arguments that are no command, as `run_alone` says.
 pub(crate) fn run_command<S: Source, K: Sink, F: Folder, D: Disk, C: Clock>(
     alloc: Global,
     command: Option<Subcommand>,
@@ -199,7 +199,7 @@ fn calc<S: Source, K: Sink>(alloc: Global, input: &mut S, output: &mut K) -> u8
 
 // What `calc` does with the bytes that it read. The text is made whole before the first byte is put.
 fn answer_input<K: Sink>(alloc: Global, bytes: &[u8], output: &mut K) -> u8
-    ensures answers { Answers 4 refusal_text (calc_of bytes.now) (output_of K.held K.faults output.old output.new) result }
+    ensures answers { OutputHas 4 refusal_text (calc_of bytes.now) (output_of K.held K.faults output.old output.new) result }
     ensures never_falls { K.faults output.old ≤ K.faults output.new }
 {
     match calc_text(alloc, bytes) {

@@ -16,6 +16,7 @@ mod texts;
 mod words;
 
 pub use alone::run_alone;
+pub use farm_site::MOST_LINES;
 pub use program::run;
 pub use run_reports::{BOOK_LIMIT, Done, defined_numbers, report_no_memory};
 pub use serve_run::{RunLine, RunPost};

@@ -34,7 +34,7 @@ use std::thread::Threads;
 ///   summary is printed. Its statuses are 0 if a Stop or the end ended each desk post, nothing is in doubt and the summary was printed whole; 3
 ///   if the disk has no whole journal; 5 if the disk failed before the desk was recovered, or an entry is in doubt at the end; 6 if a
 ///   listener or the output failed and 7 without memory. It may wait, and need not return.
-/// - Every other command, and arguments that are none, are run as by `run_alone`.
+/// - Every other command, and arguments that are no command, are run as by `run_alone`.
 ///
 /// The least status that holds is answered, but for the two cases in which there is no memory for a last text: `serve`'s summary, then 7, and
 /// `batch`'s line of a line too many, then 7 or 6. A command makes no call on a port, a listener, a link or a disk that it doesn't use. A text

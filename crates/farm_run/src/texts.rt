@@ -17,7 +17,7 @@ pub const NOT_EMPTY_LINE: &[u8] = b"journal not empty\n";
 
 /// The line of a site that its folder doesn't describe.
 #[tactic(auto, unfolding(crate::specs::Texts::site_refused_text))]
-pub fn site_refused_text(alloc: Global, fault: SiteFault) -> Result<Vec<u8>, NoMemory>
+pub(crate) fn site_refused_text(alloc: Global, fault: SiteFault) -> Result<Vec<u8>, NoMemory>
     ensures line { IfOk result (λ text. text.items ≡ site_refused_text fault) }
 {
     let mut text = Vec::new(alloc);
@@ -38,7 +38,7 @@ pub fn site_refused_text(alloc: Global, fault: SiteFault) -> Result<Vec<u8>, NoM
 
 /// The line of an input that is refused.
 #[tactic(auto, unfolding(crate::specs::Texts::refusal_text))]
-pub fn refusal_text(alloc: Global, why: Refused) -> Result<Vec<u8>, NoMemory>
+pub(crate) fn refusal_text(alloc: Global, why: Refused) -> Result<Vec<u8>, NoMemory>
     ensures line { IfOk result (λ text. text.items ≡ refusal_text why) }
 {
     refused_at(alloc, why.line, cause_word(why.cause))
@@ -46,7 +46,7 @@ pub fn refusal_text(alloc: Global, why: Refused) -> Result<Vec<u8>, NoMemory>
 
 /// The line of a batch that is refused at a line too many.
 #[tactic(auto, unfolding(crate::specs::Texts::too_long_text))]
-pub fn too_long_text(alloc: Global, number: u64) -> Result<Vec<u8>, NoMemory>
+pub(crate) fn too_long_text(alloc: Global, number: u64) -> Result<Vec<u8>, NoMemory>
     ensures line { IfOk result (λ text. text.items ≡ too_long_text number) }
 {
     refused_at(alloc, number, b"long")

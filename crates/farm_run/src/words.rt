@@ -8,7 +8,7 @@ use command_line::{CommandName, Subcommand};
 use farm_base::NoMemory;
 use std::alloc::Global;
 
-/// The command of the arguments, `None` if they are none. `NoMemory` comes only for a command whose values are read.
+/// The command of the arguments; `None` if they are no command. `NoMemory` comes only for a command whose values are read.
 pub(crate) fn command_in(alloc: Global, words: &[String]) -> Result<Option<Subcommand>, NoMemory>
     ensures command { IfOk result (λ command. command ≡ command_of (map string_bytes words.now)) }
     ensures serve { IfOk result (λ command. IfSome command (λ command. is_serve command ≡ asks_to_serve (map string_bytes words.now))) }

@@ -134,7 +134,7 @@ module _ {X W D : Type 0} (turn : TurnView (DeskState (BoxedDisk D))) (first lef
       subst (λ (front : List (Post X W (DeskCaller D))). GetCallers turn first.known.next front posts) (take_all (length posts) initial (omega (arith, all)))
       (subst (GetCallers turn first.known.next (take (length posts) initial)) (take_all (length posts) posts (omega arith)) is.got)
 
--- the pass that is left, once it has a number of its own, is a new one
+-- the remaining pass, once it has a number of its own, is a new one
 pub left_is_new : {D : Type 0} (turn : TurnView (DeskState D)) (left pass : PassView Entry (FoundState D)) (next caller : ℕ) → IsLeft turn left next →
     pass.turn ≡ left.turn → pass.known ≡ enrolled left.known → caller ≡ left.known.next → IsNewPass turn pass caller
 left_is_new {D} turn left pass next caller is same known number = record {

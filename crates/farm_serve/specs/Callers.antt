@@ -38,7 +38,7 @@ unfoldable pub AreReady : {X W D : Type 0} → (ℕ → Option W → Type 0) →
 AreReady works turn first index [] = Unit {0}
 AreReady works turn first index (post ∷ posts) = IsReady (works index) turn (first + index) post × AreReady works turn first (index + 1) posts
 
--- The pass that is left of a turn whose desk was just made: it has no number of its own, has taken no turn, and the least number that it has
+-- The remaining pass of a turn whose desk was just made: it has no number of its own, has taken no turn, and the least number that it has
 -- left is this one.
 pub record IsLeft {D : Type 0} (turn : TurnView (DeskState D)) (pass : PassView Entry (FoundState D)) (next : ℕ) : Type 0 where
   pub of_this_turn : pass.turn ≡ turn.turn
@@ -79,13 +79,13 @@ without_callers posts = map (λ post. record { outside = post.outside; work = po
 abbrev pub outsides_of : {X W C : Type 0} → List (Post X W C) → List X
 outsides_of posts = map (λ post. post.outside) posts
 
--- A turn was just opened: the pass that is left has all its numbers, and the desk was just made.
+-- A turn was just opened: the remaining pass has all its numbers, and the desk was just made.
 pub record IsOpened {D : Type 0} (turn : TurnView (DeskState D)) (left : PassView Entry (FoundState D)) : Type 0 where
   pub is_left : IsLeft turn left 0
   pub all_numbers : numbers_of left.known ≡ number_limit
   pub unused : IsUnused turn.opening
 
--- Two kinds of posts have run, and their turn may be closed: all its passes are theirs and the one that is left.
+-- Two kinds of posts have run, and their turn may be closed: all its passes are theirs and the remaining one.
 pub record HaveEnded {X V Y W D : Type 0} (turn : TurnView (DeskState (BoxedDisk D))) (left : PassView Entry (FoundState (BoxedDisk D)))
     (first : List (Post X V (DeskCaller D))) (second : List (Post Y W (DeskCaller D))) : Type 0 where
   pub is_left : IsLeft turn left left.known.next

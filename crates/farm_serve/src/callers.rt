@@ -10,7 +10,7 @@ use farm_desk::Desk;
 use farm_disk::Disk;
 use farm_turn::Turn;
 
-// A new caller, with a pass that is split off the one that is left.
+// A new caller, with a pass that is split off the remaining one.
 fn next_caller<D: Disk, const LIMIT: usize>(
     turn: &Turn<Desk<BoxedDisk<D>, LIMIT>>,
     left: &mut DeskPass<D, LIMIT>,
@@ -29,7 +29,7 @@ fn next_caller<D: Disk, const LIMIT: usize>(
     Caller { pass, number }
 }
 
-/// Gives each post a caller of its own, numbered in the order of the posts from the least number that is left.
+/// Gives each post a caller of its own, numbered in the order of the posts from the least remaining number.
 pub(crate) fn give_callers<X: Drop, W: Drop, D: Disk, const LIMIT: usize>(
     turn: &Turn<Desk<BoxedDisk<D>, LIMIT>>,
     left: &mut DeskPass<D, LIMIT>,

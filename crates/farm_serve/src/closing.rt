@@ -29,7 +29,7 @@ pub(crate) fn close_posts<X: Drop, V: Drop, Y: Drop, W: Drop, D: Disk + Drop, co
     ensures desks_kept { desks.new ≡ without_callers desks.old }
     ensures lines_kept { lines.new ≡ without_callers lines.old }
 {
-    // A turn is closed with all its passes: the one that is left is that of a caller that asks nothing.
+    // A turn is closed with all its passes: the remaining one is that of a caller that asks nothing.
     turn.enrol(&mut left);
     passes.push_reserved(left);
     take_passes(desks, &mut passes);

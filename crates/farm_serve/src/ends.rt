@@ -15,7 +15,7 @@ fn has_failed<X, W, C>(post: &Post<X, W, C>) -> bool
 
 /// Whether one of these posts ended since a call on its listener failed.
 pub fn any_failed<X, W, C>(posts: &[Post<X, W, C>]) -> bool
-    ensures { result ≡ any_failed posts.now }
+    ensures failed { result ≡ any_failed posts.now }
 {
     posts.iter().any(has_failed)
 }

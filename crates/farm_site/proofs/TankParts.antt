@@ -5,7 +5,7 @@ use Rattle.std.proofs.lemmas.Bool.{and_parts}
 use Rattle.farm_fixed.specs.declared.limits.TheConstants.{MOST_COEFFICIENT, MOST_HEIGHT}
 use Rattle.farm_fixed.specs.Range.{IsWithin, is_within, is_between}
 use Rattle.farm_fixed.proofs.ParsingLaws.{is_within-true}
-use Rattle.farm_site.specs.declared.limits.TheConstants.{GREATEST_NUMBER}
+use Rattle.farm_site.specs.declared.limits.TheConstants.{MOST_NUMBER}
 use Rattle.farm_site.specs.Numbers.{is_among}
 use Rattle.farm_site.specs.declared.items.Tank.{Tank}
 use Rattle.farm_site.specs.Tanks.{is_roof, is_spec, is_opening, is_tank}
@@ -13,7 +13,7 @@ use Rattle.farm_site.specs.Tanks.{is_roof, is_spec, is_opening, is_tank}
 -- a tank's product is among those of the site
 pub product_there : (products : List ℕ) (tank : Tank) → is_tank products tank ≡ true → IsTrue (is_among tank.product products)
 product_there products tank is =
-    let number = is_between 1 GREATEST_NUMBER tank.number in
+    let number = is_between 1 MOST_NUMBER tank.number in
     let product = is_among tank.product products in
     let three = and_parts (number && product && is_spec tank.spec) (is_opening tank.opening) is in
     let two = and_parts (number && product) (is_spec tank.spec) three.0 in
@@ -22,7 +22,7 @@ product_there products tank is =
 -- what is fixed of a tank is in its ranges
 pub spec_is : (products : List ℕ) (tank : Tank) → is_tank products tank ≡ true → is_spec tank.spec ≡ true
 spec_is products tank is =
-    let front = is_between 1 GREATEST_NUMBER tank.number && is_among tank.product products in
+    let front = is_between 1 MOST_NUMBER tank.number && is_among tank.product products in
     let three = and_parts (front && is_spec tank.spec) (is_opening tank.opening) is in
     (and_parts front (is_spec tank.spec) three.0).1
 

@@ -2,12 +2,12 @@
 use Rattle.std.specs.Prelude.{ℕ, ℤ, pos}
 
 -- an item's number is from 1 up to this
-abbrev pub greatest_number : ℕ
-greatest_number = 65535
+abbrev pub most_number : ℕ
+most_number = 65535
 
 -- a name has at most this many bytes
-abbrev pub longest_name : ℕ
-longest_name = 32
+abbrev pub most_name_bytes : ℕ
+most_name_bytes = 32
 
 -- a site has at most this many products
 abbrev pub most_products : ℕ

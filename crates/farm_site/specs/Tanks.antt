@@ -7,7 +7,7 @@ use Rattle.farm_fixed.specs.declared.records.Amount.{Amount}
 use Rattle.strap_table.specs.declared.tank.Roof.{Roof}
 use Rattle.strap_table.specs.declared.tank.TankSpec.{TankSpec}
 use Rattle.farm_site.specs.declared.items.Tank.{Tank}
-use Rattle.farm_site.specs.Limits.{greatest_number, most_stock}
+use Rattle.farm_site.specs.Limits.{most_number, most_stock}
 use Rattle.farm_site.specs.Numbers.{is_among}
 
 -- the number of a tank
@@ -35,4 +35,4 @@ is_opening amount = is_stock amount.litres && is_stock amount.kg
 -- capacity table by its own type
 abbrev pub is_tank : List ℕ → Tank → Bool
 is_tank products tank =
-    is_between 1 greatest_number tank.number && is_among tank.product products && is_spec tank.spec && is_opening tank.opening
+    is_between 1 most_number tank.number && is_among tank.product products && is_spec tank.spec && is_opening tank.opening

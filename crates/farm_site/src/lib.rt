@@ -19,7 +19,7 @@ mod texts;
 pub use hosts::is_host;
 pub use items::{Party, Product, Tank};
 pub use limits::{
-    GREATEST_NUMBER, LONGEST_NAME, MOST_LINES, MOST_PARTIES, MOST_PRODUCTS, MOST_STOCK, MOST_TANKS,
+    MOST_LINES, MOST_NAME_BYTES, MOST_NUMBER, MOST_PARTIES, MOST_PRODUCTS, MOST_STOCK, MOST_TANKS,
 };
 pub use lists::{Lines, Parties, Products, Tanks};
 pub use names::{Name, is_name};

@@ -1,10 +1,10 @@
 //! Limits of a site.
 
 /// An item's number is from 1 up to this.
-pub const GREATEST_NUMBER: u32 = 65_535;
+pub const MOST_NUMBER: u32 = 65_535;
 
 /// A name has at most this many bytes.
-pub const LONGEST_NAME: usize = 32;
+pub const MOST_NAME_BYTES: usize = 32;
 
 /// A site has at most this many products.
 pub const MOST_PRODUCTS: usize = 16;

@@ -3,7 +3,7 @@
 ghost use Rattle.std.specs.Prelude.{◌≡◌};
 ghost use Rattle.farm_site.specs.Names.{is_name};
 
-use crate::{LONGEST_NAME, is_text};
+use crate::{MOST_NAME_BYTES, is_text};
 use farm_base::Items;
 
 /// A name of the site, of a product or of a party: its bytes. In a clause it is the list of them.
@@ -13,5 +13,5 @@ pub type Name = Items<u8>;
 pub fn is_name(text: &[u8]) -> bool
     ensures is_name { result ≡ is_name text.now }
 {
-    is_text(text, LONGEST_NAME, b' ', b'~')
+    is_text(text, MOST_NAME_BYTES, b' ', b'~')
 }

@@ -8,7 +8,7 @@ ghost use Rattle.farm_site.specs.Parties.{is_party};
 ghost use Rattle.farm_site.specs.Products.{is_product, product_number};
 ghost use Rattle.farm_site.specs.Tanks.{is_roof, is_spec, is_opening, is_tank, tank_number};
 ghost use Rattle.farm_site.specs.Numbers.{rises, rises_from};
-ghost use Rattle.farm_site.specs.declared.limits.TheConstants.{GREATEST_NUMBER};
+ghost use Rattle.farm_site.specs.declared.limits.TheConstants.{MOST_NUMBER};
 ghost use Rattle.farm_site.specs.Lines.{are_lines};
 
 mod gauged;
@@ -88,7 +88,7 @@ fn rises_from<T: Numbered>(before: u16, items: &[T]) -> bool
 
 // Whether an item may have this number.
 fn is_number(number: u16) -> bool
-    ensures { result ≡ is_between 1 GREATEST_NUMBER number }
+    ensures { result ≡ is_between 1 MOST_NUMBER number }
 {
     number >= 1
 }

@@ -20,7 +20,7 @@ pub struct TankBook {
 }
 
 /// The books of these tanks, each with its opening.
-pub fn opened(alloc: Global, openings: &[(u16, Amount)]) -> Result<Vec<TankBook>, AllocError>
+pub(crate) fn opened(alloc: Global, openings: &[(u16, Amount)]) -> Result<Vec<TankBook>, AllocError>
     ensures opened { IfOk result (λ books. books.items ≡ opened openings.now) }
 {
     openings
@@ -33,7 +33,7 @@ pub fn opened(alloc: Global, openings: &[(u16, Amount)]) -> Result<Vec<TankBook>
 }
 
 /// Adds an amount to the book of a tank, which is there.
-pub fn add(books: &mut [TankBook], tank: u16, amount: Amount)
+pub(crate) fn add(books: &mut [TankBook], tank: u16, amount: Amount)
     requires tank { IsSome (book_of tank books.old) }
     requires sums { AreWithinSums (added tank amount books.old) }
     ensures added { books.new ≡ added tank amount books.old }
@@ -45,7 +45,7 @@ pub fn add(books: &mut [TankBook], tank: u16, amount: Amount)
 }
 
 /// The index of a tank's book among these, None where the tank isn't there.
-pub fn index_of(books: &[TankBook], tank: u16) -> Option<usize>
+pub(crate) fn index_of(books: &[TankBook], tank: u16) -> Option<usize>
     ensures index { MatchOption result (book_of tank books.now ≡ None) (IsIndexOf tank books.now) }
 {
     for (index, book) in books.iter().enumerate() {

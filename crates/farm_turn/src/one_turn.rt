@@ -185,7 +185,7 @@ fn run_job<V: Chronicle, J: Job<V>>(
 }
 
 /// Takes the turn, runs the job once, and gives the turn back.
-pub fn turn_at<V: Chronicle, J: Job<V>, R: Wait>(
+pub(crate) fn turn_at<V: Chronicle, J: Job<V>, R: Wait>(
     rt: &R,
     shared: &SharedOf<V>,
     sleepers: &AtomicU64,

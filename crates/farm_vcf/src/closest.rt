@@ -9,7 +9,7 @@ use farm_fixed::{Quantity, Unit};
 use farm_rounding::Mode;
 
 /// Whether each quantity is greater than the one before.
-pub fn rises<U: Unit + Copy>(listed: &[Quantity<U>]) -> bool
+pub(crate) fn rises<U: Unit + Copy>(listed: &[Quantity<U>]) -> bool
     ensures { IsTrue result ↔ Rises listed.now }
 {
     for index in 1..listed.len() {
@@ -21,7 +21,7 @@ pub fn rises<U: Unit + Copy>(listed: &[Quantity<U>]) -> bool
 }
 
 /// Whether a quantity is neither below the first listed one nor above the last.
-pub fn is_covered<U: Unit + Copy>(value: Quantity<U>, listed: &[Quantity<U>]) -> bool
+pub(crate) fn is_covered<U: Unit + Copy>(value: Quantity<U>, listed: &[Quantity<U>]) -> bool
     requires { 0 < length listed.now }
     ensures { result ≡ is_covered value listed.now }
 {
@@ -29,7 +29,11 @@ pub fn is_covered<U: Unit + Copy>(value: Quantity<U>, listed: &[Quantity<U>]) ->
 }
 
 /// The index of the listed quantity that is taken for this one.
-pub fn closest<U: Unit + Copy>(mode: Mode, value: Quantity<U>, listed: &[Quantity<U>]) -> usize
+pub(crate) fn closest<U: Unit + Copy>(
+    mode: Mode,
+    value: Quantity<U>,
+    listed: &[Quantity<U>],
+) -> usize
     requires some { 0 < length listed.now }
     requires rises { Rises listed.now }
     requires covered { IsCovered value listed.now }

@@ -15,7 +15,7 @@ use farm_fixed::{Centi, Dens, Fac5};
 use std::alloc::Global;
 
 /// The grid of a text.
-pub fn vcf_of(alloc: Global, text: &[u8]) -> Result<Vcf, VcfFault>
+pub(crate) fn vcf_of(alloc: Global, text: &[u8]) -> Result<Vcf, VcfFault>
     ensures { MatchResult result (λ grid. vcf_of text.now ≡ Ok grid) (λ fault. IsRefusedAs (reported fault) (vcf_of text.now)) }
 {
     match rows_below_header::<FactorRows>(alloc, text) {

@@ -2,16 +2,16 @@
 use Rattle.std.specs.Prelude.{ℕ}
 
 -- the most bytes of a host
-abbrev pub longest_host : ℕ
-longest_host = 64
+abbrev pub most_host_bytes : ℕ
+most_host_bytes = 64
 
 -- the greatest port
-abbrev pub greatest_port : ℕ
-greatest_port = 65535
+abbrev pub most_port : ℕ
+most_port = 65535
 
 -- the greatest unit identifier
-abbrev pub greatest_unit : ℕ
-greatest_unit = 255
+abbrev pub most_unit : ℕ
+most_unit = 255
 
 -- the most gauges of a line
 abbrev pub most_gauges : ℕ
@@ -30,8 +30,8 @@ abbrev pub most_multiplier : ℕ
 most_multiplier = 1000000
 
 -- the highest bit of a register, the lowest being 0
-abbrev pub highest_bit : ℕ
-highest_bit = 15
+abbrev pub most_bit : ℕ
+most_bit = 15
 
 -- the greatest deadband, in mm or 0.01 C
 abbrev pub most_deadband : ℕ

@@ -4,7 +4,7 @@ use Rattle.std.specs.List.{list_all}
 use Rattle.farm_fixed.specs.Range.{is_within, is_between}
 use Rattle.farm_fixed.specs.Limits.{least_temperature, most_temperature}
 use Rattle.modbus_frame.specs.Limits.{least_quantity, most_quantity, read_holding_registers, read_input_registers}
-use Rattle.gauge_maps.specs.Limits.{highest_bit, longest_host, most_deadband, most_gauges, most_multiplier, most_words, register_count}
+use Rattle.gauge_maps.specs.Limits.{most_bit, most_host_bytes, most_deadband, most_gauges, most_multiplier, most_words, register_count}
 use Rattle.gauge_maps.specs.declared.map.Field.{Field}
 use Rattle.gauge_maps.specs.declared.map.Valid.{Valid}
 use Rattle.gauge_maps.specs.declared.map.GaugeMap.{GaugeMap}
@@ -16,7 +16,7 @@ is_graphic byte = is_between 33 126 byte
 
 -- a host is 1 to 64 printable bytes without a blank
 abbrev pub is_host : List ℕ → Bool
-is_host host = is_between 1 longest_host (length host) && list_all is_graphic host
+is_host host = is_between 1 most_host_bytes (length host) && list_all is_graphic host
 
 -- a field's words lie within the registers that are read
 abbrev pub is_field : ℕ → Field → Bool
@@ -32,7 +32,7 @@ is_field_or_none quantity (Some field) = is_field quantity field
 -- the register of a validity bit is one of those that are read
 abbrev pub is_valid_or_none : ℕ → Option Valid → Bool
 is_valid_or_none quantity None = true
-is_valid_or_none quantity (Some valid) = nat_lt valid.offset quantity && nat_le valid.bit highest_bit
+is_valid_or_none quantity (Some valid) = nat_lt valid.offset quantity && nat_le valid.bit most_bit
 
 -- a gauge reads 1 to 125 registers by function 3 or 4, none past the last one, and its fields lie within them
 abbrev pub is_gauge_map : GaugeMap → Bool

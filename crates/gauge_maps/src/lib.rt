@@ -12,8 +12,8 @@ mod number_laws;
 mod request;
 
 pub use limits::{
-    GREATEST_PORT, GREATEST_UNIT, HIGHEST_BIT, LONGEST_HOST, MOST_DEADBAND, MOST_GAUGES,
-    MOST_MULTIPLIER, MOST_WORDS, REGISTERS,
+    MOST_BIT, MOST_DEADBAND, MOST_GAUGES, MOST_HOST_BYTES, MOST_MULTIPLIER, MOST_PORT, MOST_UNIT,
+    MOST_WORDS, REGISTERS,
 };
 pub use map::{Field, GaugeMap, Gauges, Host, LineMap, Valid};
 pub use number_laws::defined_numbers;

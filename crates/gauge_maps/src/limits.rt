@@ -1,13 +1,13 @@
 //! Limits of gauge lines.
 
 /// The most bytes of a host.
-pub const LONGEST_HOST: usize = 64;
+pub const MOST_HOST_BYTES: usize = 64;
 
 /// The greatest port.
-pub const GREATEST_PORT: u16 = 65_535;
+pub const MOST_PORT: u16 = 65_535;
 
 /// The greatest unit identifier.
-pub const GREATEST_UNIT: u8 = 255;
+pub const MOST_UNIT: u8 = 255;
 
 /// The most gauges of a line.
 pub const MOST_GAUGES: usize = 16;
@@ -22,7 +22,7 @@ pub const MOST_WORDS: u8 = 2;
 pub const MOST_MULTIPLIER: u32 = 1_000_000;
 
 /// The highest bit of a register, the lowest being 0.
-pub const HIGHEST_BIT: u8 = 15;
+pub const MOST_BIT: u8 = 15;
 
 /// The greatest deadband, in mm or 0.01 C.
 pub const MOST_DEADBAND: u16 = 1_000;

@@ -10,7 +10,7 @@ use Rattle.farm_fixed.specs.Range.{is_between}
 use Rattle.farm_stock.specs.Books.{tanks_of}
 use Rattle.farm_stock.specs.declared.book.TankBook.{TankBook}
 use Rattle.farm_site.specs.Numbers.{are_numbered, is_among, rises}
-use Rattle.farm_site.specs.declared.limits.TheConstants.{GREATEST_NUMBER, MOST_TANKS}
+use Rattle.farm_site.specs.declared.limits.TheConstants.{MOST_NUMBER, MOST_TANKS}
 use Rattle.farm_site.specs.declared.items.Tank.{Tank}
 use Rattle.farm_site.specs.Facts.{are_tanks}
 use Rattle.farm_site.specs.Tanks.{is_spec, is_opening, is_stock, is_tank, tank_number}
@@ -23,7 +23,7 @@ use Rattle.history_lookups.proofs.BooksBounded.{numbers_of_books}
 -- a tank's opening is within the bound of a book before the first entry
 opening_bounded : (products : List ℕ) (tank : Tank) → is_tank products tank ≡ true → IsBoundedBook 0 (book_with [] tank)
 opening_bounded products tank is =
-    let number = is_between 1 GREATEST_NUMBER tank.number in
+    let number = is_between 1 MOST_NUMBER tank.number in
     let opening = (and_parts (number && is_among tank.product products && is_spec tank.spec) (is_opening tank.opening) is).1 in
     let parts = and_parts (is_stock tank.opening.litres) (is_stock tank.opening.kg) opening in
     let litres = is_within-true (negsuc 999999999) (pos 1000000000) tank.opening.litres parts.0 in

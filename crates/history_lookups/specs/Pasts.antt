@@ -3,7 +3,7 @@ use Rattle.std.specs.Prelude.{◌≡◌, ◌+◌, ◌≤◌, All, List, None}
 use Rattle.farm_site.specs.declared.site.Site.{Site}
 use Rattle.farm_site.specs.Sites.{described}
 use Rattle.farm_history.specs.declared.entry.Entry.{Entry}
-use Rattle.farm_history.specs.Limits.{greatest_limit, stops_beyond_limit}
+use Rattle.farm_history.specs.Limits.{most_limit, stops_beyond_limit}
 use Rattle.farm_history.specs.Commands.{IsWellFormedCommand}
 use Rattle.farm_history.specs.Fields.{first_bad_field}
 use Rattle.farm_history.specs.History.{History, last_place}
@@ -21,5 +21,5 @@ pub record IsInRange (entry : Entry) : Type 0 where
 
 -- a history has no more entries than one may have, and none is out of range, as in every history of accepted entries
 pub record IsReadable (history : History) : Type 0 where
-  pub few : last_place history ≤ greatest_limit + stops_beyond_limit
+  pub few : last_place history ≤ most_limit + stops_beyond_limit
   pub in_range : All IsInRange history.entries

@@ -2,7 +2,7 @@
 
 ghost use Rattle.std.specs.Prelude.{◌≡◌, [], ◌∷◌, ◌++◌, IfOk, IfSome};
 ghost use Rattle.farm_chain.specs.Volumes.{AreInRange};
-ghost use Rattle.history_lookups.specs.Pasts.{IsInRange, IsReadable, history_of};
+ghost use Rattle.history_lookups.specs.Pasts.{IsInRange, IsReadable};
 ghost use Rattle.history_lookups.specs.Pairs.{listed};
 ghost use Rattle.farm_history.specs.Commands.{tank_of};
 ghost use Rattle.farm_history.specs.Figures.{calculated_at, calculated_in, figures_at, named_at_closing, named_at_opening, named_by, recorded_sample, sample_of};
@@ -29,8 +29,8 @@ impl Past<'_> {
     /// site or its tapes give no reading, which doesn't occur in a legal history.
     #[tactic(auto, unfolding(farm_history::specs::Gauging::recorded_reading, farm_history::specs::Gauging::gauging_after, farm_history::specs::History::tank_after))]
     pub fn recorded_reading(&self, place: u32) -> Option<Reading>
-        requires readable { IsReadable (history_of self.now.site.now self.now.entries.now) }
-        ensures reading { result ≡ recorded_reading (history_of self.now.site.now self.now.entries.now) place }
+        requires readable { IsReadable self.now }
+        ensures reading { result ≡ recorded_reading self.now place }
     {
         let entry = self.entry_at(place)?;
         let number = tank_of(&entry.cmd)?;
@@ -44,8 +44,8 @@ impl Past<'_> {
     /// The sample that is recorded at a place. `None` exactly where no sample stands there.
     #[tactic(auto, unfolding(farm_history::specs::Figures::recorded_sample))]
     pub fn recorded_sample(&self, place: u32) -> Option<Sample>
-        requires readable { IsReadable (history_of self.now.site.now self.now.entries.now) }
-        ensures sample { result ≡ recorded_sample (history_of self.now.site.now self.now.entries.now) place }
+        requires readable { IsReadable self.now }
+        ensures sample { result ≡ recorded_sample self.now place }
     {
         let entry = self.entry_at(place)?;
         match &entry.cmd {
@@ -58,8 +58,8 @@ impl Past<'_> {
     /// reading or no sample is recorded there, or the tank's product isn't of the site.
     #[tactic(auto, unfolding(farm_history::specs::Figures::calculated_at, farm_history::specs::History::tank_after))]
     pub fn calculated_at(&self, pair: &Named) -> Option<Result<Quantities, ChainRule>>
-        requires readable { IsReadable (history_of self.now.site.now self.now.entries.now) }
-        ensures calculated { result ≡ calculated_at (history_of self.now.site.now self.now.entries.now) pair.now }
+        requires readable { IsReadable self.now }
+        ensures calculated { result ≡ calculated_at self.now pair.now }
         ensures range { IfSome result (λ calculated. IfOk calculated AreInRange) }
     {
         let tank = self.site.tank(pair.tank)?;
@@ -79,8 +79,8 @@ impl Past<'_> {
     /// The ten figures of a tank on what is named for it. `None` exactly where they aren't calculated, or are refused.
     #[tactic(auto, unfolding(farm_history::specs::Figures::figures_at))]
     pub fn figures_at(&self, pair: &Named) -> Option<Quantities>
-        requires readable { IsReadable (history_of self.now.site.now self.now.entries.now) }
-        ensures figures { result ≡ figures_at (history_of self.now.site.now self.now.entries.now) pair.now }
+        requires readable { IsReadable self.now }
+        ensures figures { result ≡ figures_at self.now pair.now }
         ensures range { IfSome result AreInRange }
     {
         match self.calculated_at(pair)? {
@@ -92,7 +92,7 @@ impl Past<'_> {
     /// What a command names for its tanks.
     #[tactic(auto, unfolding(farm_history::specs::Figures::named_by))]
     pub fn named_by(&self, command: &Command) -> Pairs
-        ensures named { listed result ≡ named_by (history_of self.now.site.now self.now.entries.now) command.now }
+        ensures named { listed result ≡ named_by self.now command.now }
     {
         match command {
             Command::Opening(plan) => named_at_opening(plan),

@@ -11,7 +11,7 @@ ghost use Rattle.farm_history.specs.Gauging.{dip_level, dip_reading, dip_water, 
 
 use farm_fixed::{Centi, Dens, Mm, Permil5, Quantity, Reading, Sample, Unit};
 use farm_history::{
-    BELOW_DATUM, Command, Few, LONGEST_LIST, TAPE_COUNT, TAPE_SPREAD, WATER_TAPE_COUNT,
+    BELOW_DATUM, Command, Few, MOST_IN_LIST, TAPE_COUNT, TAPE_SPREAD, WATER_TAPE_COUNT,
     WATER_TAPE_SPREAD,
 };
 use farm_readings::{TapeFault, innage, mean_temp, tape};
@@ -140,13 +140,13 @@ fn dip_water(rounding: &RoundTable, tapes: &[Mm]) -> Result<Mm, u8>
 }
 
 // The quantities of a list of a command, and zeros after them.
-fn quantities_of<U: Unit + Copy>(few: &Few) -> [Quantity<U>; LONGEST_LIST as usize]
+fn quantities_of<U: Unit + Copy>(few: &Few) -> [Quantity<U>; MOST_IN_LIST as usize]
     requires short { IsShortList few.now }
     requires zero { IsTrue (is_within U.LEAST U.MOST (pos 0)) }
     requires in_range { IsTrue (list_all (λ number. is_within U.LEAST U.MOST number) (numbers_of few.now)) }
     ensures quantities { take few.now.count result ≡ numbers_of few.now }
 {
-    let mut quantities = [quantity_of(0); LONGEST_LIST as usize];
+    let mut quantities = [quantity_of(0); MOST_IN_LIST as usize];
     for index in 0..usize::from(few.count) {
         quantities[index] = quantity_of(few.values[index]);
     }

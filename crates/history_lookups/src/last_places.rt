@@ -1,7 +1,7 @@
 //! The last reading, the last sample and the last Settle of a tank.
 
 ghost use Rattle.std.specs.Prelude.{◌≡◌};
-ghost use Rattle.history_lookups.specs.Pasts.{IsReadable, history_of};
+ghost use Rattle.history_lookups.specs.Pasts.{IsReadable};
 ghost use Rattle.history_lookups.specs.Sought.{is_sought};
 ghost use Rattle.farm_history.specs.Commands.{is_gauging_of, is_sample_of, settles};
 ghost use Rattle.farm_history.specs.Movements.{last_settlement};
@@ -26,8 +26,8 @@ impl Past<'_> {
     /// The place of the last gauge's reading or dip of a tank. `None` if and only if there isn't one.
     #[tactic(auto, unfolding(farm_history::specs::Stocks::last_reading))]
     pub fn last_reading(&self, tank: u16) -> Option<u32>
-        requires readable { IsReadable (history_of self.now.site.now self.now.entries.now) }
-        ensures reading { result ≡ last_reading (history_of self.now.site.now self.now.entries.now) tank }
+        requires readable { IsReadable self.now }
+        ensures reading { result ≡ last_reading self.now tank }
     {
         self.last_sought(Sought::Gauging, tank)
     }
@@ -35,8 +35,8 @@ impl Past<'_> {
     /// The place of the last sample of a tank. `None` if and only if there isn't one.
     #[tactic(auto, unfolding(farm_history::specs::Stocks::last_sample))]
     pub fn last_sample(&self, tank: u16) -> Option<u32>
-        requires readable { IsReadable (history_of self.now.site.now self.now.entries.now) }
-        ensures sample { result ≡ last_sample (history_of self.now.site.now self.now.entries.now) tank }
+        requires readable { IsReadable self.now }
+        ensures sample { result ≡ last_sample self.now tank }
     {
         self.last_sought(Sought::Sample, tank)
     }
@@ -44,16 +44,16 @@ impl Past<'_> {
     /// The place of the last Settle of a tank. `None` if and only if there isn't one.
     #[tactic(auto, unfolding(farm_history::specs::Movements::last_settlement))]
     pub fn last_settlement(&self, tank: u16) -> Option<u32>
-        requires readable { IsReadable (history_of self.now.site.now self.now.entries.now) }
-        ensures settlement { result ≡ last_settlement (history_of self.now.site.now self.now.entries.now) tank }
+        requires readable { IsReadable self.now }
+        ensures settlement { result ≡ last_settlement self.now tank }
     {
         self.last_sought(Sought::Settlement, tank)
     }
 
     // The place of the last entry of a tank that is sought.
     fn last_sought(&self, sought: Sought, tank: u16) -> Option<u32>
-        requires readable { IsReadable (history_of self.now.site.now self.now.entries.now) }
-        ensures last { result ≡ last_such (λ entry. is_sought sought tank entry.cmd) self.now.entries.now }
+        requires readable { IsReadable self.now }
+        ensures last { result ≡ last_such (λ entry. is_sought sought tank entry.cmd) self.now.entries }
     {
         let mut last = None;
         for (index, entry) in self.entries.iter().enumerate() {

@@ -4,7 +4,7 @@
 ghost use Rattle.std.specs.Prelude.{◌≡◌};
 ghost use Rattle.std.specs.List.{list_any};
 ghost use Rattle.farm_base.specs.Steps.{or_else};
-ghost use Rattle.history_lookups.specs.Pasts.{IsReadable, history_of};
+ghost use Rattle.history_lookups.specs.Pasts.{IsReadable};
 ghost use Rattle.farm_history.specs.Commands.{ends, names_tank, opens_on, plan_of, reverses};
 ghost use Rattle.farm_history.specs.Movements.{holding_movement, is_end_of, open_movement, opened_at, reading_for, reversal_of, used_by, used_reading};
 
@@ -15,7 +15,7 @@ impl Past<'_> {
     /// The plan of the Opening at a place. `None` exactly where no Opening stands there.
     #[tactic(auto, unfolding(farm_history::specs::Movements::opened_at))]
     pub fn opened_at(&self, place: u32) -> Option<Plan>
-        ensures opened { result ≡ opened_at (history_of self.now.site.now self.now.entries.now) place }
+        ensures opened { result ≡ opened_at self.now place }
     {
         let entry = self.entry_at(place)?;
         plan_of(&entry.cmd)
@@ -25,7 +25,7 @@ impl Past<'_> {
     /// its movement.
     #[tactic(auto, unfolding(farm_history::specs::Movements::open_movement))]
     pub fn open_movement(&self, place: u32) -> Option<Plan>
-        ensures open { result ≡ open_movement (history_of self.now.site.now self.now.entries.now) place }
+        ensures open { result ≡ open_movement self.now place }
     {
         let plan = self.opened_at(place)?;
         if is_ended(place, &self.entries[place as usize..]) {
@@ -39,8 +39,8 @@ impl Past<'_> {
     /// Where no tank is named by two open movements, each entry is looked at twice at most.
     #[tactic(auto, unfolding(farm_history::specs::Movements::holding_movement))]
     pub fn holding_movement(&self, tank: u16) -> Option<u32>
-        requires readable { IsReadable (history_of self.now.site.now self.now.entries.now) }
-        ensures holding { result ≡ holding_movement (history_of self.now.site.now self.now.entries.now) tank }
+        requires readable { IsReadable self.now }
+        ensures holding { result ≡ holding_movement self.now tank }
     {
         for (index, entry) in self.entries.iter().enumerate() {
             let place = index as u32 + 1;
@@ -54,7 +54,7 @@ impl Past<'_> {
     /// The place of the reading that the last Closing or Settle of a tank used for it. `None` exactly where there is no such entry.
     #[tactic(auto, unfolding(farm_history::specs::Movements::used_reading))]
     pub fn used_reading(&self, tank: u16) -> Option<u32>
-        ensures used { result ≡ used_reading (history_of self.now.site.now self.now.entries.now) tank }
+        ensures used { result ≡ used_reading self.now tank }
     {
         let mut used = None;
         for entry in self.entries {
@@ -65,7 +65,7 @@ impl Past<'_> {
 
     // The reading that a command used for a tank. `None` where it used none.
     fn used_by(&self, tank: u16, command: &Command) -> Option<u32>
-        ensures used { result ≡ used_by (history_of self.now.site.now self.now.entries.now) tank command.now }
+        ensures used { result ≡ used_by self.now tank command.now }
     {
         match command {
             Command::Closing {
@@ -87,8 +87,8 @@ impl Past<'_> {
     /// The place of the Reverse that names a ticket. `None` exactly where none does.
     #[tactic(auto, unfolding(farm_history::specs::Movements::reversal_of))]
     pub fn reversal_of(&self, ticket: u32) -> Option<u32>
-        requires readable { IsReadable (history_of self.now.site.now self.now.entries.now) }
-        ensures reversal { result ≡ reversal_of (history_of self.now.site.now self.now.entries.now) ticket }
+        requires readable { IsReadable self.now }
+        ensures reversal { result ≡ reversal_of self.now ticket }
     {
         for (index, entry) in self.entries.iter().enumerate() {
             if reverses(ticket, &entry.cmd) {

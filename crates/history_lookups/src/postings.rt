@@ -3,7 +3,7 @@
 ghost use Rattle.std.specs.Prelude.{◌≡◌, ℕ, ◌+◌, ◌*◌, IfSome, map};
 ghost use Rattle.history_lookups.specs.Bounds.{AreSmallPostings, IsAtMost, IsGainOf, IsSmallSide, IsSmallTicket, MoveAtMost, PostAtMost, most_moved, most_posted};
 ghost use Rattle.history_lookups.specs.Ledgers.{AreBooksOf, AreBounded, books_after, listed_postings};
-ghost use Rattle.history_lookups.specs.Pasts.{IsReadable, history_of};
+ghost use Rattle.history_lookups.specs.Pasts.{IsReadable};
 ghost use Rattle.farm_history.specs.History.{last_place};
 ghost use Rattle.farm_history.specs.Postings.{amount_moved, gain_after, gain_posted, opposite_posting, outside_posting, posted_by, postings_issued, postings_of, postings_of_ticket, unnamed};
 ghost use Rattle.farm_history.specs.Tickets.{closing_ticket, issued_by_closing};
@@ -41,12 +41,12 @@ impl Past<'_> {
     /// what a tank holds by its figures.
     #[tactic(auto, unfolding(farm_history::specs::Postings::posted_by))]
     pub fn posted_by(&self, ledger: &Ledger, command: &Command) -> Posted
-        requires readable { IsReadable (history_of self.now.site.now self.now.entries.now) }
-        requires books { AreBooksOf (history_of self.now.site.now self.now.entries.now) ledger.now }
-        ensures posted { listed_postings result ≡ posted_by (history_of self.now.site.now self.now.entries.now) (postings_of (history_of self.now.site.now self.now.entries.now)) command.now }
+        requires readable { IsReadable self.now }
+        requires books { AreBooksOf self.now ledger.now }
+        ensures posted { listed_postings result ≡ posted_by self.now (postings_of self.now) command.now }
         ensures small { PostAtMost most_posted (listed_postings result) }
         ensures moved { MoveAtMost (2 * most_moved) (listed_postings result) }
-        ensures bounded { AreBounded (last_place (history_of self.now.site.now self.now.entries.now) + 1) (books_after (listed_postings result) ledger.now) }
+        ensures bounded { AreBounded (last_place self.now + 1) (books_after (listed_postings result) ledger.now) }
     {
         match command {
             Command::Closing { .. } => self.posted_by_closing(command),
@@ -58,8 +58,8 @@ impl Past<'_> {
 
     // What a Closing posts after these entries. The place and the number of its ticket don't matter, so no entries are counted for it.
     fn posted_by_closing(&self, command: &Command) -> Posted
-        requires readable { IsReadable (history_of self.now.site.now self.now.entries.now) }
-        ensures posted { (place : ℕ) → listed_postings result ≡ postings_issued (issued_by_closing (history_of self.now.site.now self.now.entries.now) place command.now) }
+        requires readable { IsReadable self.now }
+        ensures posted { (place : ℕ) → listed_postings result ≡ postings_issued (issued_by_closing self.now place command.now) }
         ensures small { AreSmallPostings (listed_postings result) }
     {
         match self.unnumbered_ticket(command) {
@@ -70,8 +70,8 @@ impl Past<'_> {
 
     // The ticket that a Closing issues after these entries, but for its place and its number.
     fn unnumbered_ticket(&self, command: &Command) -> Option<Ticket>
-        requires readable { IsReadable (history_of self.now.site.now self.now.entries.now) }
-        ensures ticket { (place : ℕ) → postings_issued result ≡ postings_issued (issued_by_closing (history_of self.now.site.now self.now.entries.now) place command.now) }
+        requires readable { IsReadable self.now }
+        ensures ticket { (place : ℕ) → postings_issued result ≡ postings_issued (issued_by_closing self.now place command.now) }
         ensures small { IfSome result IsSmallTicket }
     {
         let (movement, first, second) = self.closed_by(command)?;
@@ -81,8 +81,8 @@ impl Past<'_> {
     // What a Reverse posts: what the ticket at a place posted, with the opposite amounts.
     #[tactic(auto, unfolding(farm_history::specs::Tickets::closing_ticket))]
     fn posted_by_reverse(&self, ticket: u32) -> Posted
-        requires readable { IsReadable (history_of self.now.site.now self.now.entries.now) }
-        ensures posted { listed_postings result ≡ map opposite_posting (postings_issued (closing_ticket (history_of self.now.site.now self.now.entries.now) ticket)) }
+        requires readable { IsReadable self.now }
+        ensures posted { listed_postings result ≡ map opposite_posting (postings_issued (closing_ticket self.now ticket)) }
         ensures small { AreSmallPostings (listed_postings result) }
     {
         match self.entry_at(ticket) {
@@ -93,13 +93,15 @@ impl Past<'_> {
 
     // What a Settle posts: its gain.
     fn posted_by_settle(&self, ledger: &Ledger, tank: u16, gauged: &Gauged) -> Posted
-        requires readable { IsReadable (history_of self.now.site.now self.now.entries.now) }
-        requires books { AreBooksOf (history_of self.now.site.now self.now.entries.now) ledger.now }
-        ensures posted { listed_postings result ≡ gain_posted tank (gain_after (history_of self.now.site.now self.now.entries.now) (postings_of (history_of self.now.site.now self.now.entries.now)) tank gauged.now) }
+        requires readable { IsReadable self.now }
+        requires books { AreBooksOf self.now ledger.now }
+        ensures posted { listed_postings result ≡ gain_posted tank (gain_after self.now (postings_of self.now) tank gauged.now) }
         ensures small { PostAtMost most_posted (listed_postings result) }
         ensures moved { MoveAtMost (2 * most_moved) (listed_postings result) }
-        ensures bounded { AreBounded (last_place (history_of self.now.site.now self.now.entries.now) + 1) (books_after (listed_postings result) ledger.now) }
+        ensures bounded { AreBounded (last_place self.now + 1) (books_after (listed_postings result) ledger.now) }
     {
+        // Looked at for the proof alone: the numbers of a site's tanks differ, so a gain is added to one book.
+        let _ = &self.site;
         match self.gain_after(ledger, tank, gauged) {
             Some(gain) => Posted::One(unnamed(tank, Kind::Gain, gain)),
             None => Posted::Nothing,
@@ -110,9 +112,9 @@ impl Past<'_> {
     // tank, and where its figures aren't calculated.
     #[tactic(auto, unfolding(farm_history::specs::Postings::gain_after, farm_history::specs::History::tank_after))]
     pub(crate) fn gain_after(&self, ledger: &Ledger, tank: u16, gauged: &Gauged) -> Option<Amount>
-        requires readable { IsReadable (history_of self.now.site.now self.now.entries.now) }
-        requires books { AreBooksOf (history_of self.now.site.now self.now.entries.now) ledger.now }
-        ensures gain { result ≡ gain_after (history_of self.now.site.now self.now.entries.now) (postings_of (history_of self.now.site.now self.now.entries.now)) tank gauged.now }
+        requires readable { IsReadable self.now }
+        requires books { AreBooksOf self.now ledger.now }
+        ensures gain { result ≡ gain_after self.now (postings_of self.now) tank gauged.now }
         ensures small { IfSome result (IsAtMost most_posted) }
         ensures held { IfSome result (IsGainOf tank ledger.now) }
     {

@@ -2,7 +2,7 @@
 
 ghost use Rattle.std.specs.Prelude.{◌≡◌, IfSome};
 ghost use Rattle.history_lookups.specs.Ledgers.{AreBooksOf};
-ghost use Rattle.history_lookups.specs.Pasts.{IsReadable, history_of};
+ghost use Rattle.history_lookups.specs.Pasts.{IsReadable};
 ghost use Rattle.farm_history.specs.Conservation.{IsBoundedBook};
 ghost use Rattle.farm_history.specs.History.{last_place};
 ghost use Rattle.farm_history.specs.Stocks.{book_of, gain_at, total_of};
@@ -18,9 +18,9 @@ impl Past<'_> {
     /// One pass over the entries, with the books of all tanks beside it.
     #[tactic(auto, unfolding(farm_history::specs::Stocks::book_of, farm_history::specs::History::tank_after))]
     pub fn book_of(&self, tank: u16) -> Option<Amount>
-        requires readable { IsReadable (history_of self.now.site.now self.now.entries.now) }
-        ensures book { result ≡ book_of (history_of self.now.site.now self.now.entries.now) tank }
-        ensures bounded { IfSome result (IsBoundedBook (last_place (history_of self.now.site.now self.now.entries.now))) }
+        requires readable { IsReadable self.now }
+        ensures book { result ≡ book_of self.now tank }
+        ensures bounded { IfSome result (IsBoundedBook (last_place self.now)) }
     {
         self.ledger().book_of(tank)
     }
@@ -28,8 +28,8 @@ impl Past<'_> {
     /// The sum of the books of all tanks.
     #[tactic(auto, unfolding(farm_history::specs::Stocks::total_of))]
     pub fn total(&self) -> Amount
-        requires readable { IsReadable (history_of self.now.site.now self.now.entries.now) }
-        ensures total { result ≡ total_of (history_of self.now.site.now self.now.entries.now) }
+        requires readable { IsReadable self.now }
+        ensures total { result ≡ total_of self.now }
     {
         self.ledger().total()
     }
@@ -38,8 +38,8 @@ impl Past<'_> {
     /// occur in a legal history.
     #[tactic(auto, unfolding(farm_history::specs::Stocks::gain_at))]
     pub fn gain_at(&self, place: u32) -> Option<Amount>
-        requires readable { IsReadable (history_of self.now.site.now self.now.entries.now) }
-        ensures gain { result ≡ gain_at (history_of self.now.site.now self.now.entries.now) place }
+        requires readable { IsReadable self.now }
+        ensures gain { result ≡ gain_at self.now place }
     {
         let entry = self.entry_at(place)?;
         let Command::Settle { tank, gauged } = &entry.cmd else {
@@ -51,8 +51,8 @@ impl Past<'_> {
 
     /// The books of the tanks after these entries, by one pass over them.
     pub fn ledger(&self) -> Ledger
-        requires readable { IsReadable (history_of self.now.site.now self.now.entries.now) }
-        ensures books { AreBooksOf (history_of self.now.site.now self.now.entries.now) result }
+        requires readable { IsReadable self.now }
+        ensures books { AreBooksOf self.now result }
     {
         let mut ledger = Ledger::opened(self.site.tanks.get());
         for (index, entry) in self.entries.iter().enumerate() {

@@ -5,7 +5,7 @@ ghost use Rattle.farm_chain.specs.Volumes.{AreInRange};
 ghost use Rattle.farm_ticket.specs.Reversing.{SidesAddUp, reversal};
 ghost use Rattle.history_lookups.specs.Bounds.{IsClosedInRange, IsOpenedInRange};
 ghost use Rattle.history_lookups.specs.Closings.{closed_by};
-ghost use Rattle.history_lookups.specs.Pasts.{IsReadable, history_of};
+ghost use Rattle.history_lookups.specs.Pasts.{IsReadable};
 ghost use Rattle.farm_history.specs.Commands.{issues_ticket};
 ghost use Rattle.farm_history.specs.History.{before, last_place};
 ghost use Rattle.farm_history.specs.Tickets.{any_goes_wrong, closed, closing_ticket, figures_at_closing, issued_by, issued_by_closing, leg_at, movement_of, next_number, plan_to_close, ticket_at, tickets_in, to_close};
@@ -25,8 +25,8 @@ impl Past<'_> {
     /// calculated or a side goes the wrong way, which doesn't occur in a legal history.
     #[tactic(auto, unfolding(farm_history::specs::Tickets::ticket_at))]
     pub fn ticket_at(&self, place: u32) -> Option<Ticket>
-        requires readable { IsReadable (history_of self.now.site.now self.now.entries.now) }
-        ensures ticket { result ≡ ticket_at (history_of self.now.site.now self.now.entries.now) place }
+        requires readable { IsReadable self.now }
+        ensures ticket { result ≡ ticket_at self.now place }
     {
         let entry = self.entry_at(place)?;
         self.before(place).issued_by(place, &entry.cmd)
@@ -35,9 +35,8 @@ impl Past<'_> {
     /// The ticket of the entry at a place, if its number is this: `None` as for `ticket_at`. No entries are counted for it.
     #[tactic(auto, unfolding(farm_history::specs::Tickets::ticket_at))]
     pub fn ticket_numbered(&self, place: u32, number: u32) -> Option<Ticket>
-        requires readable { IsReadable (history_of self.now.site.now self.now.entries.now) }
-        ensures ticket { number ≡ next_number (before (history_of self.now.site.now self.now.entries.now) place) →
-            result ≡ ticket_at (history_of self.now.site.now self.now.entries.now) place }
+        requires readable { IsReadable self.now }
+        ensures ticket { number ≡ next_number (before self.now place) → result ≡ ticket_at self.now place }
     {
         let entry = self.entry_at(place)?;
         let past = self.before(place);
@@ -49,8 +48,8 @@ impl Past<'_> {
 
     // The ticket that a Closing issues at a place with this number, after these entries. `None` for another command.
     fn closing_numbered(&self, place: u32, number: u32, command: &Command) -> Option<Ticket>
-        requires readable { IsReadable (history_of self.now.site.now self.now.entries.now) }
-        ensures ticket { result ≡ option_and_then (closed place number) (closed_by (history_of self.now.site.now self.now.entries.now) command.now) }
+        requires readable { IsReadable self.now }
+        ensures ticket { result ≡ option_and_then (closed place number) (closed_by self.now command.now) }
         ensures adds_up { IfSome result SidesAddUp }
     {
         let (movement, first, second) = self.closed_by(command)?;
@@ -60,8 +59,8 @@ impl Past<'_> {
     // The ticket that reverses that of a Closing, issued at a place with this number. It doesn't tell the number of the other.
     #[tactic(auto, unfolding(farm_history::specs::Tickets::closing_ticket))]
     fn reversal_numbered(&self, place: u32, number: u32, reversed: u32) -> Option<Ticket>
-        requires readable { IsReadable (history_of self.now.site.now self.now.entries.now) }
-        ensures ticket { result ≡ option_map (reversal place number) (closing_ticket (history_of self.now.site.now self.now.entries.now) reversed) }
+        requires readable { IsReadable self.now }
+        ensures ticket { result ≡ option_map (reversal place number) (closing_ticket self.now reversed) }
     {
         let entry = self.entry_at(reversed)?;
         let unnumbered = self
@@ -72,8 +71,8 @@ impl Past<'_> {
 
     // The ticket that a command issues at a place, after these entries.
     fn issued_by(&self, place: u32, command: &Command) -> Option<Ticket>
-        requires readable { IsReadable (history_of self.now.site.now self.now.entries.now) }
-        ensures ticket { result ≡ issued_by (history_of self.now.site.now self.now.entries.now) place command.now }
+        requires readable { IsReadable self.now }
+        ensures ticket { result ≡ issued_by self.now place command.now }
     {
         let Command::Reverse { ticket } = command else {
             return self.issued_by_closing(place, command);
@@ -85,8 +84,8 @@ impl Past<'_> {
     /// The ticket of the Closing at a place. `None` as for `ticket_at`, and where a Reverse stands there.
     #[tactic(auto, unfolding(farm_history::specs::Tickets::closing_ticket))]
     pub fn closing_ticket(&self, place: u32) -> Option<Ticket>
-        requires readable { IsReadable (history_of self.now.site.now self.now.entries.now) }
-        ensures ticket { result ≡ closing_ticket (history_of self.now.site.now self.now.entries.now) place }
+        requires readable { IsReadable self.now }
+        ensures ticket { result ≡ closing_ticket self.now place }
         ensures adds_up { IfSome result SidesAddUp }
     {
         let entry = self.entry_at(place)?;
@@ -95,8 +94,8 @@ impl Past<'_> {
 
     // The ticket that a Closing issues at a place, after these entries.
     fn issued_by_closing(&self, place: u32, command: &Command) -> Option<Ticket>
-        requires readable { IsReadable (history_of self.now.site.now self.now.entries.now) }
-        ensures ticket { result ≡ issued_by_closing (history_of self.now.site.now self.now.entries.now) place command.now }
+        requires readable { IsReadable self.now }
+        ensures ticket { result ≡ issued_by_closing self.now place command.now }
         ensures adds_up { IfSome result SidesAddUp }
     {
         let (movement, first, second) = self.closed_by(command)?;
@@ -106,8 +105,8 @@ impl Past<'_> {
     // The movement that a Closing names, and the figures that it closes it on. `None` where one of these isn't there, and for a command
     // that is no Closing.
     pub(crate) fn closed_by(&self, command: &Command) -> Option<ToClose>
-        requires readable { IsReadable (history_of self.now.site.now self.now.entries.now) }
-        ensures closed_by { result ≡ closed_by (history_of self.now.site.now self.now.entries.now) command.now }
+        requires readable { IsReadable self.now }
+        ensures closed_by { result ≡ closed_by self.now command.now }
         ensures sides { IfSome result (λ close. IsSome close.2 ↔ IsSome close.0.second) }
         ensures range { IfSome result IsClosedInRange }
     {
@@ -123,8 +122,8 @@ impl Past<'_> {
 
     /// The number of the next ticket: one more than Closings and Reverses.
     pub fn next_number(&self) -> u32
-        requires readable { IsReadable (history_of self.now.site.now self.now.entries.now) }
-        ensures number { result ≡ next_number (history_of self.now.site.now self.now.entries.now) }
+        requires readable { IsReadable self.now }
+        ensures number { result ≡ next_number self.now }
     {
         let mut count = 0;
         for entry in self.entries {
@@ -143,8 +142,8 @@ impl Past<'_> {
         first: &Gauged,
         second: &Option<Gauged>,
     ) -> Option<ToClose>
-        requires readable { IsReadable (history_of self.now.site.now self.now.entries.now) }
-        ensures to_close { result ≡ to_close (history_of self.now.site.now self.now.entries.now) movement first.now second.now }
+        requires readable { IsReadable self.now }
+        ensures to_close { result ≡ to_close self.now movement first.now second.now }
         ensures sides { IfSome result (λ close. IsSome close.2 ↔ IsSome close.0.second) }
         ensures range { IfSome result IsClosedInRange }
     {
@@ -157,8 +156,8 @@ impl Past<'_> {
     // The movement that a plan opens at a place.
     #[tactic(auto, unfolding(farm_history::specs::Tickets::movement_of))]
     fn movement_of(&self, place: u32, plan: &Plan) -> Option<OpenMove>
-        requires readable { IsReadable (history_of self.now.site.now self.now.entries.now) }
-        ensures movement { result ≡ movement_of (history_of self.now.site.now self.now.entries.now) place plan.now }
+        requires readable { IsReadable self.now }
+        ensures movement { result ≡ movement_of self.now place plan.now }
         ensures range { IfSome result IsOpenedInRange }
     {
         match plan {
@@ -187,8 +186,8 @@ impl Past<'_> {
     // A side of a movement at its opening.
     #[tactic(auto, unfolding(farm_history::specs::Tickets::leg_at))]
     fn leg_at(&self, way: Way, pair: &Named) -> Option<Leg>
-        requires readable { IsReadable (history_of self.now.site.now self.now.entries.now) }
-        ensures leg { result ≡ leg_at (history_of self.now.site.now self.now.entries.now) way pair.now }
+        requires readable { IsReadable self.now }
+        ensures leg { result ≡ leg_at self.now way pair.now }
         ensures range { IfSome result (λ leg. AreInRange leg.opening) }
     {
         let opening = self.figures_at(pair)?;
@@ -209,8 +208,8 @@ impl Past<'_> {
         second: &Option<Gauged>,
         plan: &Plan,
     ) -> Option<(Quantities, Option<Quantities>)>
-        requires readable { IsReadable (history_of self.now.site.now self.now.entries.now) }
-        ensures figures { result ≡ figures_at_closing (history_of self.now.site.now self.now.entries.now) first.now second.now plan.now }
+        requires readable { IsReadable self.now }
+        ensures figures { result ≡ figures_at_closing self.now first.now second.now plan.now }
         ensures first_range { IfSome result (λ figures. AreInRange figures.0) }
         ensures second_range { IfSome result (λ figures. IfSome figures.1 AreInRange) }
     {

@@ -55,7 +55,7 @@ unfolding reason_of
 phrase_is status known =
     by_status (λ n. reason_phrase n ≡ Some (reason_of n)) (refl, refl, refl, refl, refl, refl, refl, refl, refl, refl) status known
 
--- and may stand in a line
+-- and may be part of a line
 pub reason_in_line : (status : ℕ) → IsStatus status → list_all is_line_byte (reason_of status) ≡ true
 unfolding reason_of
 reason_in_line status known =

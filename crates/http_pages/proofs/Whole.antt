@@ -17,11 +17,11 @@ use Rattle.http_pages.specs.Pages.{allow_lines, close_lines, field_lines, page_t
 use Rattle.http_pages.specs.Statuses.{IsStatus, reason_of, status_of}
 use Rattle.http_pages.proofs.Reasons.{reason_in_line, status_is_code, status_known}
 
--- texts that may stand in a line may follow one another there
+-- texts that may be part of a line may follow one another there
 joined : (first second : List ℕ) → list_all is_line_byte first ≡ true → list_all is_line_byte second ≡ true → list_all is_line_byte (first ++ second) ≡ true
 joined first second one other = list_all-append is_line_byte first second ∙ rw (one, other) refl
 
--- a digit may stand in a line
+-- a digit may be part of a line
 digit_in_line : (n : ℕ) → n < 10 → list_all is_line_byte ((48 + n) ∷ []) ≡ true
 digit_in_line n small = grind (arith, nat_tests)
 
@@ -32,7 +32,7 @@ number_in_line n small =
     (λ k digits large before. joined digits ((48 + k % 10) ∷ []) before (digit_in_line (k % 10) (omega arith)))
     n small
 
--- bytes that may stand in a line are one where there are some
+-- bytes that may be part of a line are one if there are some
 head_line : (line : List ℕ) → line ≢ [] → list_all is_line_byte line ≡ true → IsHeadLine line
 head_line line some plain = (some, AllPass-from_list_all is_line_byte line plain)
 

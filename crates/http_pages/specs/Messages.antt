@@ -4,7 +4,7 @@ use Rattle.std.specs.List.{AllPass, starts_with}
 use Rattle.std.specs.Str.{str_to_ascii_lowercase}
 use Rattle.farm_http.specs.PageTexts.{IsAnswer, body_text}
 use Rattle.farm_http.specs.declared.page.Page.{Page}
-use Rattle.http_pages.specs.Pages.{ended, line_end, longest_head, page_text}
+use Rattle.http_pages.specs.Pages.{ended, line_end, most_page_head_bytes, page_text}
 
 -- a byte of a line: visible ASCII, or a space
 abbrev pub is_line_byte : ℕ → Bool
@@ -32,9 +32,9 @@ pub record IsWholePage (bytes content : List ℕ) : Type 0 where
 abbrev pub PagesAreWhole : Type 0
 PagesAreWhole = (page : Page) (last : Bool) → IsAnswer page → length (body_text page) < 2 ^ 64 → IsWholePage (page_text page last) (body_text page)
 
--- before the content of a page stand no more bytes than those of the longest head
+-- at most as many bytes as the longest head has precede the content of a page
 abbrev pub HeadsFit : Type 0
-HeadsFit = (page : Page) (last : Bool) → IsAnswer page → length (body_text page) < 2 ^ 64 → length (page_text page last) ≤ longest_head + length (body_text page)
+HeadsFit = (page : Page) (last : Bool) → IsAnswer page → length (body_text page) < 2 ^ 64 → length (page_text page last) ≤ most_page_head_bytes + length (body_text page)
 
 -- bytes have one content at most
 abbrev pub OneContent : Type 0

@@ -39,9 +39,9 @@ field_lines page last =
 unfoldable pub page_text : Page → Bool → List ℕ
 page_text page last = ended (status_line (status_of page) ∷ field_lines page last) ++ line_end ++ body_text page
 
--- the most bytes that stand before the content of a page: with 431 or 405, on a last page, if the content's length had twenty digits
-abbrev pub longest_head : ℕ
-longest_head = 137
+-- the most bytes that precede the content of a page: with 431 or 405, on a last page, if the content's length had twenty digits
+abbrev pub most_page_head_bytes : ℕ
+most_page_head_bytes = 137
 
 -- the answer of a status that names no method
 abbrev pub status_page : ℕ → Page

@@ -1,4 +1,4 @@
-//! The pages that are there without memory.
+//! The pages that take no memory.
 
 ghost use Rattle.std.specs.Prelude.{◌≡◌, false, true};
 ghost use Rattle.http_pages.specs.Pages.{page_text, status_page};

@@ -13,8 +13,8 @@ use farm_http::{Page, body};
 use std::alloc::Global;
 use text_pieces::{Piece, append};
 
-/// The most bytes that stand before the content of a page.
-pub const LONGEST_HEAD: usize = 137;
+/// The most bytes that precede the content of a page.
+pub const MOST_PAGE_HEAD_BYTES: usize = 137;
 
 /// Appends the page of an answer (RFC 9112): the status line, the fields `content-type` and `content-length`, with 405 `allow`, if it
 /// is the last page of its connection `connection: close`, an empty line, and the answer's body. Lines end with CR LF.
@@ -25,12 +25,12 @@ pub fn page(alloc: Global, answer: &Page, last: bool, out: &mut Vec<u8>) -> Resu
     requires answer { IsAnswer answer.now }
     ensures appended { Appends out.old.items out.new.items (page_text answer.now last) result }
 
-    // Who reads the page by its field content-length finds just the body.
+    // A reader that goes by the field content-length finds just the body.
     ensures whole { OnOk result (IsWholePage (drop (length out.old.items) out.new.items) (body_text answer.now)) }
 {
     let mut content = Vec::new(alloc);
     body(alloc, answer, &mut content)?;
-    out.reserve(content.len().saturating_add(LONGEST_HEAD))?;
+    out.reserve(content.len().saturating_add(MOST_PAGE_HEAD_BYTES))?;
     append_page(answer, last, &content, out)
 }
 

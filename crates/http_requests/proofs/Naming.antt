@@ -3,7 +3,7 @@ use Rattle.std.proofs.Common.{◌≡◌, ℕ, Bool, true, false, if◌then◌els
 use Rattle.std.proofs.lemmas.Str.{IsUtf8-from_is_utf8, is_utf8-from_IsUtf8}
 use Rattle.std.specs.Str.{IsUtf8, is_utf8}
 use Rattle.farm_history.specs.declared.query.Query.TheVariants as queries
-use Rattle.farm_http.specs.Limits.{greatest_place, greatest_tank}
+use Rattle.farm_http.specs.Limits.{most_place, most_tank_number}
 use Rattle.matchit.specs.Router.{RouteOf}
 use Rattle.http_requests.specs.declared.resource.Resource.{Resource}
 use Rattle.http_requests.specs.declared.resource.Resource.TheVariants.{Command, Look}
@@ -33,19 +33,19 @@ names_no_text path none = by (is_utf8 path) refl
 
 -- ---- from what is named to the path
 
-stock_path : (parameter : List ℕ) (number : Option ℕ) (resource : Resource) → number_within greatest_tank parameter ≡ number
+stock_path : (parameter : List ℕ) (number : Option ℕ) (resource : Resource) → number_within most_tank_number parameter ≡ number
     → option_map (λ tank. Look (queries.Stock tank)) number ≡ Some resource → IsPathOf (codes "/stock/" ++ parameter) resource
 stock_path parameter None resource is e = absurd cc
 stock_path parameter (Some tank) resource is e =
     let same : Look (queries.Stock tank) ≡ resource = cc in
-    subst (IsPathOf (codes "/stock/" ++ parameter)) same (parameter, refl, number_is greatest_tank parameter tank is)
+    subst (IsPathOf (codes "/stock/" ++ parameter)) same (parameter, refl, number_is most_tank_number parameter tank is)
 
-ticket_path : (parameter : List ℕ) (number : Option ℕ) (resource : Resource) → number_within greatest_place parameter ≡ number
+ticket_path : (parameter : List ℕ) (number : Option ℕ) (resource : Resource) → number_within most_place parameter ≡ number
     → option_map (λ place. Look (queries.Ticket place)) number ≡ Some resource → IsPathOf (codes "/ticket/" ++ parameter) resource
 ticket_path parameter None resource is e = absurd cc
 ticket_path parameter (Some place) resource is e =
     let same : Look (queries.Ticket place) ≡ resource = cc in
-    subst (IsPathOf (codes "/ticket/" ++ parameter)) same (parameter, refl, number_is greatest_place parameter place is)
+    subst (IsPathOf (codes "/ticket/" ++ parameter)) same (parameter, refl, number_is most_place parameter place is)
 
 path_by : (kind : Route) (path : List ℕ) (route : RouteOf Route) (resource : Resource) → ShapeOf kind path route
     → named_by kind path route ≡ Some resource → IsPathOf path resource
@@ -58,16 +58,16 @@ path_by kinds.Total path route resource is e =
     subst (IsPathOf path) same is.0
 path_by kinds.Stock path route resource is e =
     let P : List ℕ → RouteOf Route → Type 0 =
-    λ t r. option_map (λ tank. Look (queries.Stock tank)) (option_and_then (number_within greatest_tank) (parameter_of (codes "tank") t r)) ≡ Some resource in
+    λ t r. option_map (λ tank. Look (queries.Stock tank)) (option_and_then (number_within most_tank_number) (parameter_of (codes "tank") t r)) ≡ Some resource in
     let on_path = subst (λ (t : List ℕ). P t stock_route) is.1 (subst (P path) is.2 e) in
-    let took = sym (ap (λ found. option_map (λ tank. Look (queries.Stock tank)) (option_and_then (number_within greatest_tank) found)) (stock_took is.0)) ∙ on_path in
-    subst (λ (t : List ℕ). IsPathOf t resource) (sym is.1) (stock_path is.0 (number_within greatest_tank is.0) resource refl took)
+    let took = sym (ap (λ found. option_map (λ tank. Look (queries.Stock tank)) (option_and_then (number_within most_tank_number) found)) (stock_took is.0)) ∙ on_path in
+    subst (λ (t : List ℕ). IsPathOf t resource) (sym is.1) (stock_path is.0 (number_within most_tank_number is.0) resource refl took)
 path_by kinds.Ticket path route resource is e =
     let P : List ℕ → RouteOf Route → Type 0 =
-    λ t r. option_map (λ place. Look (queries.Ticket place)) (option_and_then (number_within greatest_place) (parameter_of (codes "place") t r)) ≡ Some resource in
+    λ t r. option_map (λ place. Look (queries.Ticket place)) (option_and_then (number_within most_place) (parameter_of (codes "place") t r)) ≡ Some resource in
     let on_path = subst (λ (t : List ℕ). P t ticket_route) is.1 (subst (P path) is.2 e) in
-    let took = sym (ap (λ found. option_map (λ place. Look (queries.Ticket place)) (option_and_then (number_within greatest_place) found)) (ticket_took is.0)) ∙ on_path in
-    subst (λ (t : List ℕ). IsPathOf t resource) (sym is.1) (ticket_path is.0 (number_within greatest_place is.0) resource refl took)
+    let took = sym (ap (λ found. option_map (λ place. Look (queries.Ticket place)) (option_and_then (number_within most_place) found)) (ticket_took is.0)) ∙ on_path in
+    subst (λ (t : List ℕ). IsPathOf t resource) (sym is.1) (ticket_path is.0 (number_within most_place is.0) resource refl took)
 
 pub is_path : (path : List ℕ) (resource : Resource) → resource_of path ≡ Some resource → IsPathOf path resource
 unfolding resource_of
@@ -85,7 +85,7 @@ is_path path resource is = by (is_utf8 path) is
 
 -- ---- from the path to what is named
 
-stock_names : (parameter : List ℕ) (tank : ℕ) → IsNumberWithin greatest_tank parameter tank
+stock_names : (parameter : List ℕ) (tank : ℕ) → IsNumberWithin most_tank_number parameter tank
     → resource_of (codes "/stock/" ++ parameter) ≡ Some (Look (queries.Stock tank))
 unfolding named_by
 stock_names [] tank is = absurd (omega (arith, is.some))
@@ -93,10 +93,10 @@ stock_names (byte ∷ rest) tank is =
     let taken = is_taken byte rest is.digits in
     names_by_route (codes "/stock/" ++ byte ∷ rest) stock_route (stock_utf8 (byte ∷ rest) taken.text)
     (stock_found byte rest taken.slashless taken.no_token)
-    ∙ ap (λ found. option_map (λ t. Look (queries.Stock t)) (option_and_then (number_within greatest_tank) found)) (stock_took (byte ∷ rest))
-    ∙ ap (λ number. option_map (λ t. Look (queries.Stock t)) number) (is_within greatest_tank (byte ∷ rest) tank is)
+    ∙ ap (λ found. option_map (λ t. Look (queries.Stock t)) (option_and_then (number_within most_tank_number) found)) (stock_took (byte ∷ rest))
+    ∙ ap (λ number. option_map (λ t. Look (queries.Stock t)) number) (is_within most_tank_number (byte ∷ rest) tank is)
 
-ticket_names : (parameter : List ℕ) (place : ℕ) → IsNumberWithin greatest_place parameter place
+ticket_names : (parameter : List ℕ) (place : ℕ) → IsNumberWithin most_place parameter place
     → resource_of (codes "/ticket/" ++ parameter) ≡ Some (Look (queries.Ticket place))
 unfolding named_by
 ticket_names [] place is = absurd (omega (arith, is.some))
@@ -104,8 +104,8 @@ ticket_names (byte ∷ rest) place is =
     let taken = is_taken byte rest is.digits in
     names_by_route (codes "/ticket/" ++ byte ∷ rest) ticket_route (ticket_utf8 (byte ∷ rest) taken.text)
     (ticket_found byte rest taken.slashless taken.no_token)
-    ∙ ap (λ found. option_map (λ p. Look (queries.Ticket p)) (option_and_then (number_within greatest_place) found)) (ticket_took (byte ∷ rest))
-    ∙ ap (λ number. option_map (λ p. Look (queries.Ticket p)) number) (is_within greatest_place (byte ∷ rest) place is)
+    ∙ ap (λ found. option_map (λ p. Look (queries.Ticket p)) (option_and_then (number_within most_place) found)) (ticket_took (byte ∷ rest))
+    ∙ ap (λ number. option_map (λ p. Look (queries.Ticket p)) number) (is_within most_place (byte ∷ rest) place is)
 
 pub is_named : (path : List ℕ) (resource : Resource) → IsPathOf path resource → resource_of path ≡ Some resource
 unfolding named_by

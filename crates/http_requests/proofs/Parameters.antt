@@ -209,7 +209,7 @@ parsed text answer is digits some few =
     parse_gives (numerals_by_value (λ ds. all_ascii_digits ds ≡ true) tells_all_ascii_digits) 64 text answer is digits some
     (omega (arith, value, power))
 
--- what a call gave, where its value was taken or was none
+-- what a call gave, by whether it answered a value
 pub refused : {T E N : Type 0} (A : T → Type 0) (B : E → Type 0) (answer : Result T E) → None ≡ result_ok answer
     → MatchResult answer A (λ e. N × B e) → N
 refused A B (Ok value) e is = absurd cc

@@ -15,7 +15,7 @@ abbrev pub IsPlain : List ℕ → Type 0
 IsPlain [] = Unit {0}
 IsPlain (token ∷ rest) = IsPlainOn (token == param_token) (token == catch_all_token) rest (IsPlain rest)
 
--- what such a pattern says of a path: the bytes, and then something where a parameter stands
+-- what such a pattern says of a path: the bytes, and at least one byte for a parameter
 abbrev pub MatchesOn : Bool → ℕ → (List ℕ → Type 0) → List ℕ → Type 0
 MatchesOn true token more path = 0 < length path
 MatchesOn false token more path = (rest : List ℕ) × (path ≡ token ∷ rest) × more rest

@@ -14,7 +14,7 @@ use Rattle.http_requests.specs.Asking.{asked_of}
 abbrev pub body_of : RequestFront → List ℕ → List ℕ
 body_of request bytes = take request.body (drop request.head bytes)
 
--- a whole request stands at the front, and this is what it asks; `used` counts its head and its body
+-- the bytes begin with a whole request, and this is what it asks; `used` counts its head and its body
 pub record IsGot (bytes : List ℕ) (asked : Asked) (last : Bool) (used : ℕ) : Type 0 where
   pub request : RequestFront
   pub front : IsFront bytes (fronts.Whole request)
@@ -22,7 +22,7 @@ pub record IsGot (bytes : List ℕ) (asked : Asked) (last : Bool) (used : ℕ) :
   pub is_last : last ≡ request.last
   pub uses : used ≡ request.head + request.body
 
--- what the code tells of a whole request at the front
+-- what the code reports of a whole request at the start
 abbrev pub IsGotOf : List ℕ → RequestFront → Heard → Type 0
 IsGotOf bytes request Need = ⊥
 IsGotOf bytes request NoMemory = Unit {0}
@@ -44,7 +44,7 @@ AreNeedAndBad Need (Broken status) = status ≡ bad_request
 AreNeedAndBad (Broken status) Need = status ≡ bad_request
 AreNeedAndBad one other = ⊥
 
--- but for out of memory no other answer is right; within the target a hopeless front may be Need or 400
+-- but for out of memory no other answer is right; within the target a hopeless prefix may be Need or 400
 abbrev pub IsOnlyHeard : List ℕ → Heard → Type 0
 IsOnlyHeard bytes answer =
     (other : Heard) → IsHeard bytes other

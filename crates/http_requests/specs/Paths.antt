@@ -5,7 +5,7 @@ use Rattle.std.specs.Str.{is_utf8}
 use Rattle.std.specs.Str.Parse.{digits_value}
 use Rattle.farm_base.specs.Bytes.{is_all_digits}
 use Rattle.farm_history.specs.declared.query.Query.TheVariants as queries
-use Rattle.farm_http.specs.Limits.{greatest_place, greatest_tank}
+use Rattle.farm_http.specs.Limits.{most_place, most_tank_number}
 use Rattle.matchit.specs.Router.{RouteOf}
 use Rattle.http_requests.specs.Limits.{most_parameter_digits}
 use Rattle.http_requests.specs.declared.resource.Resource.{Resource}
@@ -14,7 +14,7 @@ use Rattle.http_requests.specs.declared.route.Route.{Route}
 use Rattle.http_requests.specs.declared.route.Route.TheVariants as kinds
 use Rattle.http_requests.specs.Routes.{parameter_of, route_of, text_of}
 
--- the path of a target: what stands before its first question mark
+-- the path of a target: what precedes its first question mark
 abbrev pub path_of : List ℕ → List ℕ
 path_of target = before_first (λ byte. byte == 63) target
 
@@ -30,10 +30,10 @@ number_within most text = if is_number text && leb (digits_value 10 text) most t
 unfoldable pub named_by : Route → List ℕ → RouteOf Route → Option Resource
 named_by (kinds.Command word) path route = Some (Command word)
 named_by kinds.Stock path route =
-    option_map (λ tank. Look (queries.Stock tank)) (option_and_then (number_within greatest_tank) (parameter_of (codes "tank") path route))
+    option_map (λ tank. Look (queries.Stock tank)) (option_and_then (number_within most_tank_number) (parameter_of (codes "tank") path route))
 named_by kinds.Total path route = Some (Look queries.Total)
 named_by kinds.Ticket path route =
-    option_map (λ place. Look (queries.Ticket place)) (option_and_then (number_within greatest_place) (parameter_of (codes "place") path route))
+    option_map (λ place. Look (queries.Ticket place)) (option_and_then (number_within most_place) (parameter_of (codes "place") path route))
 
 -- what a path names; nothing if it is no UTF-8, has no route, or its parameter is no number within its limit
 unfoldable pub resource_of : List ℕ → Option Resource
@@ -51,10 +51,10 @@ pub record IsNumberWithin (most : ℕ) (text : List ℕ) (number : ℕ) : Type 0
 abbrev pub IsPathOf : List ℕ → Resource → Type 0
 IsPathOf path (Command word) = path ≡ codes "/" ++ text_of word
 IsPathOf path (Look (queries.Stock tank)) =
-    (parameter : List ℕ) × (path ≡ codes "/stock/" ++ parameter) × IsNumberWithin greatest_tank parameter tank
+    (parameter : List ℕ) × (path ≡ codes "/stock/" ++ parameter) × IsNumberWithin most_tank_number parameter tank
 IsPathOf path (Look queries.Total) = path ≡ codes "/total"
 IsPathOf path (Look (queries.Ticket place)) =
-    (parameter : List ℕ) × (path ≡ codes "/ticket/" ++ parameter) × IsNumberWithin greatest_place parameter place
+    (parameter : List ℕ) × (path ≡ codes "/ticket/" ++ parameter) × IsNumberWithin most_place parameter place
 
 -- a path names something if and only if it is one of these paths
 abbrev pub PathsNameResources : Type 0

@@ -2,7 +2,7 @@
 
 ghost use Rattle.std.specs.Prelude.{◌≡◌, ◌==◌, ◌≤◌, position, IfSome, option_map};
 ghost use Rattle.farm_history.specs.declared.query.Query.TheVariants as queries;
-ghost use Rattle.farm_http.specs.Limits.{greatest_place, greatest_tank};
+ghost use Rattle.farm_http.specs.Limits.{most_place, most_tank_number};
 ghost use Rattle.matchit.specs.Params.{AllText, walk};
 ghost use Rattle.http_requests.specs.declared.resource.Resource.TheVariants as resources;
 ghost use Rattle.http_requests.specs.Paths.{named_by, number_within, path_of};
@@ -12,10 +12,10 @@ use crate::resource::Resource;
 use crate::route::Route;
 use farm_base::is_all_digits;
 use farm_history::Query;
-use farm_http::{GREATEST_PLACE, GREATEST_TANK};
+use farm_http::{MOST_PLACE, MOST_TANK_NUMBER};
 use matchit::Params;
 
-// The path of a target: what stands before its first question mark.
+// The path of a target: what precedes its first question mark.
 pub(crate) fn path_of(target: &[u8]) -> &[u8]
     ensures { result.now ≡ path_of target.now }
 {
@@ -53,17 +53,17 @@ pub(crate) fn named_by(kind: Route, params: &Params<'_, '_>) -> Option<Resource>
 
 // The book of the tank that a parameter is.
 fn stock_of(parameter: &str) -> Option<Resource>
-    ensures { result ≡ option_map (λ tank. resources.Look (queries.Stock tank)) (number_within greatest_tank parameter.now) }
+    ensures { result ≡ option_map (λ tank. resources.Look (queries.Stock tank)) (number_within most_tank_number parameter.now) }
 {
-    let tank = number_within(parameter, u64::from(GREATEST_TANK))?;
+    let tank = number_within(parameter, u64::from(MOST_TANK_NUMBER))?;
     Some(Resource::Look(Query::Stock(tank as u16)))
 }
 
 // The ticket at the place that a parameter is.
 fn ticket_of(parameter: &str) -> Option<Resource>
-    ensures { result ≡ option_map (λ place. resources.Look (queries.Ticket place)) (number_within greatest_place parameter.now) }
+    ensures { result ≡ option_map (λ place. resources.Look (queries.Ticket place)) (number_within most_place parameter.now) }
 {
-    let place = number_within(parameter, u64::from(GREATEST_PLACE))?;
+    let place = number_within(parameter, u64::from(MOST_PLACE))?;
     Some(Resource::Look(Query::Ticket(place as u32)))
 }
 

@@ -1,4 +1,4 @@
--- What each image stands for over the steps in which a request is answered.
+-- What each image encodes over the steps in which a request is answered.
 use Rattle.std.proofs.Common.{◌≡◌, ◌∙◌, ℕ, Bool, false, List, Option, sym, ap, subst}
 use Rattle.farm_book.specs.Kept.{Kept}
 use Rattle.farm_disk.specs.Images.{State}

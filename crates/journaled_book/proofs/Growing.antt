@@ -1,4 +1,4 @@
--- Which history bytes stand for as a history grows.
+-- Which history bytes encode as a history grows.
 use Rattle.std.proofs.Common.{◌≡◌, ◌∙◌, ℕ, ◌-◌, ◌≤◌, Bool, true, false, List, [], ◌∷◌, ◌++◌, length, take, drop, map, sym, ap, subst, inl, inr, ⊎_elim, arith, length-append}
 use Rattle.std.proofs.Math.Seq.{take-append_seam, take-length}
 use Rattle.std.proofs.lemmas.List.{length-take, map-append, take-append-drop, take-append-le}
@@ -14,7 +14,7 @@ use Rattle.farm_journal.specs.Standing.{IsEither}
 use Rattle.site_encoding.specs.Encoding.{site_encoding}
 use Rattle.journaled_book.specs.Histories.{HasGrown, IsRecordable, Recovers, RecoversAtLeast, RecoversFront, RecoversNow, certain, front_of}
 
--- a journal that may keep a history may keep its front
+-- a journal that may keep a history may keep each prefix of it
 pub front_recordable : (limit : ℕ) (history : History) (count : ℕ) → IsRecordable limit history → IsRecordable limit (front_of history count)
 front_recordable limit history count is = record {
   site = is.site;
@@ -31,7 +31,7 @@ more_recordable limit history entry is next typed = record {
   typed = All-push IsTyped history.entries entry is.typed typed;
 }
 
--- a journal of the first entries of a history stands for that front of it
+-- a journal of the first entries of a history encodes that prefix of it
 pub stands_for_front : (limit : ℕ) (history : History) (count least : ℕ) (bytes : List ℕ) → IsRecordable limit history → least ≤ count →
     count ≤ last_place history → IsJournalOf (site_encoding history.site) (map entry_encoding (take count history.entries)) bytes →
     RecoversFront limit history least bytes
@@ -42,7 +42,7 @@ stands_for_front limit history count least bytes recordable least_is most journa
   recovers = record { journal = journal; recordable = front_recordable limit history count recordable };
 }
 
--- what stands for a history stands for a prefix of it
+-- what encodes a history encodes a prefix of it
 pub whole_is_front : (limit : ℕ) (history : History) (least : ℕ) (bytes : List ℕ) → least ≤ last_place history → Recovers limit history bytes →
     RecoversFront limit history least bytes
 whole_is_front limit history least bytes least_is recovers =
@@ -54,7 +54,7 @@ whole_is_front limit history least bytes least_is recovers =
 pub encodings_more : (front : List Entry) (last : Entry) → map entry_encoding (front ++ last ∷ []) ≡ map entry_encoding front ++ entry_encoding last ∷ []
 encodings_more front last = map-append entry_encoding front (last ∷ [])
 
--- how many entries there are but for the last one
+-- the number of entries without the last one
 pub one_less : (history : History) (front : List Entry) (last : Entry) → history.entries ≡ front ++ last ∷ [] → length front ≡ last_place history - 1
 one_less history front last split = omega (arith, ap length split, length-append front (last ∷ []))
 
@@ -64,7 +64,7 @@ pub all_but_last : (history : History) (front : List Entry) (last : Entry) → h
 all_but_last history front last split =
     ap (λ count. take count history.entries) (sym (one_less history front last split)) ∙ ap (take (length front)) split ∙ take-append_seam front (last ∷ [])
 
--- a journal of the entries but for the last one, or of them all, stands for a history whose last entry is in doubt
+-- a journal of the entries but for the last one, or of them all, encodes a history whose last entry is in doubt
 pub either_now : (limit : ℕ) (history : History) (front : List Entry) (last : Entry) (bytes : List ℕ) → history.entries ≡ front ++ last ∷ [] →
     IsRecordable limit history → IsEither (site_encoding history.site) (map entry_encoding front) (entry_encoding last) bytes → RecoversNow limit true history bytes
 either_now limit history front last bytes split recordable either =
@@ -80,7 +80,7 @@ either_now limit history front last bytes split recordable either =
     }))
     either
 
--- what stands for a history now stands for a prefix of it with the entries that aren't in doubt
+-- what encodes a history now encodes a prefix of it with the entries that aren't in doubt
 pub now_is_front : (limit : ℕ) (doubt : Bool) (history : History) (bytes : List ℕ) → RecoversNow limit doubt history bytes →
     RecoversFront limit history (certain doubt history) bytes
 now_is_front limit false history bytes recovers = whole_is_front limit history (last_place history) bytes (omega arith) recovers
@@ -95,7 +95,7 @@ now_is_front limit true history bytes recovers =
     })
     recovers
 
--- what stands for a history stands for a prefix of it with one entry more
+-- what encodes a history encodes a prefix of it with one entry more
 pub whole_is_front_of_more : (limit : ℕ) (history : History) (entry : Entry) (bytes : List ℕ) → Recovers limit history bytes →
     RecoversFront limit (with_entry history entry) (last_place history) bytes
 whole_is_front_of_more limit history entry bytes recovers =
@@ -107,7 +107,7 @@ whole_is_front_of_more limit history entry bytes recovers =
       recovers = subst Of (sym (take-append_seam history.entries (entry ∷ []))) recovers;
     }
 
--- what stands for a prefix of a history stands for one of a history that has grown
+-- what encodes a prefix of a history encodes a prefix of that history once it has grown
 pub front_of_grown : (limit : ℕ) (old new : History) (least : ℕ) (bytes : List ℕ) → HasGrown old new → RecoversFront limit old least bytes →
     RecoversFront limit new least bytes
 front_of_grown limit old new least bytes (inl same) front = subst (λ (history : History). RecoversFront limit history least bytes) (sym same) front

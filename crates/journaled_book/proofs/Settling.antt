@@ -15,7 +15,7 @@ use Rattle.journaled_book.specs.Records.{AreRecords, IsLastPending}
 use Rattle.journaled_book.proofs.Growing.{either_now, encodings_more, more_recordable, now_is_front}
 use Rattle.journaled_book.proofs.Traces.{now_weaker, since_now, since_weaker}
 
--- each image now stands for the history, or, with its last entry in doubt, for that or for the history without it
+-- each image now encodes the history or, with its last entry in doubt, that or the history without it
 pub records_now : {D : Type 0} (trace : D → Option (List State)) (limit : ℕ) (doubt : Bool) (history : History) (journal : JournalState D) →
     AreRecords trace limit doubt history journal → EachNow (trace journal.disk) (RecoversNow limit doubt history)
 records_now trace limit false history journal kept =
@@ -28,7 +28,7 @@ records_now trace limit true history journal kept =
     (λ image either. either_now limit history pending.front pending.last image pending.split kept.recordable either)
     (stands_on_each trace (site_encoding history.site) (map entry_encoding pending.front) (Some (entry_encoding pending.last)) journal pending.stands)
 
--- over no call each image stands for a prefix of the history with the entries that aren't in doubt
+-- over no call each image encodes a prefix of the history with the entries that aren't in doubt
 pub records_since : {D : Type 0} (trace : D → Option (List State)) (limit : ℕ) (doubt : Bool) (history : History) (journal : JournalState D) →
     AreRecords trace limit doubt history journal →
     EachSince (trace journal.disk) (trace journal.disk) (RecoversFront limit history (certain doubt history))

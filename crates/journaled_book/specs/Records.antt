@@ -4,7 +4,7 @@ use Rattle.farm_disk.specs.Images.{State}
 use Rattle.farm_book.specs.Kept.{Kept}
 use Rattle.farm_history.specs.Encoding.{IsTyped, entry_encoding}
 use Rattle.farm_history.specs.History.{History, last_place}
-use Rattle.farm_history.specs.Limits.{greatest_limit, most_entry_bytes, stops_beyond_limit}
+use Rattle.farm_history.specs.Limits.{most_limit, most_entry_bytes, stops_beyond_limit}
 use Rattle.farm_history.specs.declared.entry.Entry.{Entry}
 use Rattle.farm_journal.specs.Standing.{JournalState, Stands}
 use Rattle.site_encoding.specs.Encoding.{site_encoding}
@@ -17,7 +17,7 @@ pub record IsLastPending {D : Type 0} (trace : D → Option (List State)) (histo
   pub split : history.entries ≡ front ++ last ∷ []
   pub stands : Stands trace (site_encoding history.site) (map entry_encoding front) (Some (entry_encoding last)) journal
 
--- a journal has the entries of a history, where the last one is in doubt or isn't
+-- a journal has the entries of a history, by whether the last one is in doubt
 abbrev pub Keeps : {D : Type 0} → (D → Option (List State)) → Bool → History → JournalState D → Type 0
 Keeps trace false history journal = Stands trace (site_encoding history.site) (entry_encodings history) None journal
 Keeps trace true history journal = IsLastPending trace history journal
@@ -34,5 +34,5 @@ pub record IsReady (limit : ℕ) (entry : Entry) (book : Kept) (bytes : List ℕ
   pub room_is : length bytes ≤ room
   pub few : length bytes ≤ most_entry_bytes
   pub typed : IsTyped entry
-  pub limit_within : limit ≤ greatest_limit
+  pub limit_within : limit ≤ most_limit
   pub places : last_place book.history ≤ limit + stops_beyond_limit

@@ -20,7 +20,7 @@ pub enum Answer {
 }
 
 impl Answer {
-    /// How many faults of the disk it stands for: 1 for `DiskFault`, else 0.
+    /// How many faults of the disk it reports: 1 for `DiskFault`, else 0.
     pub fn faults(&self) -> u64
         ensures faults { result ≡ faults_of self.now }
     {

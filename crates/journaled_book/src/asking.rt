@@ -2,8 +2,8 @@
 //! entered.
 
 ghost use Rattle.std.specs.Prelude.{◌≡◌, ◌≢◌, ◌≤◌, ◌≤ℤ◌, Err, false};
-ghost use Rattle.farm_base.specs.Counts.{Rose, raised};
-ghost use Rattle.farm_disk.specs.Runs.{EachSince, Extends};
+ghost use Rattle.farm_base.specs.Counts.{CountsOnceIf};
+ghost use Rattle.farm_disk.specs.Runs.{EachSince, MovesOn};
 ghost use Rattle.farm_history.specs.Commands.{IsWellFormedCommand};
 ghost use Rattle.farm_history.specs.Desk.{IsWellFormedAsk, answered_on, brought_into_range, desk_answer, later_of, stamped};
 ghost use Rattle.farm_history.specs.History.{IsMoment, IsWellFormed, last_moment, last_place};
@@ -35,12 +35,8 @@ impl<D: Disk, const LIMIT: usize> Records<D, LIMIT> {
         ensures unwritten { self.old.doubt ≡ false → result ≡ Err NoReply.NoMemory → self.new.journal.disk ≡ self.old.journal.disk }
         ensures images { EachSince (D.trace self.old.journal.disk) (D.trace self.new.journal.disk)
             (RecoversFront LIMIT self.new.book.history (certain self.old.doubt self.old.book.history)) }
-        ensures extends { Extends (D.trace self.old.journal.disk) (D.trace self.new.journal.disk) }
-        ensures moment { D.moment self.old.journal.disk ≤ D.moment self.new.journal.disk }
-        ensures never_falls { D.faults self.old.journal.disk ≤ D.faults self.new.journal.disk }
-        ensures cause { result ≡ Err NoReply.DiskFault → Rose (D.faults self.old.journal.disk) (D.faults self.new.journal.disk) }
-        ensures quiet { result ≢ Err NoReply.DiskFault → D.faults self.new.journal.disk ≡ D.faults self.old.journal.disk }
-        ensures once { result ≡ Err NoReply.DiskFault → D.faults self.new.journal.disk ≡ raised 1 (D.faults self.old.journal.disk) }
+        ensures moves { MovesOn (D.trace self.old.journal.disk) (D.trace self.new.journal.disk) (D.moment self.old.journal.disk) (D.moment self.new.journal.disk) }
+        ensures counts { CountsOnceIf (result ≡ Err NoReply.DiskFault) (D.faults self.old.journal.disk) (D.faults self.new.journal.disk) }
     {
         self.settle()?;
         match ask {
@@ -69,7 +65,7 @@ impl<D: Disk, const LIMIT: usize> Records<D, LIMIT> {
         }
     }
 
-    // Judges an entry that nothing in doubt stands before, and enters it where it is accepted.
+    // Judges an entry with nothing in doubt before it, and enters it if it is accepted.
     fn judge_and_enter(&mut self, entry: Entry) -> Result<Reply, NoReply>
         requires well_formed { IsWellFormed entry }
         requires moment { last_moment self.old.book.history ≤ℤ entry.at }
@@ -85,12 +81,8 @@ impl<D: Disk, const LIMIT: usize> Records<D, LIMIT> {
         ensures unwritten { result ≡ Err NoReply.NoMemory → self.new.journal.disk ≡ self.old.journal.disk }
         ensures images { EachSince (D.trace self.old.journal.disk) (D.trace self.new.journal.disk)
             (RecoversFront LIMIT self.new.book.history (last_place self.old.book.history)) }
-        ensures extends { Extends (D.trace self.old.journal.disk) (D.trace self.new.journal.disk) }
-        ensures moment { D.moment self.old.journal.disk ≤ D.moment self.new.journal.disk }
-        ensures never_falls { D.faults self.old.journal.disk ≤ D.faults self.new.journal.disk }
-        ensures cause { result ≡ Err NoReply.DiskFault → Rose (D.faults self.old.journal.disk) (D.faults self.new.journal.disk) }
-        ensures quiet { result ≢ Err NoReply.DiskFault → D.faults self.new.journal.disk ≡ D.faults self.old.journal.disk }
-        ensures once { result ≡ Err NoReply.DiskFault → D.faults self.new.journal.disk ≡ raised 1 (D.faults self.old.journal.disk) }
+        ensures moves { MovesOn (D.trace self.old.journal.disk) (D.trace self.new.journal.disk) (D.moment self.old.journal.disk) (D.moment self.new.journal.disk) }
+        ensures counts { CountsOnceIf (result ≡ Err NoReply.DiskFault) (D.faults self.old.journal.disk) (D.faults self.new.journal.disk) }
     {
         match self.book.judge(&entry) {
             Verdict::Repeat(place) => Ok(self.book.reply_at(place)),
@@ -104,7 +96,7 @@ impl<D: Disk, const LIMIT: usize> Records<D, LIMIT> {
     }
 }
 
-// The moment of a further entry: the clock's number brought into the range of moments, or the last moment where that is later.
+// The moment of a further entry: the clock's number brought into the range of moments, or the last moment if that is later.
 fn stamped_moment(last: i64, now: i64) -> i64
     requires last { IsMoment last }
     ensures moment { result ≡ later_of last (brought_into_range now) }

@@ -1,8 +1,8 @@
 //! A book and its journal, and the steps in which a command is entered in both.
 
 ghost use Rattle.std.specs.Prelude.{◌≡◌, ◌≤◌, false, true, Some, IfOk, OnErr, OnOk, is_err};
-ghost use Rattle.farm_base.specs.Counts.{HasCause, raised};
-ghost use Rattle.farm_disk.specs.Runs.{EachSince, Extends};
+ghost use Rattle.farm_base.specs.Counts.{CountsOnce};
+ghost use Rattle.farm_disk.specs.Runs.{EachSince, MovesOn};
 ghost use Rattle.farm_history.specs.Desk.{reply_at};
 ghost use Rattle.farm_history.specs.Encoding.{IsTyped, entry_encoding};
 ghost use Rattle.farm_history.specs.History.{IsWellFormed, last_place, with_entry};
@@ -32,7 +32,7 @@ pub struct Records<D: Disk, const LIMIT: usize> {
 }
 
 impl<D: Disk, const LIMIT: usize> Records<D, LIMIT> {
-    /// Opens the gate of an entry in doubt. Where none is in doubt it makes no call.
+    /// Opens the gate of an entry in doubt. If none is in doubt, it makes no call.
     pub fn settle(&mut self) -> Result<(), DiskFault>
         requires kept { AreRecords D.trace LIMIT self.old.doubt self.old.book.history self.old.journal }
         ensures kept { AreRecords D.trace LIMIT self.new.doubt self.new.book.history self.new.journal }
@@ -41,11 +41,8 @@ impl<D: Disk, const LIMIT: usize> Records<D, LIMIT> {
         ensures untouched { self.old.doubt ≡ false → (self.new.journal ≡ self.old.journal) × (self.new.doubt ≡ false) }
         ensures images { EachSince (D.trace self.old.journal.disk) (D.trace self.new.journal.disk)
             (RecoversFront LIMIT self.old.book.history (certain self.old.doubt self.old.book.history)) }
-        ensures extends { Extends (D.trace self.old.journal.disk) (D.trace self.new.journal.disk) }
-        ensures moment { D.moment self.old.journal.disk ≤ D.moment self.new.journal.disk }
-        ensures cause { HasCause (D.faults self.old.journal.disk) (D.faults self.new.journal.disk) result }
-        ensures quiet { OnOk result (D.faults self.new.journal.disk ≡ D.faults self.old.journal.disk) }
-        ensures once { OnErr result (D.faults self.new.journal.disk ≡ raised 1 (D.faults self.old.journal.disk)) }
+        ensures moves { MovesOn (D.trace self.old.journal.disk) (D.trace self.new.journal.disk) (D.moment self.old.journal.disk) (D.moment self.new.journal.disk) }
+        ensures counts { CountsOnce (D.faults self.old.journal.disk) (D.faults self.new.journal.disk) result }
     {
         if self.doubt {
             self.journal.open_gate()?;
@@ -80,11 +77,8 @@ impl<D: Disk, const LIMIT: usize> Records<D, LIMIT> {
         ensures book { self.new.book ≡ self.old.book }
         ensures doubt { self.new.doubt ≡ self.old.doubt }
         ensures images { EachSince (D.trace self.old.journal.disk) (D.trace self.new.journal.disk) (Recovers LIMIT self.old.book.history) }
-        ensures extends { Extends (D.trace self.old.journal.disk) (D.trace self.new.journal.disk) }
-        ensures moment { D.moment self.old.journal.disk ≤ D.moment self.new.journal.disk }
-        ensures cause { HasCause (D.faults self.old.journal.disk) (D.faults self.new.journal.disk) result }
-        ensures quiet { OnOk result (D.faults self.new.journal.disk ≡ D.faults self.old.journal.disk) }
-        ensures once { OnErr result (D.faults self.new.journal.disk ≡ raised 1 (D.faults self.old.journal.disk)) }
+        ensures moves { MovesOn (D.trace self.old.journal.disk) (D.trace self.new.journal.disk) (D.moment self.old.journal.disk) (D.moment self.new.journal.disk) }
+        ensures counts { CountsOnce (D.faults self.old.journal.disk) (D.faults self.new.journal.disk) result }
     {
         self.journal.put_body(&self.bytes)
     }
@@ -103,11 +97,8 @@ impl<D: Disk, const LIMIT: usize> Records<D, LIMIT> {
         ensures settled { self.new.doubt ≡ is_err result }
         ensures images { EachSince (D.trace self.old.journal.disk) (D.trace self.new.journal.disk)
             (RecoversFront LIMIT self.new.book.history (last_place self.old.book.history)) }
-        ensures extends { Extends (D.trace self.old.journal.disk) (D.trace self.new.journal.disk) }
-        ensures moment { D.moment self.old.journal.disk ≤ D.moment self.new.journal.disk }
-        ensures cause { HasCause (D.faults self.old.journal.disk) (D.faults self.new.journal.disk) result }
-        ensures quiet { OnOk result (D.faults self.new.journal.disk ≡ D.faults self.old.journal.disk) }
-        ensures once { OnErr result (D.faults self.new.journal.disk ≡ raised 1 (D.faults self.old.journal.disk)) }
+        ensures moves { MovesOn (D.trace self.old.journal.disk) (D.trace self.new.journal.disk) (D.moment self.old.journal.disk) (D.moment self.new.journal.disk) }
+        ensures counts { CountsOnce (D.faults self.old.journal.disk) (D.faults self.new.journal.disk) result }
     {
         let reply = self.book.commit(entry);
         self.doubt = true;

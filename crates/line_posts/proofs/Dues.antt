@@ -52,7 +52,7 @@ submits_nothing polled (Exception index code) gauge its none = (refl, refl)
 submits_nothing polled (Wrong index field) gauge its none = (refl, refl)
 submits_nothing polled (LinkFault index) gauge its none = (refl, refl)
 
--- an answer has the reading of which it is said
+-- an answer has the reading that it is said to have
 pub reading_is : (polled : PollerState) (answer : Polled) (index : ℕ) (raw : Raw) → HasDueReading polled answer (Some (index, raw)) → answer ≡ Value index raw
 unfolding HasDueReading
 reading_is polled answer index raw has = has.0

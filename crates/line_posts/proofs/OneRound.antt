@@ -95,7 +95,7 @@ proceeds_from may_follow may_give limit first between count middle new calls req
     is proceeds in
     subst (λ (number : ℕ). Proceeds may_follow may_give limit (asks_of first) number middle new calls requests polls) (omega arith) there
 
--- a round goes on by one poll
+-- a round continues by one poll
 pub polls_on : (may_follow : History → History → Type 0) → AreFollowers may_follow → (may_give : ℤ → Type 0) (limit : ℕ) (first between after : Submitter) (old middle new : LineState) (done : ℕ) →
     IsPolling may_follow may_give limit first between old middle done → PollsOne may_follow may_give limit between after middle new →
     done < length old.poller.line.gauges → new.poller.next ≡ index_after middle.poller.next (length middle.poller.line.gauges) →

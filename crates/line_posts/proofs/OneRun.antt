@@ -136,7 +136,7 @@ round_after_pause may_follow laws may_give limit first between after submitted m
     let both = proceeds_add_up may_follow laws may_give limit (asks_of between) (between.count + 1) middle rested new pauses calls [] requests [] polls pause after_pause in
     proceeds_from may_follow may_give limit first between submitted middle new (pauses ++ calls) requests polls counted both
 
--- a run goes on by one round
+-- a run continues by one round
 pub runs_on : (may_follow : History → History → Type 0) → AreFollowers may_follow → (may_give : ℤ → Type 0) (limit : ℕ) (first between after : Submitter) (old middle rested new : LineState) (done : ℕ) →
     (running : IsRunning may_follow may_give limit first between old middle done) → AddsCalls middle.calls rested.calls (pauses_before done) →
     rested.faults ≡ middle.faults → rested.poller ≡ middle.poller → rested.access ≡ middle.access →

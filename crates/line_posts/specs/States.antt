@@ -11,7 +11,7 @@ use Rattle.desk_access.specs.Access.{CallerState}
 use Rattle.line_posts.specs.Polls.{Poll, link_faults_in}
 use Rattle.line_posts.specs.Requests.{AreJudged, Request, Requests}
 
--- How a line stands: the calls that its link took, where they are known, and the link's count of faults; its poller; and its caller's access
+-- How a line stands: the calls that its link took, if they are known, and the link's count of faults; its poller; and its caller's access
 -- to the desk.
 pub record LineState : Type 0 where
   pub calls : Option (List LinkCall)

@@ -8,7 +8,7 @@ use crate::{GaugeMap, Raw};
 
 /// Whether nothing was submitted yet of a gauge, or a reading differs from the last submitted by at least a deadband.
 #[tactic(auto, using(crate::proofs::Due::due_means))]
-pub fn is_due(gauge: &GaugeMap, last: &Option<Raw>, raw: &Raw) -> bool
+pub(crate) fn is_due(gauge: &GaugeMap, last: &Option<Raw>, raw: &Raw) -> bool
     ensures value { result ≡ is_due gauge.now last.now raw.now }
     ensures meaning { (result ≡ true) ↔ IsDue gauge.now last.now raw.now }
 {

@@ -12,7 +12,7 @@ use farm_rounding::{Mode, nearest, product};
 ///
 /// The gauge's map is one that a site may have. Registers past the last one count as 0.
 #[tactic(auto, unfolding(crate::specs::Decoding::raw_reading))]
-pub fn raw_reading(gauge: &GaugeMap, words: &[u16]) -> Raw
+pub(crate) fn raw_reading(gauge: &GaugeMap, words: &[u16]) -> Raw
     requires map { IsTrue (is_gauge_map gauge.now) }
     ensures reading { result ≡ raw_reading gauge.now words.now }
 {
@@ -26,7 +26,7 @@ pub fn raw_reading(gauge: &GaugeMap, words: &[u16]) -> Raw
 }
 
 /// Whether the bit is 1 that says that a reading is valid; true where a gauge has none.
-pub fn is_valid(valid: Option<Valid>, words: &[u16]) -> bool
+pub(crate) fn is_valid(valid: Option<Valid>, words: &[u16]) -> bool
     requires bit { IfSome valid (λ valid. valid.bit < 16) }
     ensures valid { result ≡ is_valid valid words.now }
 {

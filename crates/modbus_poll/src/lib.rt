@@ -15,8 +15,8 @@ mod receiving;
 mod sending;
 
 pub use gauge_maps::{
-    Field, GREATEST_PORT, GREATEST_UNIT, GaugeMap, Gauges, HIGHEST_BIT, Host, LONGEST_HOST,
-    LineMap, MOST_DEADBAND, MOST_GAUGES, MOST_MULTIPLIER, MOST_WORDS, REGISTERS, Valid,
+    Field, GaugeMap, Gauges, Host, LineMap, MOST_BIT, MOST_DEADBAND, MOST_GAUGES, MOST_HOST_BYTES,
+    MOST_MULTIPLIER, MOST_PORT, MOST_UNIT, MOST_WORDS, REGISTERS, Valid,
 };
 pub use polled::Polled;
 pub use poller::Poller;

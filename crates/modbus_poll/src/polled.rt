@@ -24,7 +24,7 @@ pub enum Polled {
 }
 
 /// A response as a poll's answer.
-pub fn polled_of(gauge: &GaugeMap, index: usize, frame: &Frame) -> Polled
+pub(crate) fn polled_of(gauge: &GaugeMap, index: usize, frame: &Frame) -> Polled
     requires map { IsTrue (is_gauge_map gauge.now) }
     ensures { result ≡ polled_of gauge.now index frame.now }
 {
@@ -49,7 +49,7 @@ fn valued(gauge: &GaugeMap, index: usize, words: &[u16]) -> Polled
 }
 
 /// Whether an answer leaves the connection as it is.
-pub fn keeps_connection(answer: &Polled) -> bool
+pub(crate) fn keeps_connection(answer: &Polled) -> bool
     ensures { result ≡ keeps_connection answer.now }
 {
     !matches!(answer, Polled::Wrong(_, _) | Polled::LinkFault(_))

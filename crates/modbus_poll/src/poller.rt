@@ -1,7 +1,7 @@
 //! The poller of a line.
 
 ghost use Rattle.std.specs.Prelude.{◌≡◌, ◌↔◌, ◌<◌, ◌≤◌, false, true, length, IfOk, IsTrue, OnOk};
-ghost use Rattle.farm_base.specs.Counts.{HasCause, Rose};
+ghost use Rattle.farm_base.specs.Counts.{Counts, CountsIf};
 ghost use Rattle.gauge_maps.specs.declared.map.GaugeMap.{GaugeMap};
 ghost use Rattle.modbus_poll.specs.Deadbands.{IsDue, is_due};
 ghost use Rattle.gauge_maps.specs.Maps.{is_gauge_map, is_line_map};
@@ -60,9 +60,7 @@ impl Poller {
         ensures poll { Polls (L.calls link.old) (L.calls link.new) self.old self.new result }
         ensures position { index_of result ≡ self.old.next }
         ensures inside { index_of result < length self.new.line.gauges }
-        ensures never_falls { L.faults link.old ≤ L.faults link.new }
-        ensures fault { IsLinkFault result → Rose (L.faults link.old) (L.faults link.new) }
-        ensures quiet { ¬ (IsLinkFault result) → L.faults link.new ≡ L.faults link.old }
+        ensures counts { CountsIf (IsLinkFault result) (L.faults link.old) (L.faults link.new) }
         ensures connected { self.new.connected ≡ keeps_connection result }
         ensures line { self.new.line ≡ self.old.line }
         ensures last { self.new.last ≡ self.old.last }
@@ -97,9 +95,7 @@ impl Poller {
     // Asks the gauge whose turn it is; the answer, and the number of the next transaction.
     fn ask<L: Link>(&self, link: &mut L) -> (Polled, u16)
         ensures asks { Asks (L.calls link.old) (L.calls link.new) self.now result }
-        ensures never_falls { L.faults link.old ≤ L.faults link.new }
-        ensures fault { IsLinkFault result.0 → Rose (L.faults link.old) (L.faults link.new) }
-        ensures quiet { ¬ (IsLinkFault result.0) → L.faults link.new ≡ L.faults link.old }
+        ensures counts { CountsIf (IsLinkFault result.0) (L.faults link.old) (L.faults link.new) }
         ensures position { index_of result.0 ≡ self.now.next }
     {
         let gauge = self.gauge();
@@ -124,8 +120,7 @@ impl Poller {
     // Connects where there is no connection.
     fn connect<L: Link>(&self, link: &mut L) -> Result<(), Failed>
         ensures calls { ConnectsFirst (L.calls link.old) (L.calls link.new) self.now result }
-        ensures cause { HasCause (L.faults link.old) (L.faults link.new) result }
-        ensures quiet { OnOk result (L.faults link.new ≡ L.faults link.old) }
+        ensures counts { Counts (L.faults link.old) (L.faults link.new) result }
     {
         if self.connected {
             return Ok(());

@@ -1,7 +1,7 @@
 //! Receiving a response.
 
 ghost use Rattle.std.specs.Prelude.{◌≡◌, ◌+◌, ◌≤◌, length, OnOk};
-ghost use Rattle.farm_base.specs.Counts.{HasCause};
+ghost use Rattle.farm_base.specs.Counts.{Counts};
 ghost use Rattle.modbus_frame.specs.Requests.{IsExpect};
 ghost use Rattle.modbus_poll.specs.Pieces.{ReceivesPiece, ReceivesResponse};
 
@@ -12,11 +12,10 @@ use modbus_frame::{Expect, Frame, read_response};
 const ROOM: usize = 260;
 
 /// Receives a response up to where it is decided what it is, and never more bytes than it still needs.
-pub fn receive<L: Link>(link: &mut L, expect: &Expect) -> Result<Frame, Failed>
+pub(crate) fn receive<L: Link>(link: &mut L, expect: &Expect) -> Result<Frame, Failed>
     requires expect { IsExpect expect.now }
     ensures calls { ReceivesResponse (L.calls link.old) (L.calls link.new) expect.now result }
-    ensures cause { HasCause (L.faults link.old) (L.faults link.new) result }
-    ensures quiet { OnOk result (L.faults link.new ≡ L.faults link.old) }
+    ensures counts { Counts (L.faults link.old) (L.faults link.new) result }
 {
     let mut buffer = [0; ROOM];
     let mut len = 0;
@@ -39,8 +38,7 @@ fn receive_piece<L: Link>(
     requires room { offset + most ≤ length buffer.old }
     ensures piece { ReceivesPiece (L.calls link.old) (L.calls link.new) buffer.old buffer.new offset most result }
     ensures room { length buffer.new ≡ length buffer.old }
-    ensures cause { HasCause (L.faults link.old) (L.faults link.new) result }
-    ensures quiet { OnOk result (L.faults link.new ≡ L.faults link.old) }
+    ensures counts { Counts (L.faults link.old) (L.faults link.new) result }
 {
     link.recv(&mut buffer[offset..offset + most])
 }

@@ -1,16 +1,15 @@
 //! Sending a request.
 
 ghost use Rattle.std.specs.Prelude.{◌≡◌, OnOk};
-ghost use Rattle.farm_base.specs.Counts.{HasCause};
+ghost use Rattle.farm_base.specs.Counts.{Counts};
 ghost use Rattle.modbus_poll.specs.Pieces.{SendsRequest};
 
 use farm_ports::{Failed, Link};
 
 /// Sends a request whole, or fails with a prefix of it sent.
-pub fn send_whole<L: Link>(link: &mut L, request: &[u8]) -> Result<(), Failed>
+pub(crate) fn send_whole<L: Link>(link: &mut L, request: &[u8]) -> Result<(), Failed>
     ensures calls { SendsRequest (L.calls link.old) (L.calls link.new) request.now result }
-    ensures cause { HasCause (L.faults link.old) (L.faults link.new) result }
-    ensures quiet { OnOk result (L.faults link.new ≡ L.faults link.old) }
+    ensures counts { Counts (L.faults link.old) (L.faults link.new) result }
 {
     let mut done = 0;
     while done < request.len() {

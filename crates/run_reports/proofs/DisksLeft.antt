@@ -21,7 +21,7 @@ surer_after false true history follows = let no : true ≡ false = follows refl 
 surer_after true false history follows = omega arith
 surer_after true true history follows = omega arith
 
--- the last opening of a gate counted one fault where it failed, and else none
+-- the last opening of a gate counted one fault if it failed, and else none
 counted_at_end : (doubt : Bool) (before now : ℕ) → (doubt ≡ true → now ≡ raised 1 before) → (doubt ≡ false → now ≡ before) →
     now ≡ raised (faults_at_end doubt) before
 counted_at_end true before now once quiet = once refl
@@ -64,7 +64,7 @@ later_more old middle new first second third count_first count_second count_thir
   never_falls = omega (arith, earlier.never_falls, later.never_falls);
 }
 
--- what holds of a disk that is handed back holds of it where it follows
+-- what holds of a disk that is handed back holds of it if it follows
 pub handed_back : {X : Type 0} (P Q : X → Type 0) (left : Option X) → ((x : X) → P x → Q x) → IfSome left P → IfSome left Q
 handed_back P Q None follows holds = tt
 handed_back P Q (Some x) follows holds = follows x holds

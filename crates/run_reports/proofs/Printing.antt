@@ -1,7 +1,7 @@
 -- What was printed, from what each put added.
 use Rattle.std.proofs.Common.{◌≡◌, ℕ, zero, suc, ◌≤◌, List, [], ◌∷◌, ◌++◌, length, take, append-nil, Option, Result, Ok, Err, refl, sym, subst, arith}
 use Rattle.std.proofs.Math.Seq.{take-length}
-use Rattle.farm_base.specs.Counts.{Rose, HasCause}
+use Rattle.farm_base.specs.Counts.{Counts, Rose}
 use Rattle.farm_base.specs.Known.{Adds, AddsAll, Fronts}
 use Rattle.farm_base.proofs.Additions.{additions_add_up}
 use Rattle.farm_ports.specs.Ports.{PutsAll}
@@ -18,9 +18,9 @@ output_with old new before now = record { old = old; new = new; count = record {
 
 -- what one put of all of a text did
 pub puts_from_put : {T E : Type 0} (old new : Option (List ℕ)) (before now : ℕ) (text : List ℕ) (result : Result T E) →
-    PutsAll old new text result → HasCause before now result → Puts (output_with old new before now) text
-puts_from_put old new before now text (Ok done) bytes cause = record { front = whole_front old new text bytes; whole = λ _. bytes }
-puts_from_put old new before now text (Err e) bytes cause = record { front = bytes; whole = λ quiet. absurd (quiet cause.failed) }
+    PutsAll old new text result → Counts before now result → Puts (output_with old new before now) text
+puts_from_put old new before now text (Ok done) bytes counts = record { front = whole_front old new text bytes; whole = λ _. bytes }
+puts_from_put old new before now text (Err e) bytes counts = record { front = bytes; whole = λ quiet. absurd (quiet counts.failed) }
 
 -- nothing is a prefix of each text
 no_fronts : (texts others : List (List ℕ)) (bytes : List ℕ) → Fronts others bytes → Fronts (texts ++ others) bytes
@@ -36,7 +36,7 @@ all_none (text ∷ texts) = (0, omega arith, [], refl, all_none texts)
 one_front : (n : ℕ) (text : List ℕ) → n ≤ length text → Fronts (text ∷ []) (take n text)
 one_front n text within = (n, within, [], sym (append-nil (take n text)), refl)
 
--- of no texts but the last, a prefix was put
+-- a prefix of the last text alone was put
 pub says_last : (output : Output) (texts middle : List (List ℕ)) (last : List ℕ) → Puts output last → Says output texts middle last
 says_last output texts middle last puts =
     let n = puts.front.0 in

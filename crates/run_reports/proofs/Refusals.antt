@@ -22,7 +22,7 @@ refused_by refusal said output status items (Err e) small is lacks = record {
   said = λ same. elim lacks.statuses [ inl six ↦ absurd (omega (arith, small.1)) | inr seven ↦ absurd (omega (arith, small.1)) ];
 }
 
--- an answer that the output failed comes only where it did
+-- the answer that the output failed is given only if it did
 pub delivers_risen : (output : Output) (text : List ℕ) (status : ℕ) → Delivers output text status ⊎ LacksMemory output status →
     status ≡ 6 → HasRisen output.count
 delivers_risen output text status (inl delivers) six = delivers.faulted six
@@ -35,7 +35,7 @@ refused_risen refusal output status items (Ok text) small refuses six =
     elim refuses.statuses [ inl same ↦ absurd (omega (arith, small.1)) | inr lacks ↦ lacks.faulted six ]
 refused_risen refusal output status items (Err e) small lacks six = lacks.faulted six
 
--- where there was no memory the status isn't 0
+-- if there was no memory, the status isn't 0
 pub lacking_not_done : (output : Output) (status : ℕ) → LacksMemory output status → status ≢ 0
 lacking_not_done output status lacks = λ zero. elim lacks.statuses [ inl six ↦ omega arith | inr seven ↦ omega arith ]
 

@@ -33,7 +33,7 @@ RefusesJournal trace output NoMemory = ⊥
 pub record RecoversNothing (old new : Option (List State)) (disk : Count) (output : Output) (status : ℕ) : Type 0 where
   pub statuses : (status ≡ 3) ⊎ (status ≡ 5) ⊎ (status ≡ 6) ⊎ (status ≡ 7)
   pub refused : status ≡ 3 → (why : RecoverFault) × RefusesJournal new output why
-  -- bytes that stand for a history aren't refused
+  -- bytes that encode a history aren't refused
   pub refused_only : (history : History) → WhereKnown new (λ states. Recovers book_limit history (present states).seen → status ≢ 3)
   pub disk_failed : status ≡ 5 → HasRisen disk × Says output [] [] disk_fault_line
   pub faulted : status ≡ 6 → HasRisen output.count × Says output [] (no_memory_line ∷ []) port_fault_line

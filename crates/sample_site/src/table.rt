@@ -13,7 +13,7 @@ const ROWS: u64 = 1_501;
 
 /// What `table.csv` has: a header, and for each row its level in mm and its litres.
 #[tactic(auto, unfolding(crate::specs::Files::table_lines))]
-pub fn table_text(alloc: Global) -> Result<Vec<u8>, NoMemory>
+pub(crate) fn table_text(alloc: Global) -> Result<Vec<u8>, NoMemory>
     ensures text { IfOk result (λ text. text.items ≡ table_text) }
 {
     let mut text = Vec::from_slice(alloc, b"mm,litres\n")?;

@@ -18,7 +18,7 @@ not_far_below (suc n) before = omega (arith, not_far_below n before)
 pub raised_more : (n before between now : ℕ) → between ≡ raised n before → now ≡ raised 1 between → Rose before now
 raised_more n before between now first second = omega (arith, first, second, not_far_below n before)
 
--- n faults, of which there is one, are as many added, up to the last u64
+-- n faults, at least one, are n added, up to the last u64
 raised_some : (n before : ℕ) → 0 < n → raised n before ≡ min (before + n) (2 ^ 64 - 1)
 raised_some zero before some = absurd (omega (arith, some))
 raised_some (suc zero) before some = refl

@@ -1,4 +1,4 @@
--- Posts of which one ended since a call on its listener failed.
+-- Posts one of which ended because a call on its listener failed.
 use Rattle.std.proofs.Common.{◌≡◌, ◌⊎◌, ◌∙◌, inl, inr, ℕ, ◌+◌, ◌||◌, Bool, true, false, List, [], ◌∷◌, Option, Some, sym, ap, subst, ℤ}
 use Rattle.farm_base.specs.Counts.{Count, HasRisen, count_of}
 use Rattle.farm_history.specs.History.{History, last_place}

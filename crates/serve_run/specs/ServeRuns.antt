@@ -58,7 +58,7 @@ pub record PostsServed {L M V W C : Type 0} (events : L → Option (List Event))
   -- the entries since are just those of these callers, each under its number and in its order
   pub own : All (λ caller. caller.own ≡ entries_by caller.caller (entered_since found final)) (desk_callers ++ line_callers)
   pub entered : All (λ entry. Any (λ caller. caller.caller ≡ entry.caller) (desk_callers ++ line_callers)) (entered_since found final)
-  -- what is left on the disk, with the last entry in doubt or not, where the disk counted just the faults that were answered and the one of an
+  -- what is left on the disk, its last entry in doubt or not, and the disk counted just the faults that were answered and the one of an
   -- entry in doubt; no reply rests on an entry in doubt
   pub doubt : Bool
   pub leaves : LeavesHistory found final (sum_by (λ caller. caller.faulted) (desk_callers ++ line_callers)) doubt moment trace disk

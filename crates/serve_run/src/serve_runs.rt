@@ -80,7 +80,7 @@ pub fn serve<
     }
 }
 
-// Serves a desk that was recovered, by as many posts as are asked for and lines as its site has, and puts its summary.
+// Serves a desk that was recovered, by the posts that the options ask for and the lines of its site, and puts its summary.
 fn serve_desk<
     R: Threads + Wait + Sync,
     K: Sink,

@@ -22,7 +22,10 @@ use std::alloc::Global;
 
 /// The name of a site and its rounding table, after the byte of its format.
 #[tactic(auto, unfolding(crate::specs::Decoding::head_at))]
-pub fn head_at(alloc: Global, bytes: &[u8]) -> Result<((Name, RoundTable), &[u8]), SiteBytesFault>
+pub(crate) fn head_at(
+    alloc: Global,
+    bytes: &[u8],
+) -> Result<((Name, RoundTable), &[u8]), SiteBytesFault>
     ensures reads { Gives (λ x. (x.0, x.1.now)) result (head_at bytes.now) }
 {
     let (_, rest) = format_at(bytes)?;
@@ -35,7 +38,10 @@ pub fn head_at(alloc: Global, bytes: &[u8]) -> Result<((Name, RoundTable), &[u8]
 
 /// The products of a site.
 #[tactic(auto, unfolding(crate::specs::Decoding::products_at))]
-pub fn products_at(alloc: Global, bytes: &[u8]) -> Result<(Vec<Product>, &[u8]), SiteBytesFault>
+pub(crate) fn products_at(
+    alloc: Global,
+    bytes: &[u8],
+) -> Result<(Vec<Product>, &[u8]), SiteBytesFault>
     ensures reads { Gives (λ x. (x.0.items, x.1.now)) result (products_at bytes.now) }
 {
     let (products, rest) = short_list_at(alloc, 15, bytes)?;
@@ -47,7 +53,7 @@ pub fn products_at(alloc: Global, bytes: &[u8]) -> Result<(Vec<Product>, &[u8]),
 
 /// The parties of a site.
 #[tactic(auto, unfolding(crate::specs::Decoding::parties_at))]
-pub fn parties_at(alloc: Global, bytes: &[u8]) -> Result<(Vec<Party>, &[u8]), SiteBytesFault>
+pub(crate) fn parties_at(alloc: Global, bytes: &[u8]) -> Result<(Vec<Party>, &[u8]), SiteBytesFault>
     ensures reads { Gives (λ x. (x.0.items, x.1.now)) result (parties_at bytes.now) }
 {
     let (parties, rest) = list16_at(alloc, 3, bytes)?;
@@ -59,7 +65,7 @@ pub fn parties_at(alloc: Global, bytes: &[u8]) -> Result<(Vec<Party>, &[u8]), Si
 
 /// The tanks of a site, each of one of its products.
 #[tactic(auto, unfolding(crate::specs::Decoding::tanks_at))]
-pub fn tanks_at<'a>(
+pub(crate) fn tanks_at<'a>(
     alloc: Global,
     products: &[Product],
     bytes: &'a [u8],
@@ -75,7 +81,7 @@ pub fn tanks_at<'a>(
 
 /// The gauge lines of a site, whose gauges are on its tanks.
 #[tactic(auto, unfolding(crate::specs::Decoding::lines_at))]
-pub fn lines_at<'a>(
+pub(crate) fn lines_at<'a>(
     alloc: Global,
     tanks: &[Tank],
     bytes: &'a [u8],

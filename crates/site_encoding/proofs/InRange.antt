@@ -14,7 +14,7 @@ use Rattle.strap_table.specs.declared.tank.Roof.{Roof}
 use Rattle.farm_site.specs.declared.items.Tank.{Tank}
 use Rattle.farm_site.specs.Facts.{are_tanks}
 use Rattle.farm_site.specs.Tanks.{is_roof, is_tank}
-use Rattle.gauge_maps.specs.declared.limits.TheConstants.{LONGEST_HOST, MOST_GAUGES}
+use Rattle.gauge_maps.specs.declared.limits.TheConstants.{MOST_HOST_BYTES, MOST_GAUGES}
 use Rattle.farm_site.specs.Lines.{are_lines}
 use Rattle.site_encoding.specs.Sizes.{IsGaugeInRange, IsLineInRange, IsRoofWithMass, IsTankInRange}
 
@@ -66,7 +66,7 @@ line_in_range line is =
     let host = (and_parts _ _ to_port).0 in
     let each = AllPass-from_list_all is_gauge_map line.gauges gauges in
     record {
-      host = at_most 1 LONGEST_HOST (length line.host) (and_parts _ _ host).0;
+      host = at_most 1 MOST_HOST_BYTES (length line.host) (and_parts _ _ host).0;
       few = at_most 1 MOST_GAUGES (length line.gauges) count;
       gauges = λ k d below. gauge_in_range (get_or line.gauges k d) (each k d below);
     }

@@ -5,21 +5,21 @@ use Rattle.farm_fixed.specs.Limits.{least_temperature, most_coefficient, most_ro
 use Rattle.farm_vcf.specs.Limits.{most_factors}
 use Rattle.gauge_maps.specs.declared.map.GaugeMap.{GaugeMap}
 use Rattle.gauge_maps.specs.declared.map.LineMap.{LineMap}
-use Rattle.farm_site.specs.Limits.{longest_name}
+use Rattle.farm_site.specs.Limits.{most_name_bytes}
 use Rattle.farm_site.specs.declared.items.Party.{Party}
 use Rattle.farm_site.specs.declared.items.Product.{Product}
 use Rattle.farm_site.specs.declared.items.Tank.{Tank}
-use Rattle.gauge_maps.specs.Limits.{longest_host, most_gauges}
+use Rattle.gauge_maps.specs.Limits.{most_host_bytes, most_gauges}
 use Rattle.strap_table.specs.Limits.{most_rows}
 use Rattle.strap_table.specs.declared.tank.Roof.{Roof}
 
 -- a product's name has at most 32 bytes
 abbrev pub IsNamedProduct : Product → Type 0
-IsNamedProduct product = length product.name ≤ longest_name
+IsNamedProduct product = length product.name ≤ most_name_bytes
 
 -- a party's name has at most 32 bytes
 abbrev pub IsNamedParty : Party → Type 0
-IsNamedParty party = length party.name ≤ longest_name
+IsNamedParty party = length party.name ≤ most_name_bytes
 
 -- a roof has a mass
 abbrev pub IsRoofWithMass : Roof → Type 0
@@ -36,7 +36,7 @@ IsGaugeInRange gauge = IsWithin least_temperature most_temperature gauge.ambient
 
 -- a line has a host of at most 64 bytes and at most 16 gauges
 pub record IsLineInRange (line : LineMap) : Type 0 where
-  pub host : length line.host ≤ longest_host
+  pub host : length line.host ≤ most_host_bytes
   pub few : length line.gauges ≤ most_gauges
   pub gauges : All IsGaugeInRange line.gauges
 
@@ -46,11 +46,11 @@ most_grid_bytes = 8 + 8 * most_factors
 
 -- the most bytes of a product
 abbrev pub most_product_bytes : ℕ
-most_product_bytes = 3 + longest_name + most_grid_bytes
+most_product_bytes = 3 + most_name_bytes + most_grid_bytes
 
 -- the most bytes of a party
 abbrev pub most_party_bytes : ℕ
-most_party_bytes = 3 + longest_name
+most_party_bytes = 3 + most_name_bytes
 
 -- the most bytes of a tank
 abbrev pub most_tank_bytes : ℕ

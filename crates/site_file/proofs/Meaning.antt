@@ -3,7 +3,7 @@ use Rattle.std.proofs.Common.{◌≡◌, ℕ, true, List, [], map, length, codes
 use Rattle.std.specs.Prelude.{Result, MatchResult, IfOk}
 use Rattle.std.specs.List.{list_all}
 use Rattle.std.proofs.lemmas.Bool.{and_parts}
-use Rattle.toml.specs.Data.{Data}
+use Rattle.site_keys.specs.Keys.{Keys}
 use Rattle.farm_base.specs.Known.{WhereKnown}
 use Rattle.farm_base.specs.Steps.{IsRefusedAs}
 use Rattle.farm_fixed.specs.Range.{is_between}
@@ -40,37 +40,37 @@ use Rattle.site_file.specs.Members.{IsSiteOf, IsStopped}
 use Rattle.site_toml.specs.Rounding.{rounding_at}
 
 -- a product is read the same where there are no earlier ones
-product_alone : (files : List File) (earlier : List Product) (item : ℕ) (keys : Data) (product : Product) →
-    product_of files earlier item keys ≡ Ok product → product_of files [] item keys ≡ Ok product
+product_alone : (files : List File) (earlier : List Product) (keys : Keys) (product : Product) →
+    product_of files earlier keys ≡ Ok product → product_of files [] keys ≡ Ok product
 unfolding product_of
-product_alone files earlier item keys product is =
-    let went = both_went (found (own_number (map product_number earlier) item keys)) _ product is in
-    let number = own_alone (map product_number earlier) item keys went.0 (found_there _ went.0 went.1) in
+product_alone files earlier keys product is =
+    let went = both_went (found (own_number (map product_number earlier) keys)) _ product is in
+    let number = own_alone (map product_number earlier) keys went.0 (found_there _ went.0 went.1) in
     rw number went.2
 
 -- a party is
-party_alone : (earlier : List Party) (item : ℕ) (keys : Data) (party : Party) → party_of earlier item keys ≡ Ok party → party_of [] item keys ≡ Ok party
+party_alone : (earlier : List Party) (keys : Keys) (party : Party) → party_of earlier keys ≡ Ok party → party_of [] keys ≡ Ok party
 unfolding party_of
-party_alone earlier item keys party is =
-    let went = both_went (own_number (map party_number earlier) item keys) _ party is in
-    let number = own_alone (map party_number earlier) item keys went.0 went.1 in
+party_alone earlier keys party is =
+    let went = both_went (own_number (map party_number earlier) keys) _ party is in
+    let number = own_alone (map party_number earlier) keys went.0 went.1 in
     rw number went.2
 
 -- a tank is
-tank_alone : (files : List File) (format : Format) (rounding : List Row) (products : List ℕ) (earlier : List Tank) (item : ℕ) (keys : Data) (tank : Tank) →
-    tank_of files format rounding products earlier item keys ≡ Ok tank → tank_of files format rounding products [] item keys ≡ Ok tank
+tank_alone : (files : List File) (format : Format) (rounding : List Row) (products : List ℕ) (earlier : List Tank) (keys : Keys) (tank : Tank) →
+    tank_of files format rounding products earlier keys ≡ Ok tank → tank_of files format rounding products [] keys ≡ Ok tank
 unfolding tank_of
-tank_alone files format rounding products earlier item keys tank is =
-    let went = both_went (found (own_number (map tank_number earlier) item keys)) _ tank is in
-    let number = own_alone (map tank_number earlier) item keys went.0 (found_there _ went.0 went.1) in
+tank_alone files format rounding products earlier keys tank is =
+    let went = both_went (found (own_number (map tank_number earlier) keys)) _ tank is in
+    let number = own_alone (map tank_number earlier) keys went.0 (found_there _ went.0 went.1) in
     rw number went.2
 
 -- the products of a site file
-products_listed : (files : List File) (top : Data) (products : List Product) → products_of files top ≡ Ok products → are_products products ≡ true →
+products_listed : (files : List File) (top : Keys) (products : List Product) → products_of files top ≡ Ok products → are_products products ≡ true →
     AreItemsAt product_number (product_of files []) top (codes "product") products
 unfolding products_of
 products_listed files top products is facts =
-    let went = both_went (found (list_at 1 MOST_PRODUCTS 0 top (codes "product"))) _ products is in
+    let went = both_went (found (list_at 1 MOST_PRODUCTS top (codes "product"))) _ products is in
     let listed = listed_there 1 MOST_PRODUCTS top (codes "product") went.0 (found_there _ went.0 went.1) in
     let members = same_members product_number (product_of files) (product_alone files) 1 [] went.0 products went.2 in
     let numbered = and_parts (is_between 1 MOST_PRODUCTS (length products)) (are_numbered product_number is_product products) facts in
@@ -78,11 +78,11 @@ products_listed files top products is facts =
     record { tables = went.0; listed = listed; in_file = members.0; each = members.1; once = members.2; rising = rising.1 }
 
 -- the parties of a site file
-parties_listed : (top : Data) (parties : List Party) → parties_of top ≡ Ok parties → are_parties parties ≡ true →
+parties_listed : (top : Keys) (parties : List Party) → parties_of top ≡ Ok parties → are_parties parties ≡ true →
     AreItemsAt party_number (party_of []) top (codes "party") parties
 unfolding parties_of
 parties_listed top parties is facts =
-    let went = both_went (list_at 0 MOST_PARTIES 0 top (codes "party")) _ parties is in
+    let went = both_went (list_at 0 MOST_PARTIES top (codes "party")) _ parties is in
     let listed = listed_there 0 MOST_PARTIES top (codes "party") went.0 went.1 in
     let members = same_members party_number party_of party_alone 1 [] went.0 parties went.2 in
     let numbered = and_parts (nat_le (length parties) MOST_PARTIES) (are_numbered party_number is_party parties) facts in
@@ -90,12 +90,12 @@ parties_listed top parties is facts =
     record { tables = went.0; listed = listed; in_file = members.0; each = members.1; once = members.2; rising = rising.1 }
 
 -- the tanks of a site file
-tanks_listed : (files : List File) (format : Format) (rounding : List Row) (products : List ℕ) (top : Data) (tanks : List Tank) →
+tanks_listed : (files : List File) (format : Format) (rounding : List Row) (products : List ℕ) (top : Keys) (tanks : List Tank) →
     tanks_of files format rounding products top ≡ Ok tanks → are_tanks products tanks ≡ true →
     AreItemsAt tank_number (tank_of files format rounding products []) top (codes "tank") tanks
 unfolding tanks_of
 tanks_listed files format rounding products top tanks is facts =
-    let went = both_went (found (list_at 1 MOST_TANKS 0 top (codes "tank"))) _ tanks is in
+    let went = both_went (found (list_at 1 MOST_TANKS top (codes "tank"))) _ tanks is in
     let listed = listed_there 1 MOST_TANKS top (codes "tank") went.0 (found_there _ went.0 went.1) in
     let members = same_members tank_number (tank_of files format rounding products) (tank_alone files format rounding products) 1 [] went.0 tanks went.2 in
     let numbered = and_parts (is_between 1 MOST_TANKS (length tanks)) (are_numbered tank_number (is_tank products) tanks) facts in
@@ -107,13 +107,13 @@ same_answer : (a b : Described) (answer : Result Described Refusal) → answer �
 same_answer a b answer is other = cc
 
 -- the site of the keys of a site file
-keys_mean : (files : List File) (top : Data) (site : Described) → top_of_files files ≡ Ok top → site_of_keys files top ≡ Ok site →
+keys_mean : (files : List File) (top : Keys) (site : Described) → top_of_files files ≡ Ok top → site_of_keys files top ≡ Ok site →
     are_products site.products ≡ true → are_parties site.parties ≡ true → are_tanks (map product_number site.products) site.tanks ≡ true →
     IsSiteOf files site
 unfolding site_of_keys
 keys_mean files top site keys is =
     let format = both_went (found (format_at top)) _ site is in
-    let name = both_went (found (name_at 0 top)) _ site format.2 in
+    let name = both_went (found (name_at top)) _ site format.2 in
     let rounding = both_went (found (rounding_at format.0 top)) _ site name.2 in
     let products = both_went (products_of files top) _ site rounding.2 in
     let parties = both_went (found (parties_of top)) _ site products.2 in

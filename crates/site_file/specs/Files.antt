@@ -1,6 +1,5 @@
 -- The site that files describe, or why they describe none. The files are looked at in the order of this definition.
 use Rattle.std.specs.Prelude.{List, map, codes, Result, Ok}
-use Rattle.toml.specs.Data.{Data}
 use Rattle.farm_base.specs.Steps.{◌>>=◌}
 use Rattle.farm_ports.specs.Folders.{File}
 use Rattle.farm_site.specs.Described.{Described}
@@ -8,6 +7,7 @@ use Rattle.farm_site.specs.Products.{product_number}
 use Rattle.farm_site.specs.Tanks.{tank_number}
 use Rattle.site_keys.specs.Faults.{Refusal, found}
 use Rattle.site_keys.specs.Files.{content, toml_of}
+use Rattle.site_keys.specs.Keys.{Keys}
 use Rattle.site_lines.specs.Lines.{lines_of}
 use Rattle.site_toml.specs.Formats.{format_at}
 use Rattle.site_toml.specs.Names.{name_at}
@@ -17,10 +17,10 @@ use Rattle.site_toml.specs.Rounding.{rounding_at}
 use Rattle.site_toml.specs.Tanks.{tanks_of}
 
 -- the site of the keys of a site file
-unfoldable pub site_of_keys : List File → Data → Result Described Refusal
+unfoldable pub site_of_keys : List File → Keys → Result Described Refusal
 site_of_keys files top = do
   format ← found (format_at top)
-  name ← found (name_at 0 top)
+  name ← found (name_at top)
   rounding ← found (rounding_at format top)
   products ← products_of files top
   parties ← found (parties_of top)
@@ -29,7 +29,7 @@ site_of_keys files top = do
   Ok (record { name = name; rounding = rounding; products = products; parties = parties; tanks = tanks; lines = lines })
 
 -- the keys of the site file
-unfoldable pub top_of_files : List File → Result Data Refusal
+unfoldable pub top_of_files : List File → Result Keys Refusal
 top_of_files files = do
   bytes ← content files 0 (codes "site.toml")
   found (toml_of 0 bytes)

@@ -1,10 +1,10 @@
 -- A site in the words of the rule: each of its lists has what the tables of the site file read as, each item once, in rising
 -- order of number.
 use Rattle.std.specs.Prelude.{◌≡◌, List, [], map, codes, Result, Ok, Err, ◌⊎◌}
-use Rattle.toml.specs.Data.{Data}
 use Rattle.farm_ports.specs.Folders.{File}
 use Rattle.site_keys.specs.declared.fault.SiteReadFault.{SiteReadFault}
 use Rattle.site_keys.specs.declared.fault.SiteReadFault.TheVariants.{Folder, NoMemory}
+use Rattle.site_keys.specs.Keys.{Keys}
 use Rattle.site_keys.specs.Lists.{AreItemsAt}
 use Rattle.site_toml.specs.declared.formats.Format.{Format}
 use Rattle.site_toml.specs.Formats.{format_at}
@@ -22,11 +22,11 @@ use Rattle.site_toml.specs.Rounding.{rounding_at}
 
 -- a site has the name and the rounding table of its file, its lines in the order of the file, and of each other list the items
 pub record IsSiteOf (files : List File) (site : Described) : Type 0 where
-  pub top : Data
+  pub top : Keys
   pub keys : top_of_files files ≡ Ok top
   pub format : Format
   pub of_format : format_at top ≡ Ok format
-  pub name : name_at 0 top ≡ Ok site.name
+  pub name : name_at top ≡ Ok site.name
   pub rounding : rounding_at format top ≡ Ok site.rounding
   pub products : AreItemsAt product_number (product_of files []) top (codes "product") site.products
   pub parties : AreItemsAt party_number (party_of []) top (codes "party") site.parties

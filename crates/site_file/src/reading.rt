@@ -2,13 +2,15 @@
 
 ghost use Rattle.std.specs.Prelude.{◌≡◌, List, MatchResult, IfOk, Ok, Err, Some};
 ghost use Rattle.toml.specs.View.{view};
-ghost use Rattle.farm_base.specs.Known.{KeepsKnown, WhereKnown};
+ghost use Rattle.farm_base.specs.Counts.{CountsIf};
+ghost use Rattle.farm_base.specs.Known.{Stays, WhereKnown};
 ghost use Rattle.farm_base.specs.Steps.{IsRefusedAs};
 ghost use Rattle.farm_ports.specs.Folders.{File};
 ghost use Rattle.farm_site.specs.Described.{Described};
 ghost use Rattle.farm_site.specs.Sites.{described};
 ghost use Rattle.site_keys.specs.Faults.{IsMissing, refusal_of};
 ghost use Rattle.site_keys.specs.Files.{FailsAsMissing};
+ghost use Rattle.site_keys.specs.Keys.{keys_of};
 ghost use Rattle.site_file.specs.Files.{site_of_files, site_of_keys, top_of_files};
 ghost use Rattle.site_file.specs.Members.{IsSiteOf, IsStopped};
 
@@ -36,8 +38,8 @@ pub trait ReadSite: Drop {
             (λ fault. IsRefusedAs (refusal_of fault) (site_of_files files))) }
         ensures meaning { WhereKnown (F.files folder.new) (λ files. IfOk result (λ site. IsSiteOf files (described site))) }
         ensures missing { WhereKnown (F.files folder.new) (λ files. IsMissing (site_of_files files) → IsStopped result) }
-        ensures keeps { KeepsKnown (F.files folder.old) (F.files folder.new) (F.faults folder.old) (F.faults folder.new)
-            SiteReadFault.Folder result }
+        ensures files { Stays (F.files folder.old) (F.files folder.new) }
+        ensures counts { CountsIf (result ≡ Err SiteReadFault.Folder) (F.faults folder.old) (F.faults folder.new) }
 
         // Of a folder that lists no failure, `Folder` says that an expected file is missing.
         ensures missing_only { F.lists_no_failure folder.old → WhereKnown (F.files folder.new) (λ files.
@@ -59,8 +61,8 @@ fn of_folder<F: Folder>(alloc: Global, folder: &mut F) -> Result<Site, SiteReadF
     ensures site { (files : List File) → F.files folder.new ≡ Some files → MatchResult result
         (λ site. site_of_files files ≡ Ok (described site))
         (λ fault. IsRefusedAs (refusal_of fault) (site_of_files files)) }
-    ensures keeps { KeepsKnown (F.files folder.old) (F.files folder.new) (F.faults folder.old) (F.faults folder.new)
-        SiteReadFault.Folder result }
+    ensures files { Stays (F.files folder.old) (F.files folder.new) }
+    ensures counts { CountsIf (result ≡ Err SiteReadFault.Folder) (F.faults folder.old) (F.faults folder.new) }
     ensures missing_only { F.lists_no_failure folder.old →
         FailsAsMissing (F.files folder.new) result (site_of_files) }
     ensures lists { F.lists_no_failure folder.old → F.lists_no_failure folder.new }
@@ -76,14 +78,13 @@ fn of_folder<F: Folder>(alloc: Global, folder: &mut F) -> Result<Site, SiteReadF
 // The site of the keys of a site file.
 #[tactic(auto, unfolding(crate::specs::Files::site_of_keys))]
 fn of_keys<F: Folder>(alloc: Global, folder: &mut F, top: &Keys<'_>) -> Result<Site, SiteReadFault>
-    requires { top.now.item ≡ 0 }
     ensures site { (files : List File) → F.files folder.new ≡ Some files → MatchResult result
-        (λ site. site_of_keys files (view top.now.table.now) ≡ Ok (described site))
-        (λ fault. IsRefusedAs (refusal_of fault) (site_of_keys files (view top.now.table.now))) }
-    ensures keeps { KeepsKnown (F.files folder.old) (F.files folder.new) (F.faults folder.old) (F.faults folder.new)
-        SiteReadFault.Folder result }
+        (λ site. site_of_keys files top.now ≡ Ok (described site))
+        (λ fault. IsRefusedAs (refusal_of fault) (site_of_keys files top.now)) }
+    ensures files { Stays (F.files folder.old) (F.files folder.new) }
+    ensures counts { CountsIf (result ≡ Err SiteReadFault.Folder) (F.faults folder.old) (F.faults folder.new) }
     ensures missing_only { F.lists_no_failure folder.old →
-        FailsAsMissing (F.files folder.new) result (λ files. site_of_keys files (view top.now.table.now)) }
+        FailsAsMissing (F.files folder.new) result (λ files. site_of_keys files top.now) }
     ensures lists { F.lists_no_failure folder.old → F.lists_no_failure folder.new }
 {
     let format = format_at(top)?;
@@ -107,9 +108,9 @@ fn of_keys<F: Folder>(alloc: Global, folder: &mut F, top: &Keys<'_>) -> Result<S
 #[tactic(auto, unfolding(crate::specs::Files::top_of_files))]
 fn top_of<F: Folder>(alloc: Global, folder: &mut F) -> Result<Value, SiteReadFault>
     ensures top { (files : List File) → F.files folder.new ≡ Some files →
-        MatchResult result (λ top. top_of_files files ≡ Ok (view top)) (λ fault. IsRefusedAs (refusal_of fault) (top_of_files files)) }
-    ensures keeps { KeepsKnown (F.files folder.old) (F.files folder.new) (F.faults folder.old) (F.faults folder.new)
-        SiteReadFault.Folder result }
+        MatchResult result (λ top. top_of_files files ≡ Ok (keys_of 0 (view top))) (λ fault. IsRefusedAs (refusal_of fault) (top_of_files files)) }
+    ensures files { Stays (F.files folder.old) (F.files folder.new) }
+    ensures counts { CountsIf (result ≡ Err SiteReadFault.Folder) (F.faults folder.old) (F.faults folder.new) }
     ensures missing_only { F.lists_no_failure folder.old →
         FailsAsMissing (F.files folder.new) result (top_of_files) }
     ensures lists { F.lists_no_failure folder.old → F.lists_no_failure folder.new }

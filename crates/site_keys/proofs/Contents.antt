@@ -3,25 +3,25 @@ use Rattle.std.proofs.Common.{◌≡◌, ℕ, option_map, ◌+◌, ◌<◌, ◌�
 use Rattle.std.proofs.lemmas.List.{take_all, length-take}
 use Rattle.farm_base.proofs.BoolTests.{le-ltb, lt-ltb}
 use Rattle.site_keys.specs.declared.codes.TheConstants.{TOO_LONG}
-use Rattle.site_keys.specs.declared.files.TheConstants.{LONGEST_FILE}
+use Rattle.site_keys.specs.declared.files.TheConstants.{MOST_FILE_BYTES}
 use Rattle.site_keys.specs.Faults.{Faulty, fault_at}
 use Rattle.site_keys.specs.Files.{within_limit}
 
 -- a file of which no more than the limit was read is whole
-pub whole_file : (item : ℕ) (name : List ℕ) (file : Option (List ℕ)) (bytes : List ℕ) → option_map (take (LONGEST_FILE + 1)) file ≡ Some bytes →
-    length bytes ≤ LONGEST_FILE → within_limit item name file ≡ Ok bytes
+pub whole_file : (item : ℕ) (name : List ℕ) (file : Option (List ℕ)) (bytes : List ℕ) → option_map (take (MOST_FILE_BYTES + 1)) file ≡ Some bytes →
+    length bytes ≤ MOST_FILE_BYTES → within_limit item name file ≡ Ok bytes
 whole_file item name None bytes read short = cc read
 whole_file item name (Some all) bytes read short =
-    let front : take (LONGEST_FILE + 1) all ≡ bytes = cc read in
-    let count : length (take (LONGEST_FILE + 1) all) ≡ length bytes = ap length front in
-    let few : length all ≤ LONGEST_FILE = omega (arith, length-take (LONGEST_FILE + 1) all, count) in
-    rw (le-ltb LONGEST_FILE (length all) few) (ap Ok (sym (take_all (LONGEST_FILE + 1) all (omega arith)) ∙ front))
+    let front : take (MOST_FILE_BYTES + 1) all ≡ bytes = cc read in
+    let count : length (take (MOST_FILE_BYTES + 1) all) ≡ length bytes = ap length front in
+    let few : length all ≤ MOST_FILE_BYTES = omega (arith, length-take (MOST_FILE_BYTES + 1) all, count) in
+    rw (le-ltb MOST_FILE_BYTES (length all) few) (ap Ok (sym (take_all (MOST_FILE_BYTES + 1) all (omega arith)) ∙ front))
 
 -- and one of which more was read is too long
-pub long_file : (item : ℕ) (name : List ℕ) (file : Option (List ℕ)) (bytes : List ℕ) → option_map (take (LONGEST_FILE + 1)) file ≡ Some bytes →
-    LONGEST_FILE < length bytes → within_limit item name file ≡ Err (Faulty (fault_at TOO_LONG item 0))
+pub long_file : (item : ℕ) (name : List ℕ) (file : Option (List ℕ)) (bytes : List ℕ) → option_map (take (MOST_FILE_BYTES + 1)) file ≡ Some bytes →
+    MOST_FILE_BYTES < length bytes → within_limit item name file ≡ Err (Faulty (fault_at TOO_LONG item 0))
 long_file item name None bytes read long = cc read
 long_file item name (Some all) bytes read long =
-    let front : take (LONGEST_FILE + 1) all ≡ bytes = cc read in
-    let count : length (take (LONGEST_FILE + 1) all) ≡ length bytes = ap length front in
-    rw (lt-ltb LONGEST_FILE (length all) (omega (arith, length-take (LONGEST_FILE + 1) all, count))) refl
+    let front : take (MOST_FILE_BYTES + 1) all ≡ bytes = cc read in
+    let count : length (take (MOST_FILE_BYTES + 1) all) ≡ length bytes = ap length front in
+    rw (lt-ltb MOST_FILE_BYTES (length all) (omega (arith, length-take (MOST_FILE_BYTES + 1) all, count))) refl

@@ -10,8 +10,8 @@ use Rattle.farm_fixed.specs.Range.{is_between}
 use Rattle.site_keys.specs.declared.codes.TheConstants.{REPEATED, TOO_MANY}
 use Rattle.site_keys.specs.declared.fault.SiteFault.{SiteFault}
 use Rattle.site_keys.specs.Faults.{bad, found}
-use Rattle.farm_site.specs.declared.limits.TheConstants.{GREATEST_NUMBER}
-use Rattle.site_keys.specs.Keys.{array_or_none, natural_at}
+use Rattle.farm_site.specs.declared.limits.TheConstants.{MOST_NUMBER}
+use Rattle.site_keys.specs.Keys.{Keys, array_or_none, keys_of, natural_at}
 use Rattle.site_keys.specs.Lists.{EachReadsAs, list_at, numbered_from, own_number, index_among, placed}
 use Rattle.farm_site.specs.Numbers.{is_among}
 
@@ -39,11 +39,11 @@ let_through false value given fault never is = cc
 let_through true value given fault never is = absurd (never given is)
 
 -- the tables of a list are the values at its key
-pub listed_there : (least most : ℕ) (top : Data) (key : List ℕ) (tables : List Data) → list_at least most 0 top key ≡ Ok tables →
-    array_or_none 0 top key ≡ Ok tables
+pub listed_there : (least most : ℕ) (top : Keys) (key : List ℕ) (tables : List Data) → list_at least most top key ≡ Ok tables →
+    array_or_none top key ≡ Ok tables
 unfolding list_at
 listed_there least most top key tables is =
-    let went = both_went (array_or_none 0 top key) (λ values. if is_between least most (length values) then Ok values else bad TOO_MANY 0 0) tables is in
+    let went = both_went (array_or_none top key) (λ values. if is_between least most (length values) then Ok values else bad TOO_MANY 0 0) tables is in
     let same = chosen (is_between least most (length went.0)) went.0 tables (bad TOO_MANY 0 0) (λ _ never. cc) went.2 in
     went.1 ∙ ap Ok same
 
@@ -55,15 +55,15 @@ placed_same number new others =
     subst P (take-append-drop index others) (IsPermutation-middle (take index others) new (drop index others))
 
 -- a number of its own is read the same where there are no earlier items
-pub own_alone : (earlier : List ℕ) (item : ℕ) (keys : Data) (n : ℕ) → own_number earlier item keys ≡ Ok n → own_number [] item keys ≡ Ok n
+pub own_alone : (earlier : List ℕ) (keys : Keys) (n : ℕ) → own_number earlier keys ≡ Ok n → own_number [] keys ≡ Ok n
 unfolding own_number
-own_alone earlier item keys n is =
-    let went = both_went (natural_at item keys (codes "number") 1 GREATEST_NUMBER) (λ n. if is_among n earlier then bad REPEATED item 0 else Ok n) n is in
-    let same = let_through (is_among went.0 earlier) went.0 n (bad REPEATED item 0) (λ _ never. cc) went.2 in
+own_alone earlier keys n is =
+    let went = both_went (natural_at keys (codes "number") 1 MOST_NUMBER) (λ n. if is_among n earlier then bad REPEATED keys.item 0 else Ok n) n is in
+    let same = let_through (is_among went.0 earlier) went.0 n (bad REPEATED keys.item 0) (λ _ never. cc) went.2 in
     rw went.1 (ap Ok same)
 
-module _ {A E : Type 0} (number : A → ℕ) (read : List A → ℕ → Data → Result A E)
-    (alone : (done : List A) (n : ℕ) (value : Data) (item : A) → read done n value ≡ Ok item → read [] n value ≡ Ok item) where
+module _ {A E : Type 0} (number : A → ℕ) (read : List A → Keys → Result A E)
+    (alone : (done : List A) (keys : Keys) (item : A) → read done keys ≡ Ok item → read [] keys ≡ Ok item) where
   -- those done and those that are left are the items
   pub same_members : (n : ℕ) (done : List A) (values : List Data) (items : List A) → numbered_from number read n done values ≡ Ok items →
       (in_file : List A) × EachReadsAs (read []) n values in_file × IsPermutation (done ++ in_file) items
@@ -73,12 +73,12 @@ module _ {A E : Type 0} (number : A → ℕ) (read : List A → ℕ → Data →
       let same : done ≡ items = cc in
       ([], tt, subst P (sym (append-nil done)) (subst Q same (IsPermutation-refl done)))
   same_members n done (value ∷ values) items is =
-      let went = both_went (read done n value) (λ next. numbered_from number read (n + 1) (placed number next done) values) items is in
+      let went = both_went (read done (keys_of n value)) (λ next. numbered_from number read (n + 1) (placed number next done) values) items is in
       let next = went.0 in
       let rest = same_members (n + 1) (placed number next done) values items went.2 in
       let front = IsPermutation-append_left rest.0 (placed number next done) (next ∷ done) (placed_same number next done) in
       let middle = IsPermutation-middle done next rest.0 in (
         next ∷ rest.0,
-        (alone done n value next went.1, rest.1),
+        (alone done (keys_of n value) next went.1, rest.1),
         IsPermutation-trans _ _ _ middle (IsPermutation-trans _ _ _ (IsPermutation-sym _ _ front) rest.2),
       )

@@ -9,10 +9,10 @@ use Rattle.std.proofs.lemmas.List.Folds.{list_all-append}
 use Rattle.std.proofs.Math.Numerals.{add-one}
 use Rattle.std.proofs.Math.Logic.{⊎_elim}
 use Rattle.std.specs.Prelude.{Result}
-use Rattle.toml.specs.Data.{Data}
 use Rattle.toml.specs.View.{view}
 use Rattle.toml.specs.declared.value.Value.{Value}
 use Rattle.farm_site.specs.Numbers.{are_numbered, is_among, rises, rises_from}
+use Rattle.site_keys.specs.Keys.{Keys, keys_of}
 use Rattle.site_keys.specs.Lists.{numbered_from, index_among, placed}
 use Rattle.site_keys.proofs.Steps.{one_more}
 
@@ -82,8 +82,8 @@ module _ {A : Type 0} (number : A → ℕ) where
       both_true (placed_all is_sound new others parts.0 sound) (placed_rises new others parts.1 fresh)
 
 -- the items of the tables that are left, once one more is read
-pub numbered_more : {A E : Type 0} (number : A → ℕ) (read : List A → ℕ → Data → Result A E) (done : List A) (tables : List Value) (i : ℕ) (table : Value) (next : A) →
-    i < length tables → table ≡ get_or tables i table → read done (i + 1) (view table) ≡ Ok next →
+pub numbered_more : {A E : Type 0} (number : A → ℕ) (read : List A → Keys → Result A E) (done : List A) (tables : List Value) (i : ℕ) (table : Value) (next : A) →
+    i < length tables → table ≡ get_or tables i table → read done (keys_of (i + 1) (view table)) ≡ Ok next →
     numbered_from number read (i + 1 + 1) (placed number next done) (map view (drop (i + 1) tables)) ≡ numbered_from number read (i + 1) done (map view (drop i tables))
 numbered_more number read done tables i table next within is here =
     rw (drop_more tables i table within, ← is) (sym (one_more number read (i + 1) done (view table) (map view (drop (i + 1) tables)) next here))

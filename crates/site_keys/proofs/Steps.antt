@@ -7,11 +7,12 @@ use Rattle.site_keys.specs.declared.fault.SiteFault.{SiteFault}
 use Rattle.site_keys.specs.declared.fault.SiteReadFault.{SiteReadFault}
 use Rattle.site_keys.specs.declared.fault.SiteReadFault.TheVariants.{NoMemory, Folder, Bad}
 use Rattle.site_keys.specs.Faults.{found, refusal_of, reported}
+use Rattle.site_keys.specs.Keys.{Keys, keys_of}
 use Rattle.site_keys.specs.Lists.{numbered_from, placed}
 
 -- one item was read, of those that are left
-pub one_more : {A E : Type 0} (number : A → ℕ) (read : List A → ℕ → Data → Result A E) (item : ℕ) (done : List A) (value : Data)
-    (values : List Data) (next : A) → read done item value ≡ Ok next →
+pub one_more : {A E : Type 0} (number : A → ℕ) (read : List A → Keys → Result A E) (item : ℕ) (done : List A) (value : Data)
+    (values : List Data) (next : A) → read done (keys_of item value) ≡ Ok next →
     numbered_from number read item done (value ∷ values) ≡ numbered_from number read (item + 1) (placed number next done) values
 one_more number read item done value values next is = rw is refl
 

@@ -3,5 +3,6 @@ pub mod Limits
 pub mod Codes
 pub mod Faults
 pub mod Keys
+pub mod Stored
 pub mod Lists
 pub mod Files

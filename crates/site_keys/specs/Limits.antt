@@ -2,5 +2,5 @@
 use Rattle.std.specs.Prelude.{ℕ}
 
 -- a file of a site has at most this many bytes
-abbrev pub longest_file : ℕ
-longest_file = 4194304
+abbrev pub most_file_bytes : ℕ
+most_file_bytes = 4194304

@@ -9,7 +9,7 @@ ghost use Rattle.toml.specs.View.{view};
 use crate::codes::{REPEATED, TOO_MANY, UNKNOWN};
 use crate::keys::Keys;
 use crate::{SiteFault, SiteReadFault, bad};
-use farm_site::{GREATEST_NUMBER, Numbered, is_among};
+use farm_site::{MOST_NUMBER, Numbered, is_among};
 use toml::Value;
 
 /// The values of a list of the site file, of which there are from `least` to `most`; none where the list is missing.
@@ -20,8 +20,8 @@ pub fn list_at<'a>(
     least: usize,
     most: usize,
 ) -> Result<&'a [Value], SiteFault>
-    ensures values { MatchResult result (λ values. list_at least most keys.now.item (view keys.now.table.now) key.now ≡ Ok (map view values.now))
-        (λ fault. list_at least most keys.now.item (view keys.now.table.now) key.now ≡ Err fault) }
+    ensures values { MatchResult result (λ values. list_at least most keys.now key.now ≡ Ok (map view values.now))
+        (λ fault. list_at least most keys.now key.now ≡ Err fault) }
     ensures least { IfOk result (λ values. least ≤ length values.now) }
     ensures most { IfOk result (λ values. length values.now ≤ most) }
 {
@@ -35,11 +35,11 @@ pub fn list_at<'a>(
 /// The number that a table gives its item, which no earlier item has.
 #[tactic(auto, unfolding(crate::specs::Lists::own_number))]
 pub fn own_number<T: Numbered>(earlier: &[T], keys: &Keys<'_>) -> Result<u16, SiteFault>
-    ensures number { result ≡ own_number (map T.numbered earlier.now) keys.now.item (view keys.now.table.now) }
+    ensures number { result ≡ own_number (map T.numbered earlier.now) keys.now }
     ensures least { IfOk result (λ number. 1 ≤ number) }
     ensures fresh { IfOk result (λ number. IsFalse (is_among number (map T.numbered earlier.now))) }
 {
-    let number = keys.natural("number", 1, GREATEST_NUMBER)? as u16;
+    let number = keys.natural("number", 1, MOST_NUMBER)? as u16;
     if is_among(number, earlier) {
         return Err(bad(REPEATED, keys.item));
     }
@@ -49,7 +49,7 @@ pub fn own_number<T: Numbered>(earlier: &[T], keys: &Keys<'_>) -> Result<u16, Si
 /// The number at a key, which is that of an item.
 #[tactic(auto, unfolding(crate::specs::Lists::reference_at))]
 pub fn reference<T: Numbered>(keys: &Keys<'_>, key: &str, items: &[T]) -> Result<u16, SiteFault>
-    ensures number { result ≡ reference_at keys.now.item (view keys.now.table.now) key.now (map T.numbered items.now) }
+    ensures number { result ≡ reference_at keys.now key.now (map T.numbered items.now) }
     ensures among { IfOk result (λ number. IsTrue (is_among number (map T.numbered items.now))) }
 {
     let value = keys.integer(key)?;

@@ -2,12 +2,12 @@
 
 ghost use Rattle.std.specs.Prelude.{◌≡◌};
 ghost use Rattle.site_keys.specs.Codes.{code_of_factors, code_of_field, code_of_range, code_of_repeated, code_of_strap, code_of_table, code_of_text, code_of_too_long, code_of_too_many, code_of_unknown};
-ghost use Rattle.site_keys.specs.Limits.{longest_file};
+ghost use Rattle.site_keys.specs.Limits.{most_file_bytes};
 
 use crate::codes::{
     FACTORS, FIELD, RANGE, REPEATED, STRAP, TABLE, TEXT, TOO_LONG, TOO_MANY, UNKNOWN,
 };
-use crate::files::LONGEST_FILE;
+use crate::files::MOST_FILE_BYTES;
 
 /// Does nothing: its contract is that each number that the definitions state is the code's.
 pub fn defined_numbers()
@@ -21,5 +21,5 @@ pub fn defined_numbers()
     ensures code_of_factors { FACTORS ≡ code_of_factors }
     ensures code_of_too_many { TOO_MANY ≡ code_of_too_many }
     ensures code_of_too_long { TOO_LONG ≡ code_of_too_long }
-    ensures longest_file { LONGEST_FILE ≡ longest_file }
+    ensures most_file_bytes { MOST_FILE_BYTES ≡ most_file_bytes }
 {}

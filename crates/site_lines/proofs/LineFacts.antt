@@ -12,6 +12,7 @@ use Rattle.gauge_maps.specs.declared.map.GaugeMap.{GaugeMap}
 use Rattle.gauge_maps.specs.declared.map.LineMap.{LineMap}
 use Rattle.farm_site.specs.Numbers.{is_among}
 use Rattle.farm_site.specs.Lines.{are_distinct, are_gauged, tanks_gauged, all_gauged}
+use Rattle.site_keys.specs.Keys.{keys_of}
 use Rattle.site_lines.specs.Gauges.{gauge_of, gauges_from}
 use Rattle.site_lines.specs.Lines.{line_of, lines_from}
 
@@ -53,13 +54,13 @@ gauged_more tanks gauged tank all known new =
 
 -- the gauges of the tables that are left, once one more is read
 pub gauges_more : (item : ℕ) (tanks gauged : List ℕ) (done : List GaugeMap) (tables : List Value) (i : ℕ) (table : Value) (gauge : GaugeMap) →
-    i < length tables → table ≡ get_or tables i table → Ok gauge ≡ gauge_of item tanks (gauged ++ tanks_gauged done) (view table) →
+    i < length tables → table ≡ get_or tables i table → Ok gauge ≡ gauge_of tanks (gauged ++ tanks_gauged done) (keys_of item (view table)) →
     gauges_from item tanks gauged (done ++ gauge ∷ []) (map view (drop (i + 1) tables)) ≡ gauges_from item tanks gauged done (map view (drop i tables))
 gauges_more item tanks gauged done tables i table gauge within is read = rw (drop_more tables i table within, ← is, ← read) refl
 
 -- and the lines, once one more is read
 pub lines_more : (tanks : List ℕ) (item : ℕ) (gauged : List ℕ) (done : List LineMap) (tables : List Value) (i : ℕ) (table : Value) (line : LineMap) →
-    i < length tables → table ≡ get_or tables i table → line_of item tanks gauged (view table) ≡ Ok line →
+    i < length tables → table ≡ get_or tables i table → line_of tanks gauged (keys_of item (view table)) ≡ Ok line →
     lines_from tanks (item + 1) (gauged ++ tanks_gauged line.gauges) (done ++ line ∷ []) (map view (drop (i + 1) tables))
     ≡ lines_from tanks item gauged done (map view (drop i tables))
 lines_more tanks item gauged done tables i table line within is read = rw (drop_more tables i table within, ← is, read) refl

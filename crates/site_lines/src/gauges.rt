@@ -11,13 +11,13 @@ ghost use Rattle.gauge_maps.specs.Maps.{is_gauge_map};
 ghost use Rattle.farm_base.specs.Steps.{IsRefusedAs};
 ghost use Rattle.site_keys.specs.Faults.{IsNotTheFolders, reported};
 ghost use Rattle.farm_site.specs.Numbers.{is_among};
-ghost use Rattle.site_lines.specs.Gauges.{ambient_fixed_at, deadbands_at, gauge_of, gauged_tank_at, gauges_from, is_request, quantity_from, request_at};
+ghost use Rattle.site_lines.specs.Gauges.{ambient_fixed_at, are_fields, deadbands_at, fields_of_gauge, gauge_of, gauged_tank_at, gauges_from, is_request, quantity_from, request_at};
 ghost use Rattle.farm_site.specs.Lines.{are_gauged, tanks_gauged};
 
 use crate::fields::{field_at, field_or_none, valid_or_none};
 use farm_fixed::{LEAST_TEMPERATURE, MOST_TEMPERATURE};
 use farm_site::Numbered;
-use gauge_maps::{GREATEST_UNIT, GaugeMap, MOST_DEADBAND, REGISTERS, Request};
+use gauge_maps::{Field, GaugeMap, MOST_DEADBAND, MOST_UNIT, REGISTERS, Request};
 use modbus_frame::{LEAST_QUANTITY, MOST_QUANTITY, READ_HOLDING_REGISTERS, READ_INPUT_REGISTERS};
 use site_keys::{Keys, RANGE, REPEATED, SiteFault, SiteReadFault, bad, reference};
 use std::alloc::Global;
@@ -33,7 +33,7 @@ pub(crate) const USUAL_DEADBAND_MM: u32 = 1;
 pub(crate) const USUAL_DEADBAND_CENTI: u32 = 5;
 
 /// The gauges of a line's tables, after gauges on some tanks.
-pub fn gauges_from<T: Numbered>(
+pub(crate) fn gauges_from<T: Numbered>(
     alloc: Global,
     item: u32,
     tanks: &[T],
@@ -65,35 +65,58 @@ fn gauge_of<T: Numbered>(
     gauged: &[u16],
     keys: &Keys<'_>,
 ) -> Result<GaugeMap, SiteFault>
-    ensures gauge { result ≡ gauge_of keys.now.item (map T.numbered tanks.now) gauged.now (view keys.now.table.now) }
+    ensures gauge { result ≡ gauge_of (map T.numbered tanks.now) gauged.now keys.now }
     ensures sound { IfOk result (λ gauge. IsTrue (is_gauge_map gauge)) }
     ensures known { IfOk result (λ gauge. IsTrue (is_among gauge.tank (map T.numbered tanks.now))) }
     ensures new { IfOk result (λ gauge. IsFalse (is_among gauge.tank gauged.now)) }
 {
     let tank = gauged_tank_at(tanks, gauged, keys)?;
     let request = request_at(keys)?;
-    let quantity = request.quantity;
-    let level = field_at(quantity, keys, "level")?;
-    let temperature = field_at(quantity, keys, "temperature")?;
-    let water = field_or_none(quantity, keys, "water")?;
-    let ambient = field_or_none(quantity, keys, "ambient")?;
+    let fields = fields_of_gauge(request.quantity, keys)?;
     let ambient_fixed = ambient_fixed_at(keys)?;
-    let valid = valid_or_none(quantity, keys)?;
+    let valid = valid_or_none(request.quantity, keys)?;
     let (deadband_mm, deadband_centi) = deadbands_at(keys)?;
     Ok(GaugeMap {
         tank,
         unit: request.unit,
         function: request.function,
         start: request.start,
-        quantity,
-        level,
-        temperature,
-        water,
-        ambient,
+        quantity: request.quantity,
+        level: fields.level,
+        temperature: fields.temperature,
+        water: fields.water,
+        ambient: fields.ambient,
         ambient_fixed,
         valid,
         deadband_mm,
         deadband_centi,
+    })
+}
+
+// The fields of a gauge.
+#[derive(Clone, Copy)]
+struct GaugeFields {
+    level: Field,
+    temperature: Field,
+    water: Option<Field>,
+    ambient: Option<Field>,
+}
+
+// The fields of a gauge, among this number of registers.
+#[tactic(auto, unfolding(crate::specs::Gauges::fields_of_gauge))]
+fn fields_of_gauge(quantity: u8, keys: &Keys<'_>) -> Result<GaugeFields, SiteFault>
+    ensures fields { result ≡ fields_of_gauge quantity keys.now }
+    ensures sound { IfOk result (λ fields. IsTrue (are_fields quantity fields)) }
+{
+    let level = field_at(quantity, keys, "level")?;
+    let temperature = field_at(quantity, keys, "temperature")?;
+    let water = field_or_none(quantity, keys, "water")?;
+    let ambient = field_or_none(quantity, keys, "ambient")?;
+    Ok(GaugeFields {
+        level,
+        temperature,
+        water,
+        ambient,
     })
 }
 
@@ -104,7 +127,7 @@ fn gauged_tank_at<T: Numbered>(
     gauged: &[u16],
     keys: &Keys<'_>,
 ) -> Result<u16, SiteFault>
-    ensures tank { result ≡ gauged_tank_at keys.now.item (map T.numbered tanks.now) gauged.now (view keys.now.table.now) }
+    ensures tank { result ≡ gauged_tank_at (map T.numbered tanks.now) gauged.now keys.now }
     ensures known { IfOk result (λ tank. IsTrue (is_among tank (map T.numbered tanks.now))) }
     ensures new { IfOk result (λ tank. IsFalse (is_among tank gauged.now)) }
 {
@@ -118,10 +141,10 @@ fn gauged_tank_at<T: Numbered>(
 // What is asked of a device.
 #[tactic(auto, unfolding(crate::specs::Gauges::request_at))]
 fn request_at(keys: &Keys<'_>) -> Result<Request, SiteFault>
-    ensures request { result ≡ request_at keys.now.item (view keys.now.table.now) }
+    ensures request { result ≡ request_at keys.now }
     ensures sound { IfOk result (λ request. IsTrue (is_request request)) }
 {
-    let unit = keys.natural("unit", 0, GREATEST_UNIT as u32)? as u8;
+    let unit = keys.natural("unit", 0, MOST_UNIT as u32)? as u8;
     let function = keys.natural(
         "function",
         READ_HOLDING_REGISTERS as u32,
@@ -140,7 +163,7 @@ fn request_at(keys: &Keys<'_>) -> Result<Request, SiteFault>
 // How many registers are read from the first.
 #[tactic(auto, unfolding(crate::specs::Gauges::quantity_from))]
 fn quantity_from(start: u16, keys: &Keys<'_>) -> Result<u8, SiteFault>
-    ensures quantity { result ≡ quantity_from start keys.now.item (view keys.now.table.now) }
+    ensures quantity { result ≡ quantity_from start keys.now }
     ensures count { IfOk result (λ quantity. IsTrue (is_between LEAST_QUANTITY MOST_QUANTITY quantity)) }
     ensures within { IfOk result (λ quantity. IsTrue (nat_le (start + quantity) REGISTERS)) }
 {
@@ -154,7 +177,7 @@ fn quantity_from(start: u16, keys: &Keys<'_>) -> Result<u8, SiteFault>
 // The ambient temperature where the gauge gives none.
 #[tactic(auto, unfolding(crate::specs::Gauges::ambient_fixed_at))]
 fn ambient_fixed_at(keys: &Keys<'_>) -> Result<i64, SiteFault>
-    ensures ambient { result ≡ ambient_fixed_at keys.now.item (view keys.now.table.now) }
+    ensures ambient { result ≡ ambient_fixed_at keys.now }
     ensures range { IfOk result (λ ambient. IsTrue (is_within LEAST_TEMPERATURE MOST_TEMPERATURE ambient)) }
 {
     if !keys.has("ambient_fixed") {
@@ -166,7 +189,7 @@ fn ambient_fixed_at(keys: &Keys<'_>) -> Result<i64, SiteFault>
 // The deadbands: of the levels, in mm, and of the temperature, in 0.01 C.
 #[tactic(auto, unfolding(crate::specs::Gauges::deadbands_at))]
 fn deadbands_at(keys: &Keys<'_>) -> Result<(u16, u16), SiteFault>
-    ensures deadbands { result ≡ deadbands_at keys.now.item (view keys.now.table.now) }
+    ensures deadbands { result ≡ deadbands_at keys.now }
     ensures levels { IfOk result (λ deadbands. IsTrue (is_between 1 MOST_DEADBAND deadbands.0)) }
     ensures temperature { IfOk result (λ deadbands. IsTrue (is_between 1 MOST_DEADBAND deadbands.1)) }
 {

@@ -11,7 +11,7 @@ ghost use Rattle.site_lines.specs.Lines.{host_at, line_of, lines_from, lines_of}
 
 use crate::gauges::gauges_from;
 use farm_site::{MOST_LINES, Numbered, is_host};
-use gauge_maps::{GREATEST_PORT, Gauges, Host, LineMap, MOST_GAUGES};
+use gauge_maps::{Gauges, Host, LineMap, MOST_GAUGES, MOST_PORT};
 use site_keys::{Keys, RANGE, SiteReadFault, bad, list_at};
 use std::alloc::Global;
 use toml::Value;
@@ -23,9 +23,8 @@ pub fn lines_of<T: Numbered>(
     tanks: &[T],
     top: &Keys<'_>,
 ) -> Result<Vec<LineMap>, SiteReadFault>
-    requires top_of_file { top.now.item ≡ 0 }
-    ensures lines { MatchResult result (λ lines. lines_of (map T.numbered tanks.now) (view top.now.table.now) ≡ Ok lines.items)
-        (λ fault. IsRefusedAs (reported fault) (lines_of (map T.numbered tanks.now) (view top.now.table.now))) }
+    ensures lines { MatchResult result (λ lines. lines_of (map T.numbered tanks.now) top.now ≡ Ok lines.items)
+        (λ fault. IsRefusedAs (reported fault) (lines_of (map T.numbered tanks.now) top.now)) }
     ensures sound { IfOk result (λ lines. IsTrue (are_lines (map T.numbered tanks.now) lines.items)) }
     ensures not_the_folders { IfErr result IsNotTheFolders }
 {
@@ -69,15 +68,15 @@ fn line_of<T: Numbered>(
     keys: &Keys<'_>,
 ) -> Result<LineMap, SiteReadFault>
     requires { IsTrue (are_gauged (map T.numbered tanks.now) gauged.old.items) }
-    ensures line { MatchResult result (λ line. line_of keys.now.item (map T.numbered tanks.now) gauged.old.items (view keys.now.table.now) ≡ Ok line)
-        (λ fault. IsRefusedAs (reported fault) (line_of keys.now.item (map T.numbered tanks.now) gauged.old.items (view keys.now.table.now))) }
+    ensures line { MatchResult result (λ line. line_of (map T.numbered tanks.now) gauged.old.items keys.now ≡ Ok line)
+        (λ fault. IsRefusedAs (reported fault) (line_of (map T.numbered tanks.now) gauged.old.items keys.now)) }
     ensures gauged { IfOk result (λ line. gauged.new.items ≡ gauged.old.items ++ tanks_gauged line.gauges) }
     ensures sound { IfOk result (λ line. IsTrue (is_line_map line)) }
     ensures tanks { IfOk result (λ _. IsTrue (are_gauged (map T.numbered tanks.now) gauged.new.items)) }
     ensures not_the_folders { IfErr result IsNotTheFolders }
 {
     let host = host_at(alloc, keys)?;
-    let port = keys.natural("port", 1, GREATEST_PORT as u32)? as u16;
+    let port = keys.natural("port", 1, MOST_PORT as u32)? as u16;
     let tables = list_at(keys, "gauge", 1, MOST_GAUGES)?;
     let gauges = gauges_from(alloc, keys.item, tanks, gauged, tables)?;
     Ok(LineMap {
@@ -90,8 +89,8 @@ fn line_of<T: Numbered>(
 // A host.
 #[tactic(auto, unfolding(crate::specs::Lines::host_at))]
 fn host_at(alloc: Global, keys: &Keys<'_>) -> Result<Host, SiteReadFault>
-    ensures host { MatchResult result (λ host. host_at keys.now.item (view keys.now.table.now) ≡ Ok host)
-        (λ fault. IsRefusedAs (reported fault) (host_at keys.now.item (view keys.now.table.now))) }
+    ensures host { MatchResult result (λ host. host_at keys.now ≡ Ok host)
+        (λ fault. IsRefusedAs (reported fault) (host_at keys.now)) }
     ensures sound { IfOk result (λ host. IsTrue (is_host host)) }
     ensures not_the_folders { IfErr result IsNotTheFolders }
 {

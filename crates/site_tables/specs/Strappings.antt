@@ -15,48 +15,60 @@ use Rattle.site_keys.specs.Codes.{code_of_field, code_of_strap}
 use Rattle.site_keys.specs.declared.fault.SiteFault.{SiteFault}
 use Rattle.site_keys.specs.Faults.{bad, detail, fault_at, needed, ranged}
 use Rattle.site_keys.specs.Files.{toml_of}
-use Rattle.site_keys.specs.Keys.{array_at, array_or_none, has, integer_at, quantity_at, values_of, whole_at}
+use Rattle.site_keys.specs.Keys.{Keys, array_at, array_or_none, has, inner, integer_at, quantity_at, values_of, whole_at}
 use Rattle.site_keys.specs.Lists.{read_from}
 use Rattle.site_tables.specs.Tables.{table_of_rows}
 
 -- a circumference, a deduction or a thickness, in 0.1 mm and up to 500 m
-unfoldable pub length_at : ℕ → Data → List ℕ → Result ℤ SiteFault
-length_at item keys key = quantity_at 1 (pos 0) most_tenths item keys key
+unfoldable pub length_at : Keys → List ℕ → Result ℤ SiteFault
+length_at keys key = quantity_at 1 (pos 0) most_tenths keys key
 
 -- a deduction or a thickness; where it is missing, none
-unfoldable pub length_or_none : ℕ → Data → List ℕ → Result ℤ SiteFault
-length_or_none item keys key = if has keys key then length_at item keys key else Ok (pos 0)
+unfoldable pub length_or_none : Keys → List ℕ → Result ℤ SiteFault
+length_or_none keys key = if has keys key then length_at keys key else Ok (pos 0)
 
 -- a height, in mm
-unfoldable pub height_at : ℕ → Data → List ℕ → Result ℤ SiteFault
-height_at item keys key = whole_at item keys key (pos 0) most_height
+unfoldable pub height_at : Keys → List ℕ → Result ℤ SiteFault
+height_at keys key = whole_at keys key (pos 0) most_height
+
+-- what is deducted of the lower and of the upper circumference
+unfoldable pub deductions_at : Keys → Result (ℤ × ℤ) SiteFault
+deductions_at keys = do
+  lower ← length_or_none keys (codes "lower_deduction")
+  upper ← length_or_none keys (codes "upper_deduction")
+  Ok (lower, upper)
+
+-- the thicknesses of the plate and of the paint
+unfoldable pub thicknesses_at : Keys → Result (ℤ × ℤ) SiteFault
+thicknesses_at keys = do
+  plate ← length_or_none keys (codes "plate")
+  paint ← length_or_none keys (codes "paint")
+  Ok (plate, paint)
 
 -- a course of a table
-unfoldable pub course_of : ℕ → Data → Result Course SiteFault
-course_of item keys = do
-  height ← height_at item keys (codes "height")
-  lower ← length_at item keys (codes "lower")
-  upper ← length_at item keys (codes "upper")
-  lower_off ← length_or_none item keys (codes "lower_deduction")
-  upper_off ← length_or_none item keys (codes "upper_deduction")
-  plate ← length_or_none item keys (codes "plate")
-  paint ← length_or_none item keys (codes "paint")
+unfoldable pub course_of : Keys → Result Course SiteFault
+course_of keys = do
+  height ← height_at keys (codes "height")
+  lower ← length_at keys (codes "lower")
+  upper ← length_at keys (codes "upper")
+  deductions ← deductions_at keys
+  thicknesses ← thicknesses_at keys
   Ok (record {
     height = height;
     lower = lower;
     upper = upper;
-    lower_off = lower_off;
-    upper_off = upper_off;
-    plate = plate;
-    paint = paint;
+    lower_off = deductions.0;
+    upper_off = deductions.1;
+    plate = thicknesses.0;
+    paint = thicknesses.1;
   })
 
 -- a deadwood of a table
-unfoldable pub deadwood_of : ℕ → Data → Result Deadwood SiteFault
-deadwood_of item keys = do
-  low ← height_at item keys (codes "low")
-  high ← height_at item keys (codes "high")
-  litres ← integer_at item keys (codes "litres")
+unfoldable pub deadwood_of : Keys → Result Deadwood SiteFault
+deadwood_of keys = do
+  low ← height_at keys (codes "low")
+  high ← height_at keys (codes "high")
+  litres ← integer_at keys (codes "litres")
   Ok (record { low = low; high = high; litres = litres })
 
 -- the height of a point
@@ -80,30 +92,30 @@ point_of item value = do
   point_of_pair item (values_of pair)
 
 -- the bottom: the points of an array, or a flat one where the array is missing
-unfoldable pub bottom_at : ℕ → Data → Result (List Point) SiteFault
-bottom_at item keys =
+unfoldable pub bottom_at : Keys → Result (List Point) SiteFault
+bottom_at keys =
     if has keys (codes "bottom") then (do
-      values ← array_at item keys (codes "bottom")
-      read_from (point_of item) [] values) else Ok ((pos 0, pos 0) ∷ [])
+      values ← array_at keys (codes "bottom")
+      read_from (point_of keys.item) [] values) else Ok ((pos 0, pos 0) ∷ [])
 
 -- the courses
-unfoldable pub courses_at : ℕ → Data → Result (List Course) SiteFault
-courses_at item keys = do
-  values ← array_or_none item keys (codes "course")
-  read_from (course_of item) [] values
+unfoldable pub courses_at : Keys → Result (List Course) SiteFault
+courses_at keys = do
+  tables ← array_or_none keys (codes "course")
+  read_from (λ table. course_of (inner keys table)) [] tables
 
 -- the deadwoods
-unfoldable pub deadwoods_at : ℕ → Data → Result (List Deadwood) SiteFault
-deadwoods_at item keys = do
-  values ← array_or_none item keys (codes "deadwood")
-  read_from (deadwood_of item) [] values
+unfoldable pub deadwoods_at : Keys → Result (List Deadwood) SiteFault
+deadwoods_at keys = do
+  tables ← array_or_none keys (codes "deadwood")
+  read_from (λ table. deadwood_of (inner keys table)) [] tables
 
 -- the parts of a strapping
-unfoldable pub parts_of : ℕ → Data → Result StrappedTank SiteFault
-parts_of item keys = do
-  courses ← courses_at item keys
-  deadwoods ← deadwoods_at item keys
-  bottom ← bottom_at item keys
+unfoldable pub parts_of : Keys → Result StrappedTank SiteFault
+parts_of keys = do
+  courses ← courses_at keys
+  deadwoods ← deadwoods_at keys
+  bottom ← bottom_at keys
   Ok (record { courses = courses; deadwoods = deadwoods; bottom = bottom })
 
 -- why a strapping is refused
@@ -127,13 +139,13 @@ judged item rounding tank (Some fault) = Err (strap_fault item fault)
 judged item rounding tank None = rows_read item (strapped_rows rounding tank)
 
 -- the capacity table of a strapping's keys
-unfoldable pub table_of_strapping : ℕ → List Row → Data → Result (List ℤ) SiteFault
-table_of_strapping item rounding keys = do
-  tank ← parts_of item keys
-  judged item rounding tank (first_fault tank)
+unfoldable pub table_of_strapping : List Row → Keys → Result (List ℤ) SiteFault
+table_of_strapping rounding keys = do
+  tank ← parts_of keys
+  judged keys.item rounding tank (first_fault tank)
 
 -- the capacity table of a strapping file
 unfoldable pub strapped_file : ℕ → List Row → List ℕ → Result (List ℤ) SiteFault
 strapped_file item rounding bytes = do
   keys ← toml_of item bytes
-  table_of_strapping item rounding keys
+  table_of_strapping rounding keys

@@ -7,7 +7,7 @@ ghost use Rattle.strap_courses.specs.Faults as strap;
 ghost use Rattle.site_keys.specs.Faults.{IsNotTheFolders, reported};
 ghost use Rattle.strap_courses.specs.Rows.{strapped_rows};
 ghost use Rattle.site_keys.specs.Lists.{read_from};
-ghost use Rattle.site_tables.specs.Strappings.{bottom_at, course_of, courses_at, deadwood_of, deadwoods_at, height_at, length_at, length_or_none, level_of, parts_of, point_of, point_of_pair, rows_read, strap_fault, strapped_file, table_of_strapping};
+ghost use Rattle.site_tables.specs.Strappings.{bottom_at, course_of, courses_at, deadwood_of, deadwoods_at, deductions_at, height_at, length_at, length_or_none, level_of, parts_of, point_of, point_of_pair, rows_read, strap_fault, strapped_file, table_of_strapping, thicknesses_at};
 
 use crate::tables::table_of_rows;
 use farm_fixed::{Deci, MOST_HEIGHT, Mm, TenthMillimetre};
@@ -48,8 +48,8 @@ fn table_of_strapping(
     rounding: &RoundTable,
     keys: &Keys<'_>,
 ) -> Result<CapTable, SiteReadFault>
-    ensures table { MatchResult result (λ table. table_of_strapping keys.now.item rounding.now (view keys.now.table.now) ≡ Ok table)
-        (λ fault. IsRefusedAs (reported fault) (table_of_strapping keys.now.item rounding.now (view keys.now.table.now))) }
+    ensures table { MatchResult result (λ table. table_of_strapping rounding.now keys.now ≡ Ok table)
+        (λ fault. IsRefusedAs (reported fault) (table_of_strapping rounding.now keys.now)) }
     ensures not_the_folders { IfErr result IsNotTheFolders }
 {
     let courses = courses_at(alloc, keys)?;
@@ -98,8 +98,8 @@ fn strap_refused(item: u32, fault: StrapFault) -> SiteReadFault
 // The courses.
 #[tactic(auto, unfolding(crate::specs::Strappings::courses_at))]
 fn courses_at(alloc: Global, keys: &Keys<'_>) -> Result<Vec<Course>, SiteReadFault>
-    ensures courses { MatchResult result (λ list. courses_at keys.now.item (view keys.now.table.now) ≡ Ok list.items)
-        (λ fault. IsRefusedAs (reported fault) (courses_at keys.now.item (view keys.now.table.now))) }
+    ensures courses { MatchResult result (λ list. courses_at keys.now ≡ Ok list.items)
+        (λ fault. IsRefusedAs (reported fault) (courses_at keys.now)) }
     ensures not_the_folders { IfErr result IsNotTheFolders }
 {
     let values = keys.array_or_none("course")?;
@@ -116,8 +116,8 @@ fn courses_at(alloc: Global, keys: &Keys<'_>) -> Result<Vec<Course>, SiteReadFau
 // The deadwoods.
 #[tactic(auto, unfolding(crate::specs::Strappings::deadwoods_at))]
 fn deadwoods_at(alloc: Global, keys: &Keys<'_>) -> Result<Vec<Deadwood>, SiteReadFault>
-    ensures deadwoods { MatchResult result (λ list. deadwoods_at keys.now.item (view keys.now.table.now) ≡ Ok list.items)
-        (λ fault. IsRefusedAs (reported fault) (deadwoods_at keys.now.item (view keys.now.table.now))) }
+    ensures deadwoods { MatchResult result (λ list. deadwoods_at keys.now ≡ Ok list.items)
+        (λ fault. IsRefusedAs (reported fault) (deadwoods_at keys.now)) }
     ensures not_the_folders { IfErr result IsNotTheFolders }
 {
     let values = keys.array_or_none("deadwood")?;
@@ -134,8 +134,8 @@ fn deadwoods_at(alloc: Global, keys: &Keys<'_>) -> Result<Vec<Deadwood>, SiteRea
 // The bottom: a flat one where the array is missing.
 #[tactic(auto, unfolding(crate::specs::Strappings::bottom_at))]
 fn bottom_at(alloc: Global, keys: &Keys<'_>) -> Result<Vec<(Mm, i64)>, SiteReadFault>
-    ensures points { MatchResult result (λ list. bottom_at keys.now.item (view keys.now.table.now) ≡ Ok list.items)
-        (λ fault. IsRefusedAs (reported fault) (bottom_at keys.now.item (view keys.now.table.now))) }
+    ensures points { MatchResult result (λ list. bottom_at keys.now ≡ Ok list.items)
+        (λ fault. IsRefusedAs (reported fault) (bottom_at keys.now)) }
     ensures not_the_folders { IfErr result IsNotTheFolders }
 {
     if !keys.has("bottom") {
@@ -161,15 +161,13 @@ fn points_of(alloc: Global, item: u32, values: &[Value]) -> Result<Vec<(Mm, i64)
 // A course.
 #[tactic(auto, unfolding(crate::specs::Strappings::course_of))]
 fn course_of(keys: &Keys<'_>) -> Result<Course, SiteFault>
-    ensures course { result ≡ course_of keys.now.item (view keys.now.table.now) }
+    ensures course { result ≡ course_of keys.now }
 {
     let height = height_at(keys, "height")?;
     let lower = length_at(keys, "lower")?;
     let upper = length_at(keys, "upper")?;
-    let lower_off = length_or_none(keys, "lower_deduction")?;
-    let upper_off = length_or_none(keys, "upper_deduction")?;
-    let plate = length_or_none(keys, "plate")?;
-    let paint = length_or_none(keys, "paint")?;
+    let (lower_off, upper_off) = deductions_at(keys)?;
+    let (plate, paint) = thicknesses_at(keys)?;
     Ok(Course {
         height,
         lower,
@@ -181,10 +179,30 @@ fn course_of(keys: &Keys<'_>) -> Result<Course, SiteFault>
     })
 }
 
+// What is deducted of the lower and of the upper circumference.
+#[tactic(auto, unfolding(crate::specs::Strappings::deductions_at))]
+fn deductions_at(keys: &Keys<'_>) -> Result<(Deci, Deci), SiteFault>
+    ensures deductions { result ≡ deductions_at keys.now }
+{
+    let lower = length_or_none(keys, "lower_deduction")?;
+    let upper = length_or_none(keys, "upper_deduction")?;
+    Ok((lower, upper))
+}
+
+// The thicknesses of the plate and of the paint.
+#[tactic(auto, unfolding(crate::specs::Strappings::thicknesses_at))]
+fn thicknesses_at(keys: &Keys<'_>) -> Result<(Deci, Deci), SiteFault>
+    ensures thicknesses { result ≡ thicknesses_at keys.now }
+{
+    let plate = length_or_none(keys, "plate")?;
+    let paint = length_or_none(keys, "paint")?;
+    Ok((plate, paint))
+}
+
 // A deadwood.
 #[tactic(auto, unfolding(crate::specs::Strappings::deadwood_of))]
 fn deadwood_of(keys: &Keys<'_>) -> Result<Deadwood, SiteFault>
-    ensures deadwood { result ≡ deadwood_of keys.now.item (view keys.now.table.now) }
+    ensures deadwood { result ≡ deadwood_of keys.now }
 {
     let low = height_at(keys, "low")?;
     let high = height_at(keys, "high")?;
@@ -195,7 +213,7 @@ fn deadwood_of(keys: &Keys<'_>) -> Result<Deadwood, SiteFault>
 // A deduction or a thickness; where it is missing, none.
 #[tactic(auto, unfolding(crate::specs::Strappings::length_or_none))]
 fn length_or_none(keys: &Keys<'_>, key: &str) -> Result<Deci, SiteFault>
-    ensures length { result ≡ length_or_none keys.now.item (view keys.now.table.now) key.now }
+    ensures length { result ≡ length_or_none keys.now key.now }
 {
     if !keys.has(key) {
         return Ok(Deci::in_range(0));
@@ -206,7 +224,7 @@ fn length_or_none(keys: &Keys<'_>, key: &str) -> Result<Deci, SiteFault>
 // A circumference, a deduction or a thickness.
 #[tactic(auto, unfolding(crate::specs::Strappings::length_at))]
 fn length_at(keys: &Keys<'_>, key: &str) -> Result<Deci, SiteFault>
-    ensures length { result ≡ length_at keys.now.item (view keys.now.table.now) key.now }
+    ensures length { result ≡ length_at keys.now key.now }
 {
     keys.quantity::<TenthMillimetre>(key)
 }
@@ -214,7 +232,7 @@ fn length_at(keys: &Keys<'_>, key: &str) -> Result<Deci, SiteFault>
 // A height.
 #[tactic(auto, unfolding(crate::specs::Strappings::height_at))]
 fn height_at(keys: &Keys<'_>, key: &str) -> Result<Mm, SiteFault>
-    ensures height { result ≡ height_at keys.now.item (view keys.now.table.now) key.now }
+    ensures height { result ≡ height_at keys.now key.now }
 {
     let height = keys.whole(key, 0, MOST_HEIGHT)?;
     Ok(Mm::in_range(i128::from(height)))

@@ -38,7 +38,7 @@ fn fault_of(item: u32, fault: CsvFault) -> SiteReadFault
 }
 
 /// The capacity table of rows.
-pub fn table_of_rows(item: u32, rows: Vec<i64>) -> Result<CapTable, SiteFault>
+pub(crate) fn table_of_rows(item: u32, rows: Vec<i64>) -> Result<CapTable, SiteFault>
     ensures table { result ≡ table_of_rows item rows.items }
 {
     match CapTable::from_rows(rows) {

@@ -1,14 +1,13 @@
 -- The format of a site file: which keys it may have, and what they may say.
 use Rattle.std.specs.Prelude.{codes, Result, Ok}
-use Rattle.toml.specs.Data.{Data}
 use Rattle.farm_base.specs.Steps.{◌>>=◌}
 use Rattle.site_keys.specs.declared.fault.SiteFault.{SiteFault}
-use Rattle.site_keys.specs.Keys.{natural_at}
+use Rattle.site_keys.specs.Keys.{Keys, natural_at}
 use Rattle.site_toml.specs.declared.formats.Format.{Format}
 use Rattle.site_toml.specs.declared.formats.Format.TheVariants.{One}
 
 -- the format of a site file, which is 1
-unfoldable pub format_at : Data → Result Format SiteFault
+unfoldable pub format_at : Keys → Result Format SiteFault
 format_at top = do
-  number ← natural_at 0 top (codes "format") 1 1
+  number ← natural_at top (codes "format") 1 1
   Ok One

@@ -1,7 +1,6 @@
 -- The products of a site, each with its volume correction factors.
 use Rattle.std.specs.Prelude.{ℕ, List, [], map, codes, Result, Ok, Err}
 use Rattle.farm_base.specs.Steps.{◌>>=◌}
-use Rattle.toml.specs.Data.{Data}
 use Rattle.farm_ports.specs.Folders.{File}
 use Rattle.farm_vcf.specs.Grid.{Grid}
 use Rattle.farm_vcf.specs.Records.{vcf_of}
@@ -13,7 +12,7 @@ use Rattle.farm_site.specs.declared.items.Product.{Product}
 use Rattle.farm_site.specs.Products.{product_number}
 use Rattle.site_keys.specs.Faults.{Refusal, detail, fault_at, found}
 use Rattle.site_keys.specs.Files.{content}
-use Rattle.site_keys.specs.Keys.{text_at}
+use Rattle.site_keys.specs.Keys.{Keys, text_at}
 use Rattle.farm_site.specs.Limits.{most_products}
 use Rattle.site_keys.specs.Lists.{list_at, numbered_from, own_number}
 use Rattle.site_toml.specs.Names.{name_at}
@@ -31,17 +30,17 @@ factors_read item (Ok grid) = Ok grid
 factors_read item (Err fault) = Err (factors_fault item fault)
 
 -- a product of a table, after others
-unfoldable pub product_of : List File → List Product → ℕ → Data → Result Product Refusal
-product_of files earlier item keys = do
-  number ← found (own_number (map product_number earlier) item keys)
-  name ← found (name_at item keys)
-  file ← found (text_at item keys (codes "factors"))
-  bytes ← content files item file
-  grid ← found (factors_read item (vcf_of bytes))
+unfoldable pub product_of : List File → List Product → Keys → Result Product Refusal
+product_of files earlier keys = do
+  number ← found (own_number (map product_number earlier) keys)
+  name ← found (name_at keys)
+  file ← found (text_at keys (codes "factors"))
+  bytes ← content files keys.item file
+  grid ← found (factors_read keys.item (vcf_of bytes))
   Ok (record { number = number; name = name; vcf = grid })
 
 -- the products, from 1 to 16
-unfoldable pub products_of : List File → Data → Result (List Product) Refusal
+unfoldable pub products_of : List File → Keys → Result (List Product) Refusal
 products_of files top = do
-  tables ← found (list_at 1 most_products 0 top (codes "product"))
+  tables ← found (list_at 1 most_products top (codes "product"))
   numbered_from product_number (product_of files) 1 [] tables

@@ -10,7 +10,7 @@ use Rattle.farm_rounding.specs.Table.{Row, is_row, usual_rows}
 use Rattle.site_keys.specs.Codes.{code_of_field, code_of_range}
 use Rattle.site_keys.specs.declared.fault.SiteFault.{SiteFault}
 use Rattle.site_keys.specs.Faults.{bad, needed}
-use Rattle.site_keys.specs.Keys.{array_at, has}
+use Rattle.site_keys.specs.Keys.{Keys, array_at, has}
 use Rattle.site_toml.specs.declared.formats.Format.{Format}
 use Rattle.site_toml.specs.declared.formats.Format.TheVariants.{One}
 use Rattle.farm_rounding.specs.RowNumbers.{rounding_rows}
@@ -71,8 +71,8 @@ abbrev pub twelve_rows : Format → List Data → Result (List Row) SiteFault
 twelve_rows format values = if length values == rounding_rows then rows_after format [] values else bad code_of_field 0 0
 
 -- the rounding table: twelve rows, or the usual ones where the list is missing
-unfoldable pub rounding_at : Format → Data → Result (List Row) SiteFault
+unfoldable pub rounding_at : Format → Keys → Result (List Row) SiteFault
 rounding_at format top =
     if has top (codes "rounding") then (do
-      values ← array_at 0 top (codes "rounding")
+      values ← array_at top (codes "rounding")
       twelve_rows format values) else Ok usual_rows

@@ -1,17 +1,16 @@
 -- What is fixed of a tank: its shell, its reference height and its roof.
-use Rattle.std.specs.Prelude.{ℕ, ◌||◌, Bool, not, if◌then◌else◌, List, codes, Option, Some, None, Result, Ok, pos}
+use Rattle.std.specs.Prelude.{ℕ, ◌||◌, Bool, not, if◌then◌else◌, codes, Option, Some, None, Result, Ok, pos}
 use Rattle.std.specs.Int.RustNames.{int_lt}
-use Rattle.toml.specs.Data.{Data}
 use Rattle.farm_base.specs.Steps.{◌>>=◌}
 use Rattle.farm_fixed.specs.Limits.{least_temperature, most_coefficient, most_height, most_roof_mass, most_temperature}
-use Rattle.farm_fixed.specs.Shells.{insulated_of}
+use Rattle.farm_fixed.specs.Shells.{is_insulated}
 use Rattle.farm_fixed.specs.declared.records.Shell.{Shell}
 use Rattle.strap_table.specs.declared.tank.Roof.{Roof}
 use Rattle.strap_table.specs.declared.tank.TankSpec.{TankSpec}
 use Rattle.site_keys.specs.Codes.{code_of_range}
 use Rattle.site_keys.specs.declared.fault.SiteFault.{SiteFault}
 use Rattle.site_keys.specs.Faults.{bad, ranged}
-use Rattle.site_keys.specs.Keys.{has, quantity_at, text_at, whole_at}
+use Rattle.site_keys.specs.Keys.{Keys, has, quantity_at, text_at, whole_at}
 use Rattle.site_toml.specs.declared.formats.Format.{Format}
 use Rattle.site_toml.specs.declared.formats.Format.TheVariants.{One}
 
@@ -21,41 +20,42 @@ kind_there item None = bad code_of_range item 0
 kind_there item (Some insulated) = Ok insulated
 
 -- whether a shell is insulated
-abbrev pub shell_kind : ℕ → List ℕ → Result Bool SiteFault
-shell_kind item text = kind_there item (insulated_of text)
+unfoldable pub is_insulated_at : Keys → Result Bool SiteFault
+is_insulated_at keys = do
+  text ← text_at keys (codes "shell")
+  kind_there keys.item (is_insulated text)
 
 -- the shell of a tank
-unfoldable pub shell_at : ℕ → Data → Result Shell SiteFault
-shell_at item keys = do
-  text ← text_at item keys (codes "shell")
-  insulated ← shell_kind item text
-  coefficient ← whole_at item keys (codes "coefficient") (pos 0) most_coefficient
-  reference ← quantity_at 2 least_temperature most_temperature item keys (codes "reference_temperature")
+unfoldable pub shell_at : Keys → Result Shell SiteFault
+shell_at keys = do
+  insulated ← is_insulated_at keys
+  coefficient ← whole_at keys (codes "coefficient") (pos 0) most_coefficient
+  reference ← quantity_at 2 least_temperature most_temperature keys (codes "reference_temperature")
   Ok (record { insulated = insulated; coefficient = coefficient; reference = reference })
 
 -- the floating roof of a tank, once it has one
-unfoldable pub floating_at : ℕ → Data → Result Roof SiteFault
-floating_at item keys = do
-  mass ← whole_at item keys (codes "roof_kg") (pos 1) most_roof_mass
-  low ← whole_at item keys (codes "roof_low") (pos 0) most_height
-  high ← whole_at item keys (codes "roof_high") (pos 0) most_height
-  ranged item (not (int_lt high low)) (record { mass = mass; low = low; high = high })
+unfoldable pub floating_at : Keys → Result Roof SiteFault
+floating_at keys = do
+  mass ← whole_at keys (codes "roof_kg") (pos 1) most_roof_mass
+  low ← whole_at keys (codes "roof_low") (pos 0) most_height
+  high ← whole_at keys (codes "roof_high") (pos 0) most_height
+  ranged keys.item (not (int_lt high low)) (record { mass = mass; low = low; high = high })
 
 -- the roof of a tank: it has all three keys of one, or none
-unfoldable pub roof_of_three : ℕ → Data → Result (Option Roof) SiteFault
-roof_of_three item keys =
+unfoldable pub roof_of_three : Keys → Result (Option Roof) SiteFault
+roof_of_three keys =
     if has keys (codes "roof_kg") || has keys (codes "roof_low") || has keys (codes "roof_high") then (do
-      roof ← floating_at item keys
+      roof ← floating_at keys
       Ok (Some roof)) else Ok None
 
 -- the roof of a tank, by the keys that the format has for one
-abbrev pub roof_at : Format → ℕ → Data → Result (Option Roof) SiteFault
-roof_at One item keys = roof_of_three item keys
+abbrev pub roof_at : Format → Keys → Result (Option Roof) SiteFault
+roof_at One keys = roof_of_three keys
 
 -- what is fixed of a tank
-unfoldable pub spec_at : Format → ℕ → Data → Result TankSpec SiteFault
-spec_at format item keys = do
-  shell ← shell_at item keys
-  height ← whole_at item keys (codes "reference_height") (pos 1) most_height
-  roof ← roof_at format item keys
+unfoldable pub spec_at : Format → Keys → Result TankSpec SiteFault
+spec_at format keys = do
+  shell ← shell_at keys
+  height ← whole_at keys (codes "reference_height") (pos 1) most_height
+  roof ← roof_at format keys
   Ok (record { shell = shell; height = height; roof = roof })

@@ -1,6 +1,5 @@
 -- The tanks of a site, each with its capacity table.
 use Rattle.std.specs.Prelude.{ℕ, Bool, true, false, List, [], map, codes, Result, Ok, ℤ, neg_ℤ}
-use Rattle.toml.specs.Data.{Data}
 use Rattle.farm_base.specs.Steps.{◌>>=◌}
 use Rattle.farm_fixed.specs.declared.records.Amount.{Amount}
 use Rattle.farm_ports.specs.Folders.{File}
@@ -11,7 +10,7 @@ use Rattle.farm_site.specs.Limits.{most_stock, most_tanks}
 use Rattle.farm_site.specs.Tanks.{tank_number}
 use Rattle.site_keys.specs.Faults.{Refusal, bad, found}
 use Rattle.site_keys.specs.Files.{content}
-use Rattle.site_keys.specs.Keys.{has, text_at, whole_at}
+use Rattle.site_keys.specs.Keys.{Keys, has, text_at, whole_at}
 use Rattle.site_keys.specs.Lists.{list_at, numbered_from, own_number, reference_at}
 use Rattle.site_tables.specs.Strappings.{strapped_file}
 use Rattle.site_tables.specs.Tables.{table_of_file}
@@ -32,14 +31,14 @@ file_key true = codes "strapping"
 file_key false = codes "table"
 
 -- a stock, in litres or kilograms
-unfoldable pub stock_at : ℕ → Data → List ℕ → Result ℤ SiteFault
-stock_at item keys key = whole_at item keys key (neg_ℤ most_stock) most_stock
+unfoldable pub stock_at : Keys → List ℕ → Result ℤ SiteFault
+stock_at keys key = whole_at keys key (neg_ℤ most_stock) most_stock
 
 -- the opening stock
-unfoldable pub opening_at : ℕ → Data → Result Amount SiteFault
-opening_at item keys = do
-  litres ← stock_at item keys (codes "opening_litres")
-  kg ← stock_at item keys (codes "opening_kg")
+unfoldable pub opening_at : Keys → Result Amount SiteFault
+opening_at keys = do
+  litres ← stock_at keys (codes "opening_litres")
+  kg ← stock_at keys (codes "opening_kg")
   Ok (record { litres = litres; kg = kg })
 
 -- the capacity table of a file
@@ -48,20 +47,20 @@ table_in item rounding true bytes = strapped_file item rounding bytes
 table_in item rounding false bytes = table_of_file item bytes
 
 -- a tank of a table, after others
-unfoldable pub tank_of : List File → Format → List Row → List ℕ → List Tank → ℕ → Data → Result Tank Refusal
-tank_of files format rounding products earlier item keys = do
-  number ← found (own_number (map tank_number earlier) item keys)
-  product ← found (reference_at item keys (codes "product") products)
-  spec ← found (spec_at format item keys)
-  strapped ← found (is_strapped item (has keys (codes "table")) (has keys (codes "strapping")))
-  file ← found (text_at item keys (file_key strapped))
-  opening ← found (opening_at item keys)
-  bytes ← content files item file
-  table ← found (table_in item rounding strapped bytes)
+unfoldable pub tank_of : List File → Format → List Row → List ℕ → List Tank → Keys → Result Tank Refusal
+tank_of files format rounding products earlier keys = do
+  number ← found (own_number (map tank_number earlier) keys)
+  product ← found (reference_at keys (codes "product") products)
+  spec ← found (spec_at format keys)
+  strapped ← found (is_strapped keys.item (has keys (codes "table")) (has keys (codes "strapping")))
+  file ← found (text_at keys (file_key strapped))
+  opening ← found (opening_at keys)
+  bytes ← content files keys.item file
+  table ← found (table_in keys.item rounding strapped bytes)
   Ok (record { number = number; product = product; spec = spec; table = table; opening = opening })
 
 -- the tanks, from 1 to 64
-unfoldable pub tanks_of : List File → Format → List Row → List ℕ → Data → Result (List Tank) Refusal
+unfoldable pub tanks_of : List File → Format → List Row → List ℕ → Keys → Result (List Tank) Refusal
 tanks_of files format rounding products top = do
-  tables ← found (list_at 1 most_tanks 0 top (codes "tank"))
+  tables ← found (list_at 1 most_tanks top (codes "tank"))
   numbered_from tank_number (tank_of files format rounding products) 1 [] tables

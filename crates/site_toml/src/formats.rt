@@ -1,7 +1,6 @@
 //! The format of a site file.
 
 ghost use Rattle.std.specs.Prelude.{◌≡◌};
-ghost use Rattle.toml.specs.View.{view};
 ghost use Rattle.site_toml.specs.Formats.{format_at};
 
 use site_keys::{Keys, SiteFault};
@@ -16,8 +15,7 @@ pub enum Format {
 /// The format of a site file.
 #[tactic(auto, unfolding(crate::specs::Formats::format_at))]
 pub fn format_at(top: &Keys<'_>) -> Result<Format, SiteFault>
-    requires top_of_file { top.now.item ≡ 0 }
-    ensures format { result ≡ format_at (view top.now.table.now) }
+    ensures format { result ≡ format_at top.now }
 {
     top.natural("format", 1, 1)?;
     Ok(Format::One)

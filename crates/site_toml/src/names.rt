@@ -2,7 +2,6 @@
 
 ghost use Rattle.std.specs.Prelude.{◌≡◌, MatchResult, IfOk, IfErr, IsTrue, Ok};
 ghost use Rattle.farm_base.specs.Steps.{IsRefusedAs};
-ghost use Rattle.toml.specs.View.{view};
 ghost use Rattle.site_keys.specs.Faults.{IsNotTheFolders, reported};
 ghost use Rattle.farm_site.specs.Names.{is_name};
 ghost use Rattle.site_toml.specs.Names.{name_at};
@@ -14,8 +13,8 @@ use std::alloc::Global;
 /// The name of an item: 1 to 32 printable ASCII characters.
 #[tactic(auto, unfolding(crate::specs::Names::name_at))]
 pub fn name_at(alloc: Global, keys: &Keys<'_>) -> Result<Name, SiteReadFault>
-    ensures name { MatchResult result (λ name. name_at keys.now.item (view keys.now.table.now) ≡ Ok name)
-        (λ fault. IsRefusedAs (reported fault) (name_at keys.now.item (view keys.now.table.now))) }
+    ensures name { MatchResult result (λ name. name_at keys.now ≡ Ok name)
+        (λ fault. IsRefusedAs (reported fault) (name_at keys.now)) }
     ensures sound { IfOk result (λ name. IsTrue (is_name name)) }
     ensures not_the_folders { IfErr result IsNotTheFolders }
 {

@@ -19,9 +19,8 @@ use toml::Value;
 /// The parties, in rising order of number.
 #[tactic(auto, unfolding(crate::specs::Parties::parties_of))]
 pub fn parties_of(alloc: Global, top: &Keys<'_>) -> Result<Vec<Party>, SiteReadFault>
-    requires top_of_file { top.now.item ≡ 0 }
-    ensures parties { MatchResult result (λ parties. parties_of (view top.now.table.now) ≡ Ok parties.items)
-        (λ fault. IsRefusedAs (reported fault) (parties_of (view top.now.table.now))) }
+    ensures parties { MatchResult result (λ parties. parties_of top.now ≡ Ok parties.items)
+        (λ fault. IsRefusedAs (reported fault) (parties_of top.now)) }
     ensures sound { IfOk result (λ parties. IsTrue (are_parties parties.items)) }
     ensures not_the_folders { IfErr result IsNotTheFolders }
 {
@@ -52,8 +51,8 @@ fn parties_in(alloc: Global, tables: &[Value]) -> Result<Vec<Party>, SiteReadFau
 // The party of a table, after others.
 #[tactic(auto, unfolding(crate::specs::Parties::party_of))]
 fn party_of(alloc: Global, earlier: &[Party], keys: &Keys<'_>) -> Result<Party, SiteReadFault>
-    ensures party { MatchResult result (λ party. party_of earlier.now keys.now.item (view keys.now.table.now) ≡ Ok party)
-        (λ fault. IsRefusedAs (reported fault) (party_of earlier.now keys.now.item (view keys.now.table.now))) }
+    ensures party { MatchResult result (λ party. party_of earlier.now keys.now ≡ Ok party)
+        (λ fault. IsRefusedAs (reported fault) (party_of earlier.now keys.now)) }
     ensures sound { IfOk result (λ party. IsTrue (is_party party)) }
     ensures fresh { IfOk result (λ party. IsFalse (is_among party.number (map party_number earlier.now))) }
     ensures not_the_folders { IfErr result IsNotTheFolders }

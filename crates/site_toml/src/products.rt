@@ -2,7 +2,8 @@
 
 ghost use Rattle.std.specs.Prelude.{◌≡◌, ◌≤◌, [], length, List, map, option_map, MatchResult, IfOk, IsTrue, IsFalse, Ok, Err, Some, IfErr};
 ghost use Rattle.toml.specs.View.{view};
-ghost use Rattle.farm_base.specs.Known.{KeepsKnown};
+ghost use Rattle.farm_base.specs.Counts.{CountsIf};
+ghost use Rattle.farm_base.specs.Known.{Stays};
 ghost use Rattle.farm_base.specs.Steps.{IsRefusedAs};
 ghost use Rattle.farm_ports.specs.Folders.{File};
 ghost use Rattle.farm_vcf.specs.Faults as factors;
@@ -32,15 +33,14 @@ pub fn products_of<F: Folder>(
     folder: &mut F,
     top: &Keys<'_>,
 ) -> Result<Vec<Product>, SiteReadFault>
-    requires top_of_file { top.now.item ≡ 0 }
     ensures products { (files : List File) → F.files folder.new ≡ Some files →
-        MatchResult result (λ products. products_of files (view top.now.table.now) ≡ Ok products.items)
-        (λ fault. IsRefusedAs (refusal_of fault) (products_of files (view top.now.table.now))) }
+        MatchResult result (λ products. products_of files top.now ≡ Ok products.items)
+        (λ fault. IsRefusedAs (refusal_of fault) (products_of files top.now)) }
     ensures sound { IfOk result (λ products. IsTrue (are_products products.items)) }
-    ensures keeps { KeepsKnown (F.files folder.old) (F.files folder.new) (F.faults folder.old) (F.faults folder.new)
-        SiteReadFault.Folder result }
+    ensures files { Stays (F.files folder.old) (F.files folder.new) }
+    ensures counts { CountsIf (result ≡ Err SiteReadFault.Folder) (F.faults folder.old) (F.faults folder.new) }
     ensures missing_only { F.lists_no_failure folder.old →
-        FailsAsMissing (F.files folder.new) result (λ files. products_of files (view top.now.table.now)) }
+        FailsAsMissing (F.files folder.new) result (λ files. products_of files top.now) }
     ensures lists { F.lists_no_failure folder.old → F.lists_no_failure folder.new }
 {
     products_in(alloc, folder, list_at(top, "product", 1, MOST_PRODUCTS)?)
@@ -58,8 +58,8 @@ fn products_in<F: Folder>(
         (λ fault. IsRefusedAs (refusal_of fault) (numbered_from product_number (product_of files) 1 [] (map view tables.now))) }
     ensures count { IfOk result (λ products. length products.items ≡ length tables.now) }
     ensures sound { IfOk result (λ products. IsTrue (are_numbered product_number is_product products.items)) }
-    ensures keeps { KeepsKnown (F.files folder.old) (F.files folder.new) (F.faults folder.old) (F.faults folder.new)
-        SiteReadFault.Folder result }
+    ensures files { Stays (F.files folder.old) (F.files folder.new) }
+    ensures counts { CountsIf (result ≡ Err SiteReadFault.Folder) (F.faults folder.old) (F.faults folder.new) }
     ensures missing_only { F.lists_no_failure folder.old →
         FailsAsMissing (F.files folder.new) result (λ files. numbered_from product_number (product_of files) 1 [] (map view tables.now)) }
     ensures lists { F.lists_no_failure folder.old → F.lists_no_failure folder.new }
@@ -85,14 +85,14 @@ fn product_of<F: Folder>(
     keys: &Keys<'_>,
 ) -> Result<Product, SiteReadFault>
     ensures product { (files : List File) → F.files folder.new ≡ Some files →
-        MatchResult result (λ product. product_of files earlier.now keys.now.item (view keys.now.table.now) ≡ Ok product)
-        (λ fault. IsRefusedAs (refusal_of fault) (product_of files earlier.now keys.now.item (view keys.now.table.now))) }
+        MatchResult result (λ product. product_of files earlier.now keys.now ≡ Ok product)
+        (λ fault. IsRefusedAs (refusal_of fault) (product_of files earlier.now keys.now)) }
     ensures sound { IfOk result (λ product. IsTrue (is_product product)) }
     ensures fresh { IfOk result (λ product. IsFalse (is_among product.number (map product_number earlier.now))) }
-    ensures keeps { KeepsKnown (F.files folder.old) (F.files folder.new) (F.faults folder.old) (F.faults folder.new)
-        SiteReadFault.Folder result }
+    ensures files { Stays (F.files folder.old) (F.files folder.new) }
+    ensures counts { CountsIf (result ≡ Err SiteReadFault.Folder) (F.faults folder.old) (F.faults folder.new) }
     ensures missing_only { F.lists_no_failure folder.old →
-        FailsAsMissing (F.files folder.new) result (λ files. product_of files earlier.now keys.now.item (view keys.now.table.now)) }
+        FailsAsMissing (F.files folder.new) result (λ files. product_of files earlier.now keys.now) }
     ensures lists { F.lists_no_failure folder.old → F.lists_no_failure folder.new }
 {
     let number = own_number(earlier, keys)?;

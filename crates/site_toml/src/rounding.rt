@@ -14,8 +14,7 @@ use toml::Value;
 /// How the site rounds: the twelve rows of a list, or the usual ones where the list is missing.
 #[tactic(auto, unfolding(crate::specs::Rounding::rounding_at))]
 pub fn rounding_at(format: Format, top: &Keys<'_>) -> Result<RoundTable, SiteFault>
-    requires { top.now.item ≡ 0 }
-    ensures rounding { result ≡ rounding_at format (view top.now.table.now) }
+    ensures rounding { result ≡ rounding_at format top.now }
     ensures table { IfOk result IsTable }
 {
     if !top.has("rounding") {

@@ -1,8 +1,9 @@
 //! The tanks of a site.
 
-ghost use Rattle.std.specs.Prelude.{◌≡◌, ◌≤◌, [], length, List, map, MatchResult, IfOk, IsTrue, IsFalse, Ok, Some, IfErr};
+ghost use Rattle.std.specs.Prelude.{◌≡◌, ◌≤◌, [], length, List, map, MatchResult, IfOk, IsTrue, IsFalse, Ok, Err, Some, IfErr};
 ghost use Rattle.toml.specs.View.{view};
-ghost use Rattle.farm_base.specs.Known.{KeepsKnown};
+ghost use Rattle.farm_base.specs.Counts.{CountsIf};
+ghost use Rattle.farm_base.specs.Known.{Stays};
 ghost use Rattle.farm_base.specs.Steps.{IsRefusedAs};
 ghost use Rattle.farm_ports.specs.Folders.{File};
 ghost use Rattle.site_keys.specs.Faults.{IsNotTheFolders, refusal_of, reported};
@@ -39,15 +40,14 @@ pub fn tanks_of<F: Folder>(
     products: &[Product],
     top: &Keys<'_>,
 ) -> Result<Vec<Tank>, SiteReadFault>
-    requires top_of_file { top.now.item ≡ 0 }
     ensures tanks { (files : List File) → F.files folder.new ≡ Some files →
-        MatchResult result (λ tanks. tanks_of files format rounding.now (map product_number products.now) (view top.now.table.now) ≡ Ok tanks.items)
-        (λ fault. IsRefusedAs (refusal_of fault) (tanks_of files format rounding.now (map product_number products.now) (view top.now.table.now))) }
+        MatchResult result (λ tanks. tanks_of files format rounding.now (map product_number products.now) top.now ≡ Ok tanks.items)
+        (λ fault. IsRefusedAs (refusal_of fault) (tanks_of files format rounding.now (map product_number products.now) top.now)) }
     ensures sound { IfOk result (λ tanks. IsTrue (are_tanks (map product_number products.now) tanks.items)) }
-    ensures keeps { KeepsKnown (F.files folder.old) (F.files folder.new) (F.faults folder.old) (F.faults folder.new)
-        SiteReadFault.Folder result }
+    ensures files { Stays (F.files folder.old) (F.files folder.new) }
+    ensures counts { CountsIf (result ≡ Err SiteReadFault.Folder) (F.faults folder.old) (F.faults folder.new) }
     ensures missing_only { F.lists_no_failure folder.old →
-        FailsAsMissing (F.files folder.new) result (λ files. tanks_of files format rounding.now (map product_number products.now) (view top.now.table.now)) }
+        FailsAsMissing (F.files folder.new) result (λ files. tanks_of files format rounding.now (map product_number products.now) top.now) }
     ensures lists { F.lists_no_failure folder.old → F.lists_no_failure folder.new }
 {
     tanks_in(
@@ -75,8 +75,8 @@ fn tanks_in<F: Folder>(
         (λ fault. IsRefusedAs (refusal_of fault) (numbered_from tank_number (tank_of files format rounding.now (map product_number products.now)) 1 [] (map view tables.now))) }
     ensures count { IfOk result (λ tanks. length tanks.items ≡ length tables.now) }
     ensures sound { IfOk result (λ tanks. IsTrue (are_numbered tank_number (is_tank (map product_number products.now)) tanks.items)) }
-    ensures keeps { KeepsKnown (F.files folder.old) (F.files folder.new) (F.faults folder.old) (F.faults folder.new)
-        SiteReadFault.Folder result }
+    ensures files { Stays (F.files folder.old) (F.files folder.new) }
+    ensures counts { CountsIf (result ≡ Err SiteReadFault.Folder) (F.faults folder.old) (F.faults folder.new) }
     ensures missing_only { F.lists_no_failure folder.old →
         FailsAsMissing (F.files folder.new) result (λ files. numbered_from tank_number (tank_of files format rounding.now (map product_number products.now)) 1 [] (map view tables.now)) }
     ensures lists { F.lists_no_failure folder.old → F.lists_no_failure folder.new }
@@ -105,14 +105,14 @@ fn tank_of<F: Folder>(
     keys: &Keys<'_>,
 ) -> Result<Tank, SiteReadFault>
     ensures tank { (files : List File) → F.files folder.new ≡ Some files →
-        MatchResult result (λ tank. tank_of files format rounding.now (map product_number products.now) earlier.now keys.now.item (view keys.now.table.now) ≡ Ok tank)
-        (λ fault. IsRefusedAs (refusal_of fault) (tank_of files format rounding.now (map product_number products.now) earlier.now keys.now.item (view keys.now.table.now))) }
+        MatchResult result (λ tank. tank_of files format rounding.now (map product_number products.now) earlier.now keys.now ≡ Ok tank)
+        (λ fault. IsRefusedAs (refusal_of fault) (tank_of files format rounding.now (map product_number products.now) earlier.now keys.now)) }
     ensures sound { IfOk result (λ tank. IsTrue (is_tank (map product_number products.now) tank)) }
     ensures fresh { IfOk result (λ tank. IsFalse (is_among tank.number (map tank_number earlier.now))) }
-    ensures keeps { KeepsKnown (F.files folder.old) (F.files folder.new) (F.faults folder.old) (F.faults folder.new)
-        SiteReadFault.Folder result }
+    ensures files { Stays (F.files folder.old) (F.files folder.new) }
+    ensures counts { CountsIf (result ≡ Err SiteReadFault.Folder) (F.faults folder.old) (F.faults folder.new) }
     ensures missing_only { F.lists_no_failure folder.old →
-        FailsAsMissing (F.files folder.new) result (λ files. tank_of files format rounding.now (map product_number products.now) earlier.now keys.now.item (view keys.now.table.now)) }
+        FailsAsMissing (F.files folder.new) result (λ files. tank_of files format rounding.now (map product_number products.now) earlier.now keys.now) }
     ensures lists { F.lists_no_failure folder.old → F.lists_no_failure folder.new }
 {
     let number = own_number(earlier, keys)?;
@@ -171,7 +171,7 @@ fn file_key(strapped: bool) -> &'static str
 // The opening stock.
 #[tactic(auto, unfolding(crate::specs::Tanks::opening_at))]
 fn opening_at(keys: &Keys<'_>) -> Result<Amount, SiteFault>
-    ensures opening { result ≡ opening_at keys.now.item (view keys.now.table.now) }
+    ensures opening { result ≡ opening_at keys.now }
     ensures sound { IfOk result (λ amount. IsTrue (is_opening amount)) }
 {
     let litres = stock_at(keys, "opening_litres")?;
@@ -182,7 +182,7 @@ fn opening_at(keys: &Keys<'_>) -> Result<Amount, SiteFault>
 // A stock, in litres or kilograms.
 #[tactic(auto, unfolding(crate::specs::Tanks::stock_at))]
 fn stock_at(keys: &Keys<'_>, key: &str) -> Result<i64, SiteFault>
-    ensures stock { result ≡ stock_at keys.now.item (view keys.now.table.now) key.now }
+    ensures stock { result ≡ stock_at keys.now key.now }
     ensures sound { IfOk result (λ stock. IsTrue (is_stock stock)) }
 {
     keys.whole(key, -MOST_STOCK, MOST_STOCK)

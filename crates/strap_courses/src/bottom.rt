@@ -13,7 +13,7 @@ use farm_fixed::Mm;
 use farm_rounding::{RoundTable, STRAPPED_ROW, difference, product, sum};
 
 /// The height of a bottom.
-pub fn bottom_height(bottom: &[(Mm, i64)]) -> u64
+pub(crate) fn bottom_height(bottom: &[(Mm, i64)]) -> u64
     ensures value { result ≡ bottom_height bottom.now }
     ensures most { result ≤ unsigned_abs MOST_HEIGHT }
 {
@@ -24,7 +24,7 @@ pub fn bottom_height(bottom: &[(Mm, i64)]) -> u64
 }
 
 /// The volume of a whole bottom.
-pub fn whole_bottom(bottom: &[(Mm, i64)]) -> i64
+pub(crate) fn whole_bottom(bottom: &[(Mm, i64)]) -> i64
     requires { bad_point bottom.now ≡ None }
     ensures value { result ≡ (last_point bottom.now).1 }
     ensures range { IsWithin (pos 0) MOST_LITRES result }
@@ -36,7 +36,7 @@ pub fn whole_bottom(bottom: &[(Mm, i64)]) -> i64
 }
 
 /// A row within the bottom.
-pub fn bottom_row(rounding: &RoundTable, bottom: &[(Mm, i64)], height: u64) -> i128
+pub(crate) fn bottom_row(rounding: &RoundTable, bottom: &[(Mm, i64)], height: u64) -> i128
     requires points { bad_point bottom.now ≡ None }
     requires height { height ≤ unsigned_abs MOST_HEIGHT }
     ensures value { result ≡ rounded_litres rounding.now STRAPPED_ROW (bottom_volume bottom.now height) }

@@ -11,7 +11,7 @@ use crate::heights::millimetres;
 use farm_rounding::{DEADWOOD_PART, RoundTable, difference, product};
 
 /// The part of a deadwood up to a height, rounded.
-pub fn deadwood_part(rounding: &RoundTable, deadwood: &Deadwood, height: u64) -> i128
+pub(crate) fn deadwood_part(rounding: &RoundTable, deadwood: &Deadwood, height: u64) -> i128
     requires litres { unsigned_abs deadwood.now.litres ≤ unsigned_abs MOST_LITRES }
     requires height { height ≤ unsigned_abs MOST_HEIGHT }
     ensures value { result ≡ rounded_litres rounding.now DEADWOOD_PART (deadwood_part deadwood.now height) }
@@ -30,7 +30,7 @@ pub fn deadwood_part(rounding: &RoundTable, deadwood: &Deadwood, height: u64) ->
 }
 
 /// The parts of all deadwoods up to a height, of which there may be any number.
-pub fn deadwood_parts(rounding: &RoundTable, deadwoods: &[Deadwood], height: u64) -> i128
+pub(crate) fn deadwood_parts(rounding: &RoundTable, deadwoods: &[Deadwood], height: u64) -> i128
     requires litres { All (λ deadwood. unsigned_abs deadwood.litres ≤ unsigned_abs MOST_LITRES) deadwoods.now }
     requires height { height ≤ unsigned_abs MOST_HEIGHT }
     ensures value { result ≡ deadwood_parts rounding.now height deadwoods.now }

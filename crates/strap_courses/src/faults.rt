@@ -65,7 +65,7 @@ impl From<AllocFailed<i64>> for StrapFault {
 
 /// Why parts are no strapped tank, if they aren't one.
 #[tactic(auto, unfolding(crate::specs::Faults::first_fault))]
-pub fn first_fault(
+pub(crate) fn first_fault(
     courses: &[Course],
     deadwoods: &[Deadwood],
     bottom: &[(Mm, i64)],

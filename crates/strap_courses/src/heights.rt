@@ -7,7 +7,7 @@ ghost use Rattle.farm_fixed.specs.declared.limits.TheConstants.{MOST_HEIGHT};
 use farm_fixed::Mm;
 
 /// A height as a number without a sign.
-pub fn millimetres(height: Mm) -> u64
+pub(crate) fn millimetres(height: Mm) -> u64
     ensures value { result ≡ unsigned_abs height }
     ensures signed { pos result ≡ height }
     ensures most { result ≤ unsigned_abs MOST_HEIGHT }

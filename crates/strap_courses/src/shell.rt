@@ -30,7 +30,7 @@ fn scaled(circumferences: i64, thickness: i64) -> i64
 }
 
 /// 226 times the mean internal circumference of a course, in 0.1 mm.
-pub fn scaled_circumference(course: &Course) -> i64
+pub(crate) fn scaled_circumference(course: &Course) -> i64
     ensures value { result ≡ scaled_circumference course.now }
     ensures size { unsigned_abs result ≤ 4 * 10 ^ 10 }
 {
@@ -59,7 +59,7 @@ fn shared_height(low: u64, high: u64, from: u64, to: u64) -> u64
 }
 
 /// The height of all courses, of which there may be any number.
-pub fn height(courses: &[Course]) -> u128
+pub(crate) fn height(courses: &[Course]) -> u128
     ensures { result ≡ height_of courses.now }
 {
     let mut height = 0;
@@ -70,7 +70,7 @@ pub fn height(courses: &[Course]) -> u128
 }
 
 /// What the courses hold between two heights, times `per_litre`.
-pub fn held_between(courses: &[Course], low: u64, high: u64) -> u128
+pub(crate) fn held_between(courses: &[Course], low: u64, high: u64) -> u128
     requires { height_of courses.now ≤ unsigned_abs MOST_HEIGHT }
     ensures value { result ≡ held_between low high 0 courses.now }
     ensures size { result ≤ 10 ^ 26 }

@@ -4,7 +4,7 @@ use Rattle.std.specs.Int.RustNames.{unsigned_abs}
 use Rattle.farm_fixed.specs.Range.{IsVolume}
 use Rattle.farm_rounding.specs.declared.mode.Mode.{Mode}
 use Rattle.farm_rounding.specs.Multiple.{nearest_multiple}
-use Rattle.strap_table.specs.Limits.{fewest_rows, most_rows}
+use Rattle.strap_table.specs.Limits.{least_rows, most_rows}
 
 -- row i; 0 after the last row
 abbrev pub row_at : List ℤ → ℕ → ℤ
@@ -12,7 +12,7 @@ row_at rows i = slice_index_or rows i (pos 0)
 
 -- from 2 to 5,001 rows, each from 0 to 10^9 litres and none below the one before it
 pub record IsCapTable (rows : List ℤ) : Type 0 where
-  pub fewest : fewest_rows ≤ length rows
+  pub fewest : least_rows ≤ length rows
   pub most : length rows ≤ most_rows
   pub volumes : (i : ℕ) → IsVolume (row_at rows i)
   pub rising : (i : ℕ) → i + 1 < length rows → row_at rows i ≤ℤ row_at rows (i + 1)

@@ -4,14 +4,14 @@ use Rattle.std.specs.Int.RustNames.{int_lt}
 use Rattle.farm_base.specs.Steps.{or_else}
 use Rattle.farm_fixed.specs.Range.{is_within, IsVolume}
 use Rattle.farm_fixed.specs.Limits.{most_litres}
-use Rattle.strap_table.specs.Limits.{fewest_rows, most_rows}
+use Rattle.strap_table.specs.Limits.{least_rows, most_rows}
 use Rattle.strap_table.specs.declared.faults.TableFault.{TableFault}
 use Rattle.strap_table.specs.declared.faults.TableFault.TheVariants.{Short, TooMany, OutOfRange, Falling}
 use Rattle.strap_table.specs.Capacity.{row_at}
 
 -- rows are as many as a table may have
 pub record HaveTableLength (rows : List ℤ) : Type 0 where
-  pub fewest : fewest_rows ≤ length rows
+  pub fewest : least_rows ≤ length rows
   pub most : length rows ≤ most_rows
 
 -- row i is the first whose volume isn't from 0 to 10^9 litres
@@ -29,7 +29,7 @@ pub record IsFirstFalling (rows : List ℤ) (i : ℕ) : Type 0 where
 
 -- rows have a fault, and none of a kind before it
 abbrev pub HaveFault : List ℤ → TableFault → Type 0
-HaveFault rows Short = length rows < fewest_rows
+HaveFault rows Short = length rows < least_rows
 HaveFault rows TooMany = most_rows < length rows
 HaveFault rows (OutOfRange i) = HaveTableLength rows × IsFirstOutside rows i
 HaveFault rows (Falling i) = HaveTableLength rows × ((each : ℕ) → IsVolume (row_at rows each)) × IsFirstFalling rows i
@@ -51,7 +51,7 @@ falling_row (row ∷ rows) = first_falling 1 row rows
 
 -- too few or too many rows
 abbrev pub wrong_length : ℕ → Option TableFault
-wrong_length n = if nat_lt n fewest_rows then Some Short else (if nat_lt most_rows n then Some TooMany else None)
+wrong_length n = if nat_lt n least_rows then Some Short else (if nat_lt most_rows n then Some TooMany else None)
 
 -- a row outside the range
 abbrev pub outside : Option ℕ → Option TableFault

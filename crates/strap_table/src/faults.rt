@@ -8,7 +8,7 @@ use farm_fixed::MOST_LITRES;
 use thiserror::Error;
 
 /// The fewest rows of a table.
-pub const FEWEST_ROWS: usize = 2;
+pub const LEAST_ROWS: usize = 2;
 
 /// The most rows of a table: one each 10 mm of the greatest height, and one at 0.
 pub const MOST_ROWS: usize = 5_001;
@@ -37,10 +37,10 @@ pub enum TableFault {
 
 /// Why the rows are no capacity table, if they aren't one.
 #[tactic(auto, unfolding(crate::specs::Faults::first_fault))]
-pub fn first_fault(rows: &[i64]) -> Option<TableFault>
+pub(crate) fn first_fault(rows: &[i64]) -> Option<TableFault>
     ensures { result ≡ first_fault rows.now }
 {
-    if rows.len() < FEWEST_ROWS {
+    if rows.len() < LEAST_ROWS {
         return Some(TableFault::Short);
     }
     if rows.len() > MOST_ROWS {

@@ -10,7 +10,7 @@ use farm_fixed::Litres;
 use farm_rounding::{Mode, difference, nearest, product, sum};
 
 /// The volume a number of mm above a row, in tenths of a litre.
-pub fn between(row: i64, next: i64, over: i64) -> i64
+pub(crate) fn between(row: i64, next: i64, over: i64) -> i64
     requires row { IsVolume row }
     requires next { IsVolume next }
     requires rising { row ≤ℤ next }
@@ -24,7 +24,7 @@ pub fn between(row: i64, next: i64, over: i64) -> i64
 }
 
 /// A volume in parts of a litre, `PARTS` to the litre, rounded to a step.
-pub fn volume<const PARTS: u64>(parts: i64, step: i64, mode: Mode) -> Litres
+pub(crate) fn volume<const PARTS: u64>(parts: i64, step: i64, mode: Mode) -> Litres
     requires some { 1 ≤ PARTS }
     requires few { PARTS ≤ 10 }
     requires parts { IsWithin (pos 0) (pos (PARTS * 10 ^ 9)) parts }

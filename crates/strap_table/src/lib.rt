@@ -10,7 +10,7 @@ mod number_laws;
 mod table;
 mod tank;
 
-pub use faults::{AboveTable, FEWEST_ROWS, MOST_ROWS, TableFault};
+pub use faults::{AboveTable, LEAST_ROWS, MOST_ROWS, TableFault};
 pub use number_laws::defined_numbers;
 pub use table::CapTable;
 pub use tank::{Roof, TankSpec};

@@ -42,7 +42,7 @@ fn axes_of(
 }
 
 /// The grid of these lists, in units.
-pub fn grid_of(
+pub(crate) fn grid_of(
     alloc: Global,
     densities: &[i64],
     temperatures: &[i64],

@@ -9,7 +9,7 @@ use std::test::Fail;
 use test_checks::Checks;
 
 /// The number of units that a text is read as.
-pub fn read_units<U: Unit>(text: &str) -> Result<i64, ReadFault> {
+pub(crate) fn read_units<U: Unit>(text: &str) -> Result<i64, ReadFault> {
     Quantity::<U>::read(text.as_bytes()).map(|quantity| quantity.get())
 }
 
@@ -22,7 +22,7 @@ fn write_units<U: Unit>(text: &mut Vec<u8>, units: i64) -> Result<(), NoMemory> 
 }
 
 /// The text of a number of units; no bytes where it is out of range.
-pub fn text_of<U: Unit>(alloc: Global, units: i64) -> Result<Vec<u8>, NoMemory> {
+pub(crate) fn text_of<U: Unit>(alloc: Global, units: i64) -> Result<Vec<u8>, NoMemory> {
     let mut text = Vec::new(alloc);
     if let Err(fault) = write_units::<U>(&mut text, units) {
         drop(text);

@@ -106,7 +106,7 @@ fn wall_of(
 const FLAT: &[(i64, i64)] = &[(0, 0)];
 
 /// A strapped tank of the figures of its parts.
-pub fn tank_of(
+pub(crate) fn tank_of(
     alloc: Global,
     courses: &[Figures],
     deadwoods: &[(i64, i64, i64)],
@@ -123,7 +123,7 @@ pub fn tank_of(
 }
 
 /// The rows of a tank of one course with this plate.
-pub fn rows_of(
+pub(crate) fn rows_of(
     alloc: Global,
     plate: i64,
     deadwoods: &[(i64, i64, i64)],

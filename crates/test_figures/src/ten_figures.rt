@@ -55,7 +55,7 @@ fn check_each<R: Print>(checks: &mut Checks<'_, R>, quantities: &Quantities, wan
 }
 
 /// A calculation is answered, and each figure is that of its row.
-pub fn check_figures<R: Print>(
+pub(crate) fn check_figures<R: Print>(
     checks: &mut Checks<'_, R>,
     answer: Result<Quantities, ChainRule>,
     wants: Figures,

@@ -14,7 +14,7 @@ use std::test::Fail;
 use test_checks::{Checks, shared};
 
 /// The entry of a command under a key.
-pub fn entry(key: u64, cmd: Command) -> Entry
+pub(crate) fn entry(key: u64, cmd: Command) -> Entry
     requires { IsWellFormedCommand cmd }
     ensures well_formed { IsWellFormed result }
     ensures moment { result.at ≡ pos 1000 }
@@ -29,7 +29,10 @@ pub fn entry(key: u64, cmd: Command) -> Entry
 }
 
 /// What is answered to an entry, which is committed where it is accepted.
-pub fn answer<const LIMIT: usize>(book: &mut Book<LIMIT>, entry: Entry) -> Result<Reply, NoMemory>
+pub(crate) fn answer<const LIMIT: usize>(
+    book: &mut Book<LIMIT>,
+    entry: Entry,
+) -> Result<Reply, NoMemory>
     requires well_formed { IsWellFormed entry }
     requires moment { last_moment book.old.history ≤ℤ entry.at }
 {
@@ -63,7 +66,7 @@ fn placed(book: &mut Book<4>, key: u64, cmd: Command) -> Result<Reply, NoMemory>
 }
 
 /// A book of the row site.
-pub fn row_book(alloc: Global) -> Result<Book<4>, Fail> {
+pub(crate) fn row_book(alloc: Global) -> Result<Book<4>, Fail> {
     Ok(Book::new(alloc, sample_site(alloc)?)?)
 }
 

@@ -111,7 +111,7 @@ pub enum Given {
 }
 
 /// The command of a row.
-pub fn command_of(given: Given) -> Command
+pub(crate) fn command_of(given: Given) -> Command
     ensures { IsWellFormedCommand result }
 {
     match given {

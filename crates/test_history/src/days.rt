@@ -9,10 +9,12 @@ use crate::book::answer;
 use crate::commands::{Given, command_of};
 use book_texts::day_report;
 use calendar_days::{BadDay, read_day};
+use day_balances::{Balance, Balances, DayPlaces};
 use farm_base::NoMemory;
 use farm_book::Book;
 use farm_history::{Command, Entry, Gauged, Plan};
 use farm_ticket::Way;
+use history_lookups::{Ledger, Posted};
 use sample_site::sample_site;
 use std::alloc::Global;
 use std::test::Fail;
@@ -260,4 +262,17 @@ fn a_report_has_the_balances_and_the_tickets_of_its_day(rt: HostRuntime) -> Resu
     drop(book);
     checked?;
     Ok(checks.end()?)
+}
+
+// Stands only for a type that is `Send` and `Sync`.
+fn crosses<T: Send + Sync>() {}
+
+#[test]
+fn balances_and_ledgers_may_go_to_another_thread(_rt: HostRuntime) -> Result<(), Fail> {
+    crosses::<Balance>();
+    crosses::<Balances>();
+    crosses::<DayPlaces>();
+    crosses::<Ledger>();
+    crosses::<Posted>();
+    Ok(())
 }

@@ -40,7 +40,7 @@ fn lines_of(alloc: Global, tickets: &[Ticket]) -> Result<Vec<u8>, Fail> {
 }
 
 /// The figures of a tank with no free water, roof or sediment and water: TOV, CTSH, VCF, GOV, NSV, mass.
-pub fn figures(of: [i64; 6]) -> Result<Quantities, Fail> {
+pub(crate) fn figures(of: [i64; 6]) -> Result<Quantities, Fail> {
     let [tov, ctsh, vcf, gov, nsv, mass] = of;
     let none = Litres::new(0)?;
     Ok(Quantities {

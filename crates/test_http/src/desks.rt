@@ -13,12 +13,12 @@ use std::test::Fail;
 pub type RowDesk = Desk<MemDisk, 20>;
 
 /// A disk without a byte, whose calls of these numbers fail.
-pub fn empty_disk(alloc: Global, fails: &[u64]) -> Result<MemDisk, Fail> {
+pub(crate) fn empty_disk(alloc: Global, fails: &[u64]) -> Result<MemDisk, Fail> {
     Ok(MemDisk::new(alloc, Vec::new(alloc), fails.to_vec(alloc)?)?)
 }
 
 /// A desk of the row site, without an entry, on an empty disk.
-pub fn new_desk(alloc: Global, disk: MemDisk) -> Result<RowDesk, Fail>
+pub(crate) fn new_desk(alloc: Global, disk: MemDisk) -> Result<RowDesk, Fail>
     ensures new { IfOk result (λ desk. IsJustMade ⟦<MemDisk as Disk>⟧.moment ⟦<MemDisk as Disk>⟧.faults desk (last_place desk.history)) }
 {
     let site = match sample_site::sample_site(alloc) {
@@ -38,7 +38,7 @@ pub fn new_desk(alloc: Global, disk: MemDisk) -> Result<RowDesk, Fail>
 }
 
 /// The desk of the journal on a disk.
-pub fn recovered_desk(alloc: Global, disk: MemDisk) -> Result<RowDesk, Fail>
+pub(crate) fn recovered_desk(alloc: Global, disk: MemDisk) -> Result<RowDesk, Fail>
     ensures new { IfOk result (λ desk. IsJustMade ⟦<MemDisk as Disk>⟧.moment ⟦<MemDisk as Disk>⟧.faults desk (last_place desk.history)) }
 {
     match Desk::recover(alloc, disk) {

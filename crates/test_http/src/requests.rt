@@ -218,7 +218,7 @@ const NO_REQUEST: Requests = &[
 ];
 
 /// The routes of the desk.
-pub fn routes_of(alloc: Global) -> Result<Routes, NoMemory> {
+pub(crate) fn routes_of(alloc: Global) -> Result<Routes, NoMemory> {
     Ok(shared(Routes::new(alloc)?))
 }
 

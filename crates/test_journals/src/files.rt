@@ -22,7 +22,7 @@ pub const ONE: &[u8] = b"\x01FARMJNL1\0\0\0\x04site\x01\0\0\0\x03one\0";
 pub const TWO: &[u8] = b"\x01FARMJNL1\0\0\0\x04site\x01\0\0\0\x03one\x01\0\0\0\x05three\0";
 
 /// A disk with these bytes, whose calls of these numbers fail.
-pub fn disk_of(alloc: Global, bytes: &[u8], fails: &[u64]) -> Result<MemDisk, NoMemory> {
+pub(crate) fn disk_of(alloc: Global, bytes: &[u8], fails: &[u64]) -> Result<MemDisk, NoMemory> {
     MemDisk::new(alloc, bytes.to_vec(alloc)?, fails.to_vec(alloc)?)
 }
 
@@ -60,7 +60,7 @@ fn fault_of(
 }
 
 /// What is recovered of bytes: what was taken, each byte string after a blank, or the text of the refusal.
-pub fn recovered(alloc: Global, bytes: &[u8]) -> Result<String, Fail> {
+pub(crate) fn recovered(alloc: Global, bytes: &[u8]) -> Result<String, Fail> {
     let mut listing = Listing::new(alloc);
     let fault = fault_of(alloc, bytes, &mut listing);
     let taken = text_of(alloc, listing.taken());
@@ -72,7 +72,7 @@ pub fn recovered(alloc: Global, bytes: &[u8]) -> Result<String, Fail> {
 }
 
 /// Bytes are recovered as this.
-pub fn check_recovery<N: Display + Drop, R: Print>(
+pub(crate) fn check_recovery<N: Display + Drop, R: Print>(
     checks: &mut Checks<'_, R>,
     alloc: Global,
     case: N,
@@ -84,7 +84,7 @@ pub fn check_recovery<N: Display + Drop, R: Print>(
 }
 
 /// All bytes that reads of a disk give.
-pub fn bytes_of<D: Disk>(alloc: Global, disk: &mut D) -> Result<Vec<u8>, Fail> {
+pub(crate) fn bytes_of<D: Disk>(alloc: Global, disk: &mut D) -> Result<Vec<u8>, Fail> {
     let mut bytes = vec![in alloc; 0; disk.len()? as usize]?;
     let count = disk.read_at(0, &mut bytes)?;
     bytes.truncate(count);
@@ -92,7 +92,7 @@ pub fn bytes_of<D: Disk>(alloc: Global, disk: &mut D) -> Result<Vec<u8>, Fail> {
 }
 
 /// A new journal of the header `site` on an empty disk whose calls of these numbers fail.
-pub fn new_journal(alloc: Global, fails: &[u64]) -> Result<Journal<MemDisk>, Fail>
+pub(crate) fn new_journal(alloc: Global, fails: &[u64]) -> Result<Journal<MemDisk>, Fail>
     ensures idle { IfOk result (λ journal. journal.next_gate ≡ None) }
     ensures empty { IfOk result (λ journal. journal.count ≡ 0) }
 {
@@ -106,7 +106,7 @@ pub fn new_journal(alloc: Global, fails: &[u64]) -> Result<Journal<MemDisk>, Fai
 }
 
 /// The disk on which no journal is made, and the fault: a disk with these bytes, whose calls of these numbers fail.
-pub fn refused_making(
+pub(crate) fn refused_making(
     alloc: Global,
     bytes: &[u8],
     fails: &[u64],
@@ -121,7 +121,7 @@ pub fn refused_making(
 }
 
 /// Puts a body on a journal and opens its gate.
-pub fn keep<D: Disk>(journal: &mut Journal<D>, body: &[u8]) -> Result<(), Fail>
+pub(crate) fn keep<D: Disk>(journal: &mut Journal<D>, body: &[u8]) -> Result<(), Fail>
     requires idle { journal.old.next_gate ≡ None }
     requires few { journal.old.count < 9 }
     requires short { length body.now ≤ 9 }
@@ -146,7 +146,7 @@ fn keep_both(journal: &mut Journal<MemDisk>) -> Result<u64, Fail>
 }
 
 /// A disk on which the bodies `one` and `three` were put, and its moment between them.
-pub fn two_bodies(alloc: Global) -> Result<(MemDisk, u64), Fail> {
+pub(crate) fn two_bodies(alloc: Global) -> Result<(MemDisk, u64), Fail> {
     let mut journal = new_journal(alloc, &[])?;
     let kept = keep_both(&mut journal);
     let disk = shared(journal).into_disk();
@@ -209,7 +209,10 @@ fn reopened<D: Disk + Drop>(alloc: Global, disk: D) -> Result<Journal<D>, Fail>
 }
 
 /// The bytes of the disk of a journal.
-pub fn bytes_under<D: Disk + Drop>(alloc: Global, journal: Journal<D>) -> Result<Vec<u8>, Fail> {
+pub(crate) fn bytes_under<D: Disk + Drop>(
+    alloc: Global,
+    journal: Journal<D>,
+) -> Result<Vec<u8>, Fail> {
     let mut disk = journal.into_disk();
     let bytes = bytes_of(alloc, &mut disk);
     drop(disk);
@@ -217,7 +220,7 @@ pub fn bytes_under<D: Disk + Drop>(alloc: Global, journal: Journal<D>) -> Result
 }
 
 /// The bytes of a disk after its journal with one body was recovered and `three` was put on it.
-pub fn gone_on<D: Disk + Drop>(alloc: Global, disk: D) -> Result<Vec<u8>, Fail> {
+pub(crate) fn gone_on<D: Disk + Drop>(alloc: Global, disk: D) -> Result<Vec<u8>, Fail> {
     let mut journal = reopened(alloc, disk)?;
     match keep(&mut journal, b"three") {
         Ok(()) => bytes_under(alloc, journal),

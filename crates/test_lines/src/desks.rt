@@ -30,7 +30,7 @@ fn new_desk(alloc: Global) -> Result<RowDesk, Fail>
 }
 
 /// The access of a caller to a desk of the row site that was opened without an entry.
-pub fn new_access(alloc: Global, caller: u32) -> Result<Access, Fail>
+pub(crate) fn new_access(alloc: Global, caller: u32) -> Result<Access, Fail>
     ensures opened { IfOk result (λ access. access.desk.opened.entries ≡ 0) }
 {
     Ok(SoleAccess::new(new_desk(alloc)?, caller))

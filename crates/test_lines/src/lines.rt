@@ -54,14 +54,14 @@ fn map(alloc: Global) -> Result<LineMap, NoMemory>
 }
 
 /// A line with the gauge, before its first poll.
-pub fn line(alloc: Global) -> Result<GaugeLine, NoMemory>
+pub(crate) fn line(alloc: Global) -> Result<GaugeLine, NoMemory>
     ensures fresh { IfOk result (λ line. line ≡ fresh line.line) }
 {
     GaugeLine::new(alloc, map(alloc)?)
 }
 
 /// A link with these responses, whose calls of these numbers fail.
-pub fn wire(alloc: Global, responses: &[&[u8]], fails: &[u64]) -> Result<Wire, NoMemory> {
+pub(crate) fn wire(alloc: Global, responses: &[&[u8]], fails: &[u64]) -> Result<Wire, NoMemory> {
     let mut copies = Vec::new(alloc);
     for response in responses {
         copies.push(response.to_vec(alloc)?)?;

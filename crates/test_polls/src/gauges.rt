@@ -41,7 +41,7 @@ pub const GAUGE: GaugeMap = GaugeMap {
 };
 
 /// A line with one gauge.
-pub fn line(alloc: Global, gauge: GaugeMap) -> Result<LineMap, NoMemory>
+pub(crate) fn line(alloc: Global, gauge: GaugeMap) -> Result<LineMap, NoMemory>
     requires { IsTrue (is_gauge_map gauge) }
     ensures { IfOk result (λ line. IsTrue (is_line_map line)) }
 {
@@ -83,7 +83,7 @@ fn wire(alloc: Global, responses: &[&[u8]], fails: &[u64]) -> Result<Wire, NoMem
 }
 
 /// A poller of a line with one gauge, and a link with these responses, whose calls of these numbers fail.
-pub fn linked(
+pub(crate) fn linked(
     alloc: Global,
     gauge: GaugeMap,
     responses: &[&[u8]],

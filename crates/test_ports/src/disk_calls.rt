@@ -35,7 +35,7 @@ fn seen<'b, D: Disk>(disk: &mut D, buffer: &'b mut [u8]) -> Result<&'b [u8], Fai
 }
 
 /// One call of a disk, with a buffer for a read, answers as its row says.
-pub fn check_call<D: Disk, R: Print>(
+pub(crate) fn check_call<D: Disk, R: Print>(
     checks: &mut Checks<'_, R>,
     disk: &mut D,
     buffer: &mut [u8],
@@ -57,7 +57,7 @@ pub fn check_call<D: Disk, R: Print>(
 }
 
 /// Calls of a disk, with a buffer for its reads, answer as their rows say.
-pub fn check_calls<D: Disk, R: Print>(
+pub(crate) fn check_calls<D: Disk, R: Print>(
     checks: &mut Checks<'_, R>,
     disk: &mut D,
     buffer: &mut [u8],

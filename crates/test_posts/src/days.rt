@@ -238,7 +238,7 @@ fn check_day<R: Threads + Wait + Sync + Print>(
 }
 
 /// Each of these days leaves what its row says.
-pub fn check_days<R: Threads + Wait + Sync + Print>(
+pub(crate) fn check_days<R: Threads + Wait + Sync + Print>(
     rt: &R,
     alloc: Global,
     days: Days,

@@ -188,7 +188,7 @@ fn desk_of(alloc: Global, receipt: bool) -> Result<RowDesk, Fail>
 }
 
 /// A desk that these posts and lines served, either new or opened with a receipt.
-pub fn served<R: Threads + Wait + Sync>(
+pub(crate) fn served<R: Threads + Wait + Sync>(
     rt: &R,
     alloc: Global,
     receipt: bool,

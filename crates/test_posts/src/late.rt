@@ -131,7 +131,7 @@ pub struct LateVisits<'a> {
 impl<'a> LateVisits<'a> {
     /// A listener that is idle at this many accepts before it is this one, and whose connections wait or not, and look until a page ends with
     /// a text or, if it is empty, don't look.
-    pub fn new(
+    pub(crate) fn new(
         visits: Visits,
         idle: u32,
         waits: bool,
@@ -148,7 +148,7 @@ impl<'a> LateVisits<'a> {
     }
 
     /// The listener in memory.
-    pub fn visits(&self) -> &Visits {
+    pub(crate) fn visits(&self) -> &Visits {
         &self.visits
     }
 }
@@ -199,7 +199,7 @@ pub struct LateWire<'a> {
 
 impl<'a> LateWire<'a> {
     /// This link, which waits or not.
-    pub fn new(wire: Wire, waits: bool, answered: &'a AtomicBool) -> Self {
+    pub(crate) fn new(wire: Wire, waits: bool, answered: &'a AtomicBool) -> Self {
         LateWire {
             wire,
             waits,
@@ -208,7 +208,7 @@ impl<'a> LateWire<'a> {
     }
 
     /// The link in memory.
-    pub fn wire(&self) -> &Wire {
+    pub(crate) fn wire(&self) -> &Wire {
         &self.wire
     }
 }

@@ -7,6 +7,8 @@ mod days;
 #[cfg(test)]
 mod desks;
 #[cfg(test)]
+mod failed_polls;
+#[cfg(test)]
 mod late;
 #[cfg(test)]
 mod lines;
@@ -14,3 +16,5 @@ mod lines;
 mod making;
 #[cfg(test)]
 mod posts;
+#[cfg(test)]
+mod sharing;

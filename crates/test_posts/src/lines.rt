@@ -1,21 +1,21 @@
 //! Days of gauge lines. Responses are written by hand, as the Modbus Application Protocol V1.1b3 has them over TCP.
 
-use crate::days::Call::{Connect, FailedReceive, FailedSend, Paused, Received, Request};
+use crate::days::Call::{Connect, Paused, Received, Request};
 use crate::days::{Day, Days, LineDay, PostDay, check_days};
 use crate::posts::{NO_LINE, NOBODY, STOPPED};
 use farm_history::{Command, Gauged};
 use std::test::Fail;
 
 // Readings of the first line's gauge, on unit 17, at 20.00 C: 5,000 mm in the first transaction and in the second.
-const FIRST: &[u8] = &[0, 1, 0, 0, 0, 7, 17, 4, 4, 0x13, 0x88, 0, 200];
+pub const FIRST: &[u8] = &[0, 1, 0, 0, 0, 7, 17, 4, 4, 0x13, 0x88, 0, 200];
 
-const SECOND: &[u8] = &[0, 2, 0, 0, 0, 7, 17, 4, 4, 0x13, 0x88, 0, 200];
+pub const SECOND: &[u8] = &[0, 2, 0, 0, 0, 7, 17, 4, 4, 0x13, 0x88, 0, 200];
 
 // 1 mm more, in the third.
 const THIRD: &[u8] = &[0, 3, 0, 0, 0, 7, 17, 4, 4, 0x13, 0x89, 0, 200];
 
 // A reading as it is submitted.
-const AT_5000: Command = Command::Gauge {
+pub const AT_5000: Command = Command::Gauge {
     tank: 101,
     level: 5_000,
     water: 0,
@@ -32,7 +32,7 @@ const AT_5001: Command = Command::Gauge {
 };
 
 // A line whose link took no call.
-const NO_CALL: LineDay = LineDay {
+pub const NO_CALL: LineDay = LineDay {
     fails: &[],
     waits: false,
     responses: &[],
@@ -130,174 +130,6 @@ const THREE_READINGS: Days = &[
 #[test]
 fn line_submits_on_deadband(rt: HostRuntime) -> Result<(), Fail> {
     check_days(&rt, rt.alloc(), THREE_READINGS)
-}
-
-// A line that reads 5,000 mm in its second round, after a poll that was none.
-const READS_AGAIN: LineDay = LineDay {
-    entered: &[(1_000_001, 1, AT_5000)],
-    ..NO_CALL
-};
-
-// The second line, on unit 18, which reads 6,000 mm in both rounds.
-const OTHER_LINE: LineDay = LineDay {
-    responses: &[
-        &[0, 1, 0, 0, 0, 7, 18, 4, 4, 0x17, 0x70, 0, 200],
-        &[0, 2, 0, 0, 0, 7, 18, 4, 4, 0x17, 0x70, 0, 200],
-    ],
-    calls: &[
-        Connect(false),
-        Request(1),
-        Received(9),
-        Received(4),
-        Paused,
-        Request(2),
-        Received(9),
-        Received(4),
-    ],
-    entered: &[(
-        1_000_002,
-        1,
-        Command::Gauge {
-            tank: 102,
-            level: 6_000,
-            water: 0,
-            temperature: 2_000,
-            ambient: 1_500,
-        },
-    )],
-    ..NO_CALL
-};
-
-// A day of two rounds, in which each of two lines submits one reading.
-const TWO_ROUNDS: Day = Day {
-    rounds: 2,
-    entries: 2,
-    ..NO_LINE
-};
-
-const FAILED_POLLS: Days = &[
-    (
-        "a connect fails",
-        Day {
-            lines: &[
-                LineDay {
-                    fails: &[1],
-                    responses: &[FIRST],
-                    calls: &[
-                        Connect(true),
-                        Paused,
-                        Connect(false),
-                        Request(1),
-                        Received(9),
-                        Received(4),
-                    ],
-                    faults: 1,
-                    ..READS_AGAIN
-                },
-                OTHER_LINE,
-            ],
-            ..TWO_ROUNDS
-        },
-    ),
-    (
-        "a send fails",
-        Day {
-            lines: &[
-                LineDay {
-                    fails: &[2],
-                    responses: &[SECOND],
-                    calls: &[
-                        Connect(false),
-                        FailedSend,
-                        Paused,
-                        Connect(false),
-                        Request(2),
-                        Received(9),
-                        Received(4),
-                    ],
-                    faults: 1,
-                    ..READS_AGAIN
-                },
-                OTHER_LINE,
-            ],
-            ..TWO_ROUNDS
-        },
-    ),
-    (
-        "a receive fails",
-        Day {
-            lines: &[
-                LineDay {
-                    fails: &[3],
-                    responses: &[FIRST, SECOND],
-                    calls: &[
-                        Connect(false),
-                        Request(1),
-                        FailedReceive,
-                        Paused,
-                        Connect(false),
-                        Request(2),
-                        Received(9),
-                        Received(4),
-                    ],
-                    faults: 1,
-                    ..READS_AGAIN
-                },
-                OTHER_LINE,
-            ],
-            ..TWO_ROUNDS
-        },
-    ),
-    (
-        "the response of unit 18",
-        Day {
-            lines: &[
-                LineDay {
-                    responses: &[&[0, 1, 0, 0, 0, 7, 18, 4, 4, 0x13, 0x88, 0, 200], SECOND],
-                    calls: &[
-                        Connect(false),
-                        Request(1),
-                        Received(9),
-                        Paused,
-                        Connect(false),
-                        Request(2),
-                        Received(9),
-                        Received(4),
-                    ],
-                    ..READS_AGAIN
-                },
-                OTHER_LINE,
-            ],
-            ..TWO_ROUNDS
-        },
-    ),
-    (
-        "the exception 255, after which the connection stands",
-        Day {
-            lines: &[
-                LineDay {
-                    responses: &[&[0, 1, 0, 0, 0, 3, 17, 0x84, 255], SECOND],
-                    calls: &[
-                        Connect(false),
-                        Request(1),
-                        Received(9),
-                        Paused,
-                        Request(2),
-                        Received(9),
-                        Received(4),
-                    ],
-                    ..READS_AGAIN
-                },
-                OTHER_LINE,
-            ],
-            ..TWO_ROUNDS
-        },
-    ),
-];
-
-#[test]
-fn a_failed_poll_is_polled_again_and_the_other_line_continues(rt: HostRuntime) -> Result<(), Fail> {
-    check_days(&rt, rt.alloc(), FAILED_POLLS)
 }
 
 const NO_ROUND: Days = &[(

@@ -47,7 +47,7 @@ fn visits(alloc: Global, day: &PostDay) -> Result<Visits, NoMemory> {
 }
 
 /// The desk posts of a day. They share the word whether a connection was answered.
-pub fn posts<'a>(
+pub(crate) fn posts<'a>(
     alloc: Global,
     days: &[PostDay],
     answered: &'a AtomicBool,
@@ -69,7 +69,7 @@ fn wire(alloc: Global, day: &LineDay) -> Result<Wire, NoMemory> {
 }
 
 /// The lines of a day, which share the same word.
-pub fn lines<'a>(
+pub(crate) fn lines<'a>(
     alloc: Global,
     days: &[LineDay],
     answered: &'a AtomicBool,

@@ -136,26 +136,45 @@ fn serve_one_stop(rt: HostRuntime) -> Result<(), Fail> {
     check_days(&rt, rt.alloc(), ONE_STOP)
 }
 
-const ONE_LISTEN_FAILS: Days = &[(
-    "the first listen fails",
-    Day {
-        posts: &[
-            PostDay {
-                fails: &[1],
-                requests: &[STOP],
-                end: PostEnd::ListenerFailed,
-                ..NOBODY
-            },
-            PostDay {
-                requests: &[TOTAL],
-                answered: 1,
-                ..NOBODY
-            },
-        ],
-        failed: true,
-        ..NO_LINE
-    },
-)];
+const ONE_LISTEN_FAILS: Days = &[
+    (
+        "the first listen fails",
+        Day {
+            posts: &[
+                PostDay {
+                    fails: &[1],
+                    requests: &[STOP],
+                    end: PostEnd::ListenerFailed,
+                    ..NOBODY
+                },
+                PostDay {
+                    requests: &[TOTAL],
+                    answered: 1,
+                    ..NOBODY
+                },
+            ],
+            failed: true,
+            ..NO_LINE
+        },
+    ),
+    (
+        "the first listen fails, and the other post serves to its Stop",
+        Day {
+            posts: &[
+                PostDay {
+                    fails: &[1],
+                    requests: &[STOP],
+                    end: PostEnd::ListenerFailed,
+                    ..NOBODY
+                },
+                STOPPED,
+            ],
+            entries: 1,
+            failed: true,
+            ..NO_LINE
+        },
+    ),
+];
 
 #[test]
 fn a_failed_listen_ends_its_own_post_alone(rt: HostRuntime) -> Result<(), Fail> {

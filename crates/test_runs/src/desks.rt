@@ -50,7 +50,7 @@ pub enum Call {
 pub type Calls = &'static [(&'static str, Call)];
 
 /// A desk of the row site, without an entry, on an empty disk.
-pub fn new_desk(alloc: Global, disk: MemDisk) -> Result<Desk<MemDisk, 4>, Fail> {
+pub(crate) fn new_desk(alloc: Global, disk: MemDisk) -> Result<Desk<MemDisk, 4>, Fail> {
     let site = match sample_site::sample_site(alloc) {
         Ok(site) => site,
         Err(fault) => {
@@ -142,7 +142,7 @@ fn check_call<R: Print>(
 }
 
 /// Calls of a desk answer as their rows say.
-pub fn check_calls<R: Print>(
+pub(crate) fn check_calls<R: Print>(
     checks: &mut Checks<'_, R>,
     desk: &mut Desk<MemDisk, 4>,
     calls: Calls,

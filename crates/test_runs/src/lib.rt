@@ -33,4 +33,6 @@ mod stocks;
 #[cfg(test)]
 mod table;
 #[cfg(test)]
+mod values;
+#[cfg(test)]
 mod words;

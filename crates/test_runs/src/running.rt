@@ -21,7 +21,12 @@ const BATCH: &[&str] = &["batch", "--journal", "j"];
 const MOMENT: i64 = 1_700_000_000;
 
 /// What the words are answered with, over an input, a folder and an empty disk, no call on which fails.
-pub fn answer(alloc: Global, words: &[&str], input: &str, folder: Files) -> Result<Answer, Fail> {
+pub(crate) fn answer(
+    alloc: Global,
+    words: &[&str],
+    input: &str,
+    folder: Files,
+) -> Result<Answer, Fail> {
     let (answer, disk) = answer_over(alloc, words, input, folder)?;
     drop(disk);
     Ok(answer)
@@ -71,7 +76,11 @@ fn add_copies(copies: &mut Vec<Vec<u8>>, alloc: Global, pieces: &[&[u8]]) -> Res
 }
 
 /// A source of these pieces, whose takes of these numbers fail.
-pub fn source_of(alloc: Global, pieces: &[&[u8]], fails: Vec<u64>) -> Result<Script, NoMemory> {
+pub(crate) fn source_of(
+    alloc: Global,
+    pieces: &[&[u8]],
+    fails: Vec<u64>,
+) -> Result<Script, NoMemory> {
     let mut copies = Vec::new(alloc);
     if let Err(fault) = add_copies(&mut copies, alloc, pieces) {
         drop((copies, fails));
@@ -81,12 +90,12 @@ pub fn source_of(alloc: Global, pieces: &[&[u8]], fails: Vec<u64>) -> Result<Scr
 }
 
 /// A folder without a file.
-pub fn no_folder(alloc: Global) -> Result<Files, NoMemory> {
+pub(crate) fn no_folder(alloc: Global) -> Result<Files, NoMemory> {
     Files::new(alloc, Vec::new(alloc), Vec::new(alloc))
 }
 
 /// A disk without a byte.
-pub fn empty_disk(alloc: Global) -> Result<MemDisk, Fail> {
+pub(crate) fn empty_disk(alloc: Global) -> Result<MemDisk, Fail> {
     Ok(MemDisk::new(alloc, Vec::new(alloc), Vec::new(alloc))?)
 }
 
@@ -99,7 +108,7 @@ fn add_words(owned: &mut Vec<String>, alloc: Global, words: &[&str]) -> Result<(
 }
 
 /// Words as a run takes them.
-pub fn words_of(alloc: Global, words: &[&str]) -> Result<Vec<String>, Fail> {
+pub(crate) fn words_of(alloc: Global, words: &[&str]) -> Result<Vec<String>, Fail> {
     let mut owned = Vec::new(alloc);
     if let Err(fault) = add_words(&mut owned, alloc, words) {
         drop(owned);
@@ -198,7 +207,7 @@ fn row_journal(alloc: Global) -> Result<MemDisk, Fail> {
 }
 
 /// What a batch on a new journal of the row site answers to a source of lines.
-pub fn batch_answer(alloc: Global, lines: &mut Script) -> Result<Answer, Fail> {
+pub(crate) fn batch_answer(alloc: Global, lines: &mut Script) -> Result<Answer, Fail> {
     let mut folder = no_folder(alloc)?;
     let answer = batch_over(alloc, lines, &mut folder);
     drop(folder);
@@ -240,7 +249,7 @@ fn lines_of(alloc: Global, rows: &[&[(&str, &str)]]) -> Result<String, Fail> {
 }
 
 /// An answer has this status and this text.
-pub fn check_answer<R: Print>(
+pub(crate) fn check_answer<R: Print>(
     checks: &mut Checks<'_, R>,
     case: &str,
     answer: Answer,
@@ -283,7 +292,7 @@ fn check_rows<R: Print>(
 }
 
 /// A batch on a new journal of the row site answers each line of rows as its row says.
-pub fn check_batch<R: Print>(
+pub(crate) fn check_batch<R: Print>(
     checks: &mut Checks<'_, R>,
     alloc: Global,
     rows: &[&[(&str, &str)]],

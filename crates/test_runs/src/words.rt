@@ -1,7 +1,7 @@
 //! The words after the program's name.
 
 use crate::running::{Answer, answer, check_answer, words_of};
-use command_line::{CommandName, ServeOptions, Subcommand, places};
+use command_line::{NamedPlaces, places};
 use farm_ports::Gather;
 use farm_run::report_no_memory;
 use std::alloc::Global;
@@ -19,7 +19,7 @@ fn usage_line(rt: HostRuntime) -> Result<(), Fail> {
 }
 
 // The site's folder and the journal's file that words name.
-fn places_of(alloc: Global, words: &[&str]) -> Result<(String, String), Fail> {
+fn places_of(alloc: Global, words: &[&str]) -> Result<NamedPlaces, Fail> {
     let owned = words_of(alloc, words)?;
     let named = places(alloc, &owned);
     drop(owned);
@@ -52,6 +52,26 @@ const PLACES: &[(&str, &[&str], (&str, &str))] = &[
     ),
     ("a missing journal", &["init", "--site", "d"], ("", "")),
     ("no option", &["calc"], ("", "")),
+    (
+        "a value that begins with an equals sign",
+        &["report", "--journal==x", "--day", "2023-11-14"],
+        ("", "=x"),
+    ),
+    (
+        "a journal and a day",
+        &["report", "--day=2023-11-14", "--journal", "j"],
+        ("", "j"),
+    ),
+    (
+        "a day that the calendar hasn't",
+        &["report", "--journal", "j", "--day", "2023-02-29"],
+        ("", ""),
+    ),
+    (
+        "a drill",
+        &["drill", "--seed", "1", "--count", "0"],
+        ("", ""),
+    ),
 ];
 
 // Words name these places.
@@ -62,9 +82,9 @@ fn check_places<R: Print>(
     words: &[&str],
     want: (&str, &str),
 ) -> Result<(), Fail> {
-    let (site, journal) = places_of(alloc, words)?;
-    checks.same_at(name, (site.as_str(), journal.as_str()), want);
-    drop((site, journal));
+    let places = places_of(alloc, words)?;
+    checks.same_at(name, (places.site.as_str(), places.journal.as_str()), want);
+    drop(places);
     Ok(())
 }
 
@@ -73,91 +93,6 @@ fn places_of_words(rt: HostRuntime) -> Result<(), Fail> {
     let mut checks = Checks::new(&rt);
     for (name, words, want) in PLACES {
         check_places(&mut checks, rt.alloc(), name, words, *want)?;
-    }
-    Ok(checks.end()?)
-}
-
-// The command of `serve` with a port, workers and rounds as they are written.
-fn served(alloc: Global, written: (&str, &str, &str)) -> Result<Option<Subcommand>, Fail> {
-    let (port, workers, rounds) = written;
-    let words = [
-        "serve",
-        "--journal",
-        "j",
-        "--port",
-        port,
-        "--workers",
-        workers,
-        "--rounds",
-        rounds,
-    ];
-    let owned = words_of(alloc, &words)?;
-    let command = match CommandName::of_words(&owned) {
-        Some(name) => Some(Subcommand::read(alloc, name, &owned)?),
-        None => None,
-    };
-    drop(owned);
-    Ok(command)
-}
-
-// The port, the workers and the rounds of `serve` as they are written, and as numbers; `None` if the words are no command.
-const NUMBERS: &[(&str, (&str, &str, &str), Option<(u16, u8, u32)>)] = &[
-    ("no workers", ("8080", "0", "0"), None),
-    ("nine workers", ("8080", "9", "0"), None),
-    ("eight workers", ("8080", "8", "0"), Some((8080, 8, 0))),
-    (
-        "one worker on the greatest port",
-        ("65535", "1", "0"),
-        Some((65_535, 1, 0)),
-    ),
-    (
-        "two workers from the greatest port on",
-        ("65535", "2", "0"),
-        None,
-    ),
-    (
-        "eight workers up to the greatest port",
-        ("65528", "8", "0"),
-        Some((65_528, 8, 0)),
-    ),
-    (
-        "eight workers beyond the greatest port",
-        ("65529", "8", "0"),
-        None,
-    ),
-    (
-        "the most rounds",
-        ("8080", "1", "100000000"),
-        Some((8080, 1, 100_000_000)),
-    ),
-    ("a round too many", ("8080", "1", "100000001"), None),
-];
-
-// `serve` has these numbers, or is no command.
-fn check_numbers<R: Print>(
-    checks: &mut Checks<'_, R>,
-    alloc: Global,
-    name: &str,
-    written: (&str, &str, &str),
-    want: Option<(u16, u8, u32)>,
-) -> Result<(), Fail> {
-    let command = served(alloc, written)?;
-    let want = want.map(|(port, workers, rounds)| {
-        Subcommand::Serve(ServeOptions {
-            port,
-            workers,
-            rounds,
-        })
-    });
-    checks.same_at(name, command, want);
-    Ok(())
-}
-
-#[test]
-fn numbers_of_serve(rt: HostRuntime) -> Result<(), Fail> {
-    let mut checks = Checks::new(&rt);
-    for (name, written, want) in NUMBERS {
-        check_numbers(&mut checks, rt.alloc(), name, *written, *want)?;
     }
     Ok(checks.end()?)
 }

@@ -29,7 +29,7 @@ fn folder_of(alloc: Global, files: &[(&str, &str)]) -> Result<Files, Fail> {
 }
 
 /// The site of a folder of files.
-pub fn site_of(alloc: Global, files: &[(&str, &str)]) -> Result<Site, Fail> {
+pub(crate) fn site_of(alloc: Global, files: &[(&str, &str)]) -> Result<Site, Fail> {
     let mut folder = folder_of(alloc, files)?;
     Ok(Site::read(alloc, &mut folder)?)
 }

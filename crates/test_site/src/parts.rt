@@ -142,7 +142,7 @@ fn check_part<R: Print>(checks: &mut Checks<'_, R>, site: &Site, (name, part): (
 }
 
 /// Parts of a site are as their rows say.
-pub fn check_parts<R: Print>(checks: &mut Checks<'_, R>, site: &Site, parts: Parts) {
+pub(crate) fn check_parts<R: Print>(checks: &mut Checks<'_, R>, site: &Site, parts: Parts) {
     for part in parts {
         check_part(checks, site, *part);
     }

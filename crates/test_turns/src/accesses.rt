@@ -111,7 +111,7 @@ fn passes_after<R: Print + Wait>(
 }
 
 /// A desk after calls of two callers.
-pub fn desk_after<R: Print + Wait>(
+pub(crate) fn desk_after<R: Print + Wait>(
     checks: &mut Checks<'_, R>,
     rt: &R,
     alloc: Global,

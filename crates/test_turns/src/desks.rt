@@ -30,7 +30,7 @@ fn empty_disk(alloc: Global, fails: &[u64]) -> Result<RowDisk, Fail> {
 }
 
 /// A desk without an entry, on a disk whose calls of these numbers fail.
-pub fn new_desk(alloc: Global, fails: &[u64]) -> Result<RowDesk, Fail>
+pub(crate) fn new_desk(alloc: Global, fails: &[u64]) -> Result<RowDesk, Fail>
     ensures unused { IfOk result (λ desk. IsUnused desk) }
 {
     let site = sample_site::sample_site(alloc)?;
@@ -41,7 +41,7 @@ pub fn new_desk(alloc: Global, fails: &[u64]) -> Result<RowDesk, Fail>
 }
 
 /// The desk of the journal on a disk.
-pub fn recovered_desk(alloc: Global, disk: RowDisk) -> Result<RowDesk, Fail>
+pub(crate) fn recovered_desk(alloc: Global, disk: RowDisk) -> Result<RowDesk, Fail>
     ensures unused { IfOk result (λ desk. IsUnused desk) }
 {
     match Desk::recover(alloc, disk) {
@@ -60,7 +60,7 @@ fn check_entries<R: Print>(checks: &mut Checks<'_, R>, desk: &RowDesk, wants: En
 }
 
 /// At its end a desk has these entries, of which none is in doubt, and this many of its answers were faults of the disk. Its disk is left.
-pub fn disk_at_end<R: Print>(
+pub(crate) fn disk_at_end<R: Print>(
     checks: &mut Checks<'_, R>,
     desk: RowDesk,
     wants: Entries,

@@ -35,7 +35,7 @@ pub struct Passes {
 }
 
 /// Shares a desk that was just made.
-pub fn shared_by_two(alloc: Global, desk: RowDesk) -> Result<(RowTurn, Passes), NoMemory>
+pub(crate) fn shared_by_two(alloc: Global, desk: RowDesk) -> Result<(RowTurn, Passes), NoMemory>
     requires unused { IsUnused desk }
     ensures opening { IfOk result (λ made. made.0.opening ≡ desk) }
     ensures first { IfOk result (λ made. IsNewPass made.0 made.1.first FIRST) }
@@ -69,7 +69,7 @@ fn listed(alloc: Global, passes: Passes) -> Result<Vec<RowPass>, NoMemory>
 }
 
 /// The desk of a turn, taken back with the passes of both callers.
-pub fn closed(alloc: Global, turn: RowTurn, passes: Passes) -> Result<RowDesk, NoMemory>
+pub(crate) fn closed(alloc: Global, turn: RowTurn, passes: Passes) -> Result<RowDesk, NoMemory>
     requires all { AreAll turn.turn passes.first passes.last }
     requires unused { IsUnused turn.opening }
 {

@@ -61,7 +61,7 @@ fn gauge(level: i64) -> Command
 }
 
 /// What the desk is asked.
-pub fn ask_of(request: Request) -> Ask
+pub(crate) fn ask_of(request: Request) -> Ask
     ensures { IsWellFormedAsk result }
 {
     match request {
@@ -81,7 +81,7 @@ pub fn ask_of(request: Request) -> Ask
 }
 
 /// The answer that is expected.
-pub fn answer_of(expected: Expected) -> Answer {
+pub(crate) fn answer_of(expected: Expected) -> Answer {
     match expected {
         Expected::Placed(place) => Answer::Done(Reply::Placed(place)),
         Expected::Refused(rule) => Answer::Done(Reply::Refused(rule)),

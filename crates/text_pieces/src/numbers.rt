@@ -19,7 +19,7 @@ const ZEROS: [u8; 256] = [b'0'; 256];
 
 /// Appends a number.
 #[inline(never)]
-pub fn write_number(out: &mut Vec<u8>, number: u64) -> Result<(), NoMemory>
+pub(crate) fn write_number(out: &mut Vec<u8>, number: u64) -> Result<(), NoMemory>
     ensures number { Lengthens out.old.items out.new.items (decimal number) result }
 {
     let mut digits = [0; DIGITS];
@@ -30,7 +30,7 @@ pub fn write_number(out: &mut Vec<u8>, number: u64) -> Result<(), NoMemory>
 
 /// Appends a signed number.
 #[inline(never)]
-pub fn write_signed(out: &mut Vec<u8>, number: i64) -> Result<(), NoMemory>
+pub(crate) fn write_signed(out: &mut Vec<u8>, number: i64) -> Result<(), NoMemory>
     ensures signed { Lengthens out.old.items out.new.items (signed_decimal number) result }
 {
     out.extend_from_slice(Buffer::new().format(number).as_bytes())?;
@@ -39,7 +39,7 @@ pub fn write_signed(out: &mut Vec<u8>, number: i64) -> Result<(), NoMemory>
 
 /// Appends the text of a number of units with this many decimals.
 #[inline(never)]
-pub fn write_quantity(out: &mut Vec<u8>, places: u8, units: i64) -> Result<(), NoMemory>
+pub(crate) fn write_quantity(out: &mut Vec<u8>, places: u8, units: i64) -> Result<(), NoMemory>
     ensures quantity { Lengthens out.old.items out.new.items (quantity_text places units) result }
 {
     let (whole, decimals) = split_at_point(units.unsigned_abs(), places);

@@ -4,9 +4,9 @@
 ghost use Rattle.std.specs.Prelude.{◌≡◌, ◌≤◌, nat_le};
 ghost use Rattle.byte_readers.specs.ByteReaders.{Gives, made_at};
 ghost use Rattle.farm_history.specs.Decoding.{byte_at, first_above, kind_at, list_at, moment_at, numbers_at, padded};
-ghost use Rattle.farm_history.specs.declared.limits.TheConstants.{LONGEST_LIST};
+ghost use Rattle.farm_history.specs.declared.limits.TheConstants.{MOST_IN_LIST};
 
-use crate::{Few, LAST_MOMENT, LONGEST_LIST};
+use crate::{Few, LAST_MOMENT, MOST_IN_LIST};
 use byte_readers::i64_at;
 
 /// How many bytes are left where bytes are missing.
@@ -25,7 +25,7 @@ fn byte_up_to(most: u8, bytes: &[u8]) -> Result<(u8, &[u8]), usize>
 
 /// Whether a dip is of outages.
 #[tactic(auto, unfolding(crate::specs::Decoding::kind_at))]
-pub fn kind_at(bytes: &[u8]) -> Result<(bool, &[u8]), usize>
+pub(crate) fn kind_at(bytes: &[u8]) -> Result<(bool, &[u8]), usize>
     ensures kind { Gives (λ x. (x.0, x.1.now)) result (kind_at bytes.now) }
 {
     let (kind, rest) = byte_up_to(1, bytes)?;
@@ -34,7 +34,7 @@ pub fn kind_at(bytes: &[u8]) -> Result<(bool, &[u8]), usize>
 
 /// A moment that an entry may have.
 #[tactic(auto, unfolding(crate::specs::Decoding::moment_at))]
-pub fn moment_at(bytes: &[u8]) -> Result<(i64, &[u8]), usize>
+pub(crate) fn moment_at(bytes: &[u8]) -> Result<(i64, &[u8]), usize>
     ensures moment { Gives (λ x. (x.0, x.1.now)) result (moment_at bytes.now) }
 {
     if let Some(left) = first_above(&LAST_MOMENT.to_be_bytes(), bytes) {
@@ -63,17 +63,17 @@ fn first_above(most: &[u8], bytes: &[u8]) -> Option<usize>
 
 /// A short list.
 #[tactic(auto, unfolding(crate::specs::Decoding::list_at))]
-pub fn list_at(bytes: &[u8]) -> Result<(Few, &[u8]), usize>
+pub(crate) fn list_at(bytes: &[u8]) -> Result<(Few, &[u8]), usize>
     ensures list { Gives (λ x. (x.0, x.1.now)) result (list_at bytes.now) }
 {
-    let (count, rest) = byte_up_to(LONGEST_LIST, bytes)?;
+    let (count, rest) = byte_up_to(MOST_IN_LIST, bytes)?;
     let (values, rest) = values_at(count, rest)?;
     Ok((Few { count, values }, rest))
 }
 
 // This many numbers, and zeros after them.
 fn values_at(count: u8, bytes: &[u8]) -> Result<([i64; 8], &[u8]), usize>
-    requires few { count ≤ LONGEST_LIST }
+    requires few { count ≤ MOST_IN_LIST }
     ensures values { Gives (λ x. (x.0, x.1.now)) result (made_at (λ numbers. padded count numbers) (numbers_at count) bytes.now) }
 {
     let mut values = [0; 8];

@@ -10,7 +10,7 @@ use farm_ticket::Way;
 
 /// A reading and a sample that are named.
 #[tactic(auto, unfolding(crate::specs::Decoding::gauged_at))]
-pub fn gauged_at(bytes: &[u8]) -> Result<(Gauged, &[u8]), usize>
+pub(crate) fn gauged_at(bytes: &[u8]) -> Result<(Gauged, &[u8]), usize>
     ensures gauged { Gives (λ x. (x.0, x.1.now)) result (gauged_at bytes.now) }
 {
     let (reading, rest) = u32_at(MISSING, bytes)?;
@@ -20,7 +20,7 @@ pub fn gauged_at(bytes: &[u8]) -> Result<(Gauged, &[u8]), usize>
 
 /// A plan: its way, and its fields.
 #[tactic(auto, unfolding(crate::specs::Decoding::plan_at))]
-pub fn plan_at(bytes: &[u8]) -> Result<(Plan, &[u8]), usize>
+pub(crate) fn plan_at(bytes: &[u8]) -> Result<(Plan, &[u8]), usize>
     ensures plan { Gives (λ x. (x.0, x.1.now)) result (plan_at bytes.now) }
 {
     match bytes {
@@ -69,7 +69,7 @@ fn transfer_at(bytes: &[u8]) -> Result<(Plan, &[u8]), usize>
 
 /// What is named for a second tank, after a byte that says whether anything is.
 #[tactic(auto, unfolding(crate::specs::Decoding::second_at))]
-pub fn second_at(bytes: &[u8]) -> Result<(Option<Gauged>, &[u8]), usize>
+pub(crate) fn second_at(bytes: &[u8]) -> Result<(Option<Gauged>, &[u8]), usize>
     ensures second { Gives (λ x. (x.0, x.1.now)) result (second_at bytes.now) }
 {
     match bytes {

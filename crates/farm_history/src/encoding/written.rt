@@ -29,7 +29,7 @@ impl Model for Written {
 
 impl Written {
     /// No bytes.
-    pub fn new() -> Written
+    pub(crate) fn new() -> Written
         ensures empty { result ≡ [] }
     {
         Written {
@@ -39,7 +39,7 @@ impl Written {
     }
 
     /// The bytes.
-    pub fn get(&self) -> &[u8]
+    pub(crate) fn get(&self) -> &[u8]
         ensures bytes { result.now ≡ self.now }
         ensures few { length result.now ≤ MOST_ENTRY_BYTES }
     {
@@ -47,7 +47,7 @@ impl Written {
     }
 
     /// Writes bytes after those before.
-    pub fn push(&mut self, bytes: &[u8])
+    pub(crate) fn push(&mut self, bytes: &[u8])
         requires room { length self.old + length bytes.now ≤ MOST_ENTRY_BYTES }
         ensures pushed { self.new ≡ self.old ++ bytes.now }
     {
@@ -57,7 +57,7 @@ impl Written {
     }
 
     /// Writes signed numbers, eight bytes each.
-    pub fn push_numbers(&mut self, numbers: &[i64])
+    pub(crate) fn push_numbers(&mut self, numbers: &[i64])
         requires room { length self.old + 8 * length numbers.now ≤ MOST_ENTRY_BYTES }
         ensures pushed { self.new ≡ self.old ++ flat_map signed_bytes numbers.now }
         ensures typed { All (FitsSigned w64) numbers.now }

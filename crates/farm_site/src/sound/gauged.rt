@@ -13,14 +13,14 @@ use super::is_within;
 use crate::{Tank, is_among, is_host};
 use farm_fixed::{LEAST_TEMPERATURE, MOST_TEMPERATURE};
 use gauge_maps::{
-    Field, GaugeMap, HIGHEST_BIT, LineMap, MOST_DEADBAND, MOST_GAUGES, MOST_MULTIPLIER, MOST_WORDS,
+    Field, GaugeMap, LineMap, MOST_BIT, MOST_DEADBAND, MOST_GAUGES, MOST_MULTIPLIER, MOST_WORDS,
     REGISTERS, Valid,
 };
 use modbus_frame::{LEAST_QUANTITY, MOST_QUANTITY, READ_HOLDING_REGISTERS, READ_INPUT_REGISTERS};
 use std::alloc::{AllocError, Global};
 
 /// Whether each line is sound.
-pub fn are_sound_lines(lines: &[LineMap]) -> bool
+pub(crate) fn are_sound_lines(lines: &[LineMap]) -> bool
     ensures { result ≡ list_all is_line_map lines.now }
 {
     lines.iter().all(is_line_map)
@@ -97,7 +97,7 @@ fn is_valid_or_none(quantity: u8, valid: Option<Valid>) -> bool
 {
     match valid {
         None => true,
-        Some(valid) => valid.offset < quantity && valid.bit <= HIGHEST_BIT,
+        Some(valid) => valid.offset < quantity && valid.bit <= MOST_BIT,
     }
 }
 
@@ -109,7 +109,7 @@ fn is_between(least: u32, most: u32, number: u32) -> bool
 }
 
 /// The tanks that lines have gauges on.
-pub fn all_gauged(alloc: Global, lines: &[LineMap]) -> Result<Vec<u16>, AllocError>
+pub(crate) fn all_gauged(alloc: Global, lines: &[LineMap]) -> Result<Vec<u16>, AllocError>
     ensures { IfOk result (λ gauged. gauged.items ≡ all_gauged lines.now) }
 {
     let mut gauged = Vec::new(alloc);
@@ -130,7 +130,7 @@ fn put_tanks(gauged: &mut Vec<u16>, gauges: &[GaugeMap]) -> Result<(), AllocErro
 }
 
 /// Whether each of these is one of the site's tanks, and none stands twice.
-pub fn are_gauged(tanks: &[Tank], gauged: &[u16]) -> bool
+pub(crate) fn are_gauged(tanks: &[Tank], gauged: &[u16]) -> bool
     ensures { result ≡ are_gauged (map tank_number tanks.now) gauged.now }
 {
     are_known(tanks, gauged) && are_distinct(gauged)

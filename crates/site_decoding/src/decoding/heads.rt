@@ -16,7 +16,7 @@ use site_encoding::FORMAT;
 use std::alloc::Global;
 
 /// The byte of the format.
-pub fn format_at(bytes: &[u8]) -> Result<(u8, &[u8]), SiteBytesFault>
+pub(crate) fn format_at(bytes: &[u8]) -> Result<(u8, &[u8]), SiteBytesFault>
     ensures reads { Gives (λ x. (x.0, x.1.now)) result (tested_at (λ format. format == FORMAT) byte_at bytes.now) }
 {
     let (format, rest) = u8_at(BadSite, bytes)?;
@@ -28,7 +28,7 @@ pub fn format_at(bytes: &[u8]) -> Result<(u8, &[u8]), SiteBytesFault>
 
 /// The name of a site.
 #[tactic(auto, unfolding(crate::specs::Decoding::name_at))]
-pub fn name_at(alloc: Global, bytes: &[u8]) -> Result<(Name, &[u8]), SiteBytesFault>
+pub(crate) fn name_at(alloc: Global, bytes: &[u8]) -> Result<(Name, &[u8]), SiteBytesFault>
     ensures reads { Gives (λ x. (x.0, x.1.now)) result (name_at bytes.now) }
 {
     let (name, rest) = text_at(alloc, bytes)?;
@@ -40,7 +40,7 @@ pub fn name_at(alloc: Global, bytes: &[u8]) -> Result<(Name, &[u8]), SiteBytesFa
 
 /// The rounding table.
 #[tactic(auto, unfolding(crate::specs::Decoding::rounding_at))]
-pub fn rounding_at(bytes: &[u8]) -> Result<(RoundTable, &[u8]), SiteBytesFault>
+pub(crate) fn rounding_at(bytes: &[u8]) -> Result<(RoundTable, &[u8]), SiteBytesFault>
     ensures reads { Gives (λ x. (x.0, x.1.now)) result (rounding_at bytes.now) }
 {
     let (rows, rest) = rows_at(bytes)?;

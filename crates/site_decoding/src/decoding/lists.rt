@@ -23,7 +23,7 @@ pub trait Piece: Drop {
 }
 
 /// This many things, each of at least `size` bytes. Room is taken at once, for no more than the bytes can hold (`room_for`).
-pub fn counted_at<T: Piece>(
+pub(crate) fn counted_at<T: Piece>(
     alloc: Global,
     count: usize,
     size: usize,
@@ -53,7 +53,7 @@ fn room_for(count: usize, size: usize, bytes: &[u8]) -> usize
 }
 
 /// A list after its count of one byte.
-pub fn short_list_at<T: Piece>(
+pub(crate) fn short_list_at<T: Piece>(
     alloc: Global,
     size: usize,
     bytes: &[u8],
@@ -67,7 +67,7 @@ pub fn short_list_at<T: Piece>(
 }
 
 /// A list after its count of 16 bits.
-pub fn list16_at<T: Piece>(
+pub(crate) fn list16_at<T: Piece>(
     alloc: Global,
     size: usize,
     bytes: &[u8],
@@ -81,7 +81,7 @@ pub fn list16_at<T: Piece>(
 }
 
 /// A list after its count of 32 bits.
-pub fn list32_at<T: Piece>(
+pub(crate) fn list32_at<T: Piece>(
     alloc: Global,
     size: usize,
     bytes: &[u8],
@@ -96,7 +96,7 @@ pub fn list32_at<T: Piece>(
 }
 
 /// A thing that may be missing.
-pub fn option_at<T: Piece>(
+pub(crate) fn option_at<T: Piece>(
     alloc: Global,
     bytes: &[u8],
 ) -> Result<(Option<T>, &[u8]), SiteBytesFault>

@@ -15,7 +15,7 @@ use std::alloc::Global;
 
 /// A byte that is at most this.
 #[tactic(auto, unfolding(crate::specs::ByteReaders::byte_up_to))]
-pub fn byte_up_to(most: u8, bytes: &[u8]) -> Result<(u8, &[u8]), SiteBytesFault>
+pub(crate) fn byte_up_to(most: u8, bytes: &[u8]) -> Result<(u8, &[u8]), SiteBytesFault>
     ensures reads { Gives (λ x. (x.0, x.1.now)) result (byte_up_to most bytes.now) }
 {
     let (byte, rest) = u8_at(BadSite, bytes)?;
@@ -27,7 +27,7 @@ pub fn byte_up_to(most: u8, bytes: &[u8]) -> Result<(u8, &[u8]), SiteBytesFault>
 
 /// Yes or no.
 #[tactic(auto, unfolding(crate::specs::ByteReaders::flag_at))]
-pub fn flag_at(bytes: &[u8]) -> Result<(bool, &[u8]), SiteBytesFault>
+pub(crate) fn flag_at(bytes: &[u8]) -> Result<(bool, &[u8]), SiteBytesFault>
     ensures reads { Gives (λ x. (x.0, x.1.now)) result (flag_at bytes.now) }
 {
     let (byte, rest) = byte_up_to(1, bytes)?;
@@ -36,7 +36,7 @@ pub fn flag_at(bytes: &[u8]) -> Result<(bool, &[u8]), SiteBytesFault>
 
 /// A number of 16 bits that isn't below 0.
 #[tactic(auto, unfolding(crate::specs::ByteReaders::natural_at))]
-pub fn natural16_at(bytes: &[u8]) -> Result<(i64, &[u8]), SiteBytesFault>
+pub(crate) fn natural16_at(bytes: &[u8]) -> Result<(i64, &[u8]), SiteBytesFault>
     ensures reads { Gives (λ x. (x.0, x.1.now)) result (natural_at w16 bytes.now) }
 {
     let (number, rest) = u16_at(BadSite, bytes)?;
@@ -45,7 +45,7 @@ pub fn natural16_at(bytes: &[u8]) -> Result<(i64, &[u8]), SiteBytesFault>
 
 /// A number of 32 bits that isn't below 0.
 #[tactic(auto, unfolding(crate::specs::ByteReaders::natural_at))]
-pub fn natural32_at(bytes: &[u8]) -> Result<(i64, &[u8]), SiteBytesFault>
+pub(crate) fn natural32_at(bytes: &[u8]) -> Result<(i64, &[u8]), SiteBytesFault>
     ensures reads { Gives (λ x. (x.0, x.1.now)) result (natural_at w32 bytes.now) }
 {
     let (number, rest) = u32_at(BadSite, bytes)?;
@@ -64,7 +64,7 @@ fn ranged<U: Unit>(units: i64) -> Result<Quantity<U>, SiteBytesFault>
 
 /// A density.
 #[tactic(auto, unfolding(crate::specs::Decoding::density_at))]
-pub fn density_at(bytes: &[u8]) -> Result<(Dens, &[u8]), SiteBytesFault>
+pub(crate) fn density_at(bytes: &[u8]) -> Result<(Dens, &[u8]), SiteBytesFault>
     ensures reads { Gives (λ x. (x.0, x.1.now)) result (density_at bytes.now) }
 {
     let (units, rest) = natural16_at(bytes)?;
@@ -73,7 +73,7 @@ pub fn density_at(bytes: &[u8]) -> Result<(Dens, &[u8]), SiteBytesFault>
 
 /// A temperature.
 #[tactic(auto, unfolding(crate::specs::Decoding::temperature_at))]
-pub fn temperature_at(bytes: &[u8]) -> Result<(Centi, &[u8]), SiteBytesFault>
+pub(crate) fn temperature_at(bytes: &[u8]) -> Result<(Centi, &[u8]), SiteBytesFault>
     ensures reads { Gives (λ x. (x.0, x.1.now)) result (temperature_at bytes.now) }
 {
     let (units, rest) = i16_at(BadSite, bytes)?;
@@ -82,7 +82,7 @@ pub fn temperature_at(bytes: &[u8]) -> Result<(Centi, &[u8]), SiteBytesFault>
 
 /// A factor.
 #[tactic(auto, unfolding(crate::specs::Decoding::factor_at))]
-pub fn factor_at(bytes: &[u8]) -> Result<(Fac5, &[u8]), SiteBytesFault>
+pub(crate) fn factor_at(bytes: &[u8]) -> Result<(Fac5, &[u8]), SiteBytesFault>
     ensures reads { Gives (λ x. (x.0, x.1.now)) result (factor_at bytes.now) }
 {
     let (units, rest) = natural32_at(bytes)?;
@@ -91,7 +91,7 @@ pub fn factor_at(bytes: &[u8]) -> Result<(Fac5, &[u8]), SiteBytesFault>
 
 /// A height.
 #[tactic(auto, unfolding(crate::specs::Decoding::height_at))]
-pub fn height_at(bytes: &[u8]) -> Result<(Mm, &[u8]), SiteBytesFault>
+pub(crate) fn height_at(bytes: &[u8]) -> Result<(Mm, &[u8]), SiteBytesFault>
     ensures reads { Gives (λ x. (x.0, x.1.now)) result (height_at bytes.now) }
 {
     let (units, rest) = natural16_at(bytes)?;
@@ -100,7 +100,7 @@ pub fn height_at(bytes: &[u8]) -> Result<(Mm, &[u8]), SiteBytesFault>
 
 /// A text.
 #[tactic(auto, unfolding(crate::specs::ByteReaders::text_at))]
-pub fn text_at(alloc: Global, bytes: &[u8]) -> Result<(Items<u8>, &[u8]), SiteBytesFault>
+pub(crate) fn text_at(alloc: Global, bytes: &[u8]) -> Result<(Items<u8>, &[u8]), SiteBytesFault>
     ensures reads { Gives (λ x. (x.0, x.1.now)) result (text_at bytes.now) }
 {
     let (count, rest) = u8_at(BadSite, bytes)?;

@@ -36,7 +36,7 @@ pub trait Measured: Encoded {
 }
 
 /// Puts bytes.
-pub fn put(out: &mut Vec<u8>, bytes: &[u8])
+pub(crate) fn put(out: &mut Vec<u8>, bytes: &[u8])
     requires room { HasRoom out.old bytes.now }
     ensures put { IsPut out.old out.new bytes.now }
 {
@@ -44,7 +44,7 @@ pub fn put(out: &mut Vec<u8>, bytes: &[u8])
 }
 
 /// Puts a text after its length.
-pub fn put_text(out: &mut Vec<u8>, text: &[u8])
+pub(crate) fn put_text(out: &mut Vec<u8>, text: &[u8])
     requires short { length text.now < 256 }
     requires room { HasRoom out.old (text_bytes text.now) }
     ensures put { IsPut out.old out.new (text_bytes text.now) }
@@ -54,7 +54,7 @@ pub fn put_text(out: &mut Vec<u8>, text: &[u8])
 }
 
 /// Puts 0 for nothing, or 1 and the bytes of the item that is there.
-pub fn put_option<T: Encoded>(out: &mut Vec<u8>, option: &Option<T>)
+pub(crate) fn put_option<T: Encoded>(out: &mut Vec<u8>, option: &Option<T>)
     requires fits { IfSome option.now T.fits }
     requires room { HasRoom out.old (option_bytes T.bytes option.now) }
     ensures put { IsPut out.old out.new (option_bytes T.bytes option.now) }
@@ -70,7 +70,7 @@ pub fn put_option<T: Encoded>(out: &mut Vec<u8>, option: &Option<T>)
 }
 
 /// How many bytes an item that may be missing has.
-pub fn len_of_option<T: Measured>(option: &Option<T>) -> usize
+pub(crate) fn len_of_option<T: Measured>(option: &Option<T>) -> usize
     requires fits { IfSome option.now T.fits }
     requires few { T.most < 2 ^ 32 }
     ensures len { result ≡ length (option_bytes T.bytes option.now) }
@@ -83,7 +83,7 @@ pub fn len_of_option<T: Measured>(option: &Option<T>) -> usize
 }
 
 /// Puts the bytes of items, one after another.
-pub fn put_each<T: Encoded>(out: &mut Vec<u8>, items: &[T])
+pub(crate) fn put_each<T: Encoded>(out: &mut Vec<u8>, items: &[T])
     requires fits { All T.fits items.now }
     requires room { HasRoom out.old (flat_map T.bytes items.now) }
     ensures put { IsPut out.old out.new (flat_map T.bytes items.now) }
@@ -95,7 +95,7 @@ pub fn put_each<T: Encoded>(out: &mut Vec<u8>, items: &[T])
 }
 
 /// How many bytes items have.
-pub fn len_of_each<T: Measured>(items: &[T]) -> usize
+pub(crate) fn len_of_each<T: Measured>(items: &[T]) -> usize
     requires fits { All T.fits items.now }
     requires few { length items.now * T.most < 2 ^ 32 }
     ensures len { result ≡ length (flat_map T.bytes items.now) }
@@ -109,7 +109,7 @@ pub fn len_of_each<T: Measured>(items: &[T]) -> usize
 }
 
 /// Puts items after their count of one byte.
-pub fn put_short_list<T: Encoded>(out: &mut Vec<u8>, items: &[T])
+pub(crate) fn put_short_list<T: Encoded>(out: &mut Vec<u8>, items: &[T])
     requires fits { All T.fits items.now }
     requires few { length items.now < 256 }
     requires room { HasRoom out.old (short_list_bytes T.bytes items.now) }
@@ -121,7 +121,7 @@ pub fn put_short_list<T: Encoded>(out: &mut Vec<u8>, items: &[T])
 }
 
 /// Puts items after their count of two bytes.
-pub fn put_list<T: Encoded>(out: &mut Vec<u8>, items: &[T])
+pub(crate) fn put_list<T: Encoded>(out: &mut Vec<u8>, items: &[T])
     requires fits { All T.fits items.now }
     requires few { length items.now < 65536 }
     requires room { HasRoom out.old (list_bytes w16 T.bytes items.now) }
@@ -133,7 +133,7 @@ pub fn put_list<T: Encoded>(out: &mut Vec<u8>, items: &[T])
 }
 
 /// Puts items after their count of four bytes.
-pub fn put_long_list<T: Encoded>(out: &mut Vec<u8>, items: &[T])
+pub(crate) fn put_long_list<T: Encoded>(out: &mut Vec<u8>, items: &[T])
     requires fits { All T.fits items.now }
     requires few { length items.now < 4294967296 }
     requires room { HasRoom out.old (list_bytes w32 T.bytes items.now) }

@@ -3,7 +3,7 @@
 ghost use Rattle.std.specs.Prelude.{◌+◌, ◌<◌, ◌≤◌, ◌≡◌, ◌∷◌, ◌++◌, length};
 ghost use Rattle.std.specs.List.{flat_map};
 ghost use Rattle.farm_rounding.specs.Table.{row_at};
-ghost use Rattle.farm_site.specs.declared.limits.TheConstants.{LONGEST_NAME};
+ghost use Rattle.farm_site.specs.declared.limits.TheConstants.{MOST_NAME_BYTES};
 ghost use Rattle.site_encoding.specs.Buffers.{HasRoom, IsPut};
 ghost use Rattle.site_encoding.specs.Encoding.{mode_byte, row_bytes, text_bytes};
 
@@ -13,7 +13,7 @@ use farm_rounding::{Mode, ROUNDING_ROWS, RoundTable};
 
 /// Puts the format, the name and the rounding table.
 pub fn put_head(out: &mut Vec<u8>, name: &[u8], rounding: &RoundTable)
-    requires name { length name.now ≤ LONGEST_NAME }
+    requires name { length name.now ≤ MOST_NAME_BYTES }
     requires rounding { length rounding.now ≡ ROUNDING_ROWS }
     requires room { HasRoom out.old (FORMAT ∷ text_bytes name.now ++ flat_map row_bytes rounding.now) }
     ensures put { IsPut out.old out.new (FORMAT ∷ text_bytes name.now ++ flat_map row_bytes rounding.now) }
@@ -25,7 +25,7 @@ pub fn put_head(out: &mut Vec<u8>, name: &[u8], rounding: &RoundTable)
 
 /// How many bytes the format, the name and the rounding table have.
 pub fn len_of_head(name: &[u8], rounding: &RoundTable) -> usize
-    requires name { length name.now ≤ LONGEST_NAME }
+    requires name { length name.now ≤ MOST_NAME_BYTES }
     requires rounding { length rounding.now ≡ ROUNDING_ROWS }
     ensures len { result ≡ length (FORMAT ∷ text_bytes name.now ++ flat_map row_bytes rounding.now) }
     ensures short { result ≤ 58 }

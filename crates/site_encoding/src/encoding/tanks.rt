@@ -121,7 +121,7 @@ fn put_stock(out: &mut Vec<u8>, stock: i64)
 }
 
 /// The byte of a yes or a no.
-pub fn flag_byte(flag: bool) -> u8
+pub(crate) fn flag_byte(flag: bool) -> u8
     ensures { result ≡ flag_byte flag }
 {
     if flag { 1 } else { 0 }

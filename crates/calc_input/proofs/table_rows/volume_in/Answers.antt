@@ -9,7 +9,7 @@ use Rattle.calc_input.specs.Lines.{words_of}
 use Rattle.calc_input.specs.TableRows.{volume_in}
 use Rattle.calc_input.proofs.table_rows.volume_in.Goals as goal
 
--- a line of no word has no volume,
+-- a line without a word has no volume,
 no_word : {S A : Type 0} {steps : S → Option A → S → Type 0} {v : A → List ℕ} {s : S} (t : S) (words : List (List ℕ)) → steps s None t → YieldsList steps v s words → None ≡ volume_in words
 no_word t [] none yields = refl
 no_word t (word ∷ words) none yields = absurd (yields.runs.0 t none)

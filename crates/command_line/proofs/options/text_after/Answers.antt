@@ -6,7 +6,7 @@ use Rattle.command_line.specs.Options.{text_after}
 use Rattle.command_line.proofs.Fronts.{after_front, no_front}
 use Rattle.command_line.proofs.options.text_after.Goals as goal
 
--- what `strip_prefix` gives is what follows the front
+-- what `strip_prefix` gives is what follows the prefix
 stripped : (front text : List ℕ) (result : Option (Bor (List ℕ))) →
     MatchOption result (FindsTextPrefix front text None) (λ x. (n : ℕ) × FindsTextPrefix front text (Some n) × (x.now ≡ drop n text) × (length x.now + n ≡ length text)) →
     option_map (λ rest. rest.now) result ≡ text_after front text

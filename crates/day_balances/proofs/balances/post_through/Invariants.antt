@@ -1,7 +1,6 @@
 -- The invariants of the loops of `post_through`.
 use Rattle.std.proofs.Common.{◌≡◌, ◌-◌, ◌≤◌, map}
 use Rattle.history_lookups.specs.Ledgers.{AreBooksTo}
-use Rattle.history_lookups.specs.Pasts.{history_of}
 use Rattle.day_balances.specs.Balances.{postings_after}
 use Rattle.day_balances.specs.TankDays.{AreWithin, moved_after, most_moved_by}
 use Rattle.day_balances.proofs.balances.post_through.Given as goal
@@ -10,7 +9,7 @@ use Rattle.day_balances.proofs.balances.post_through.Given as goal
 abbrev pub invariant-loop-index : goal.invariant-loop-index
 invariant-loop-index l = record {
   from : l.before ≤ l.index;
-  books : AreBooksTo (history_of l.past.site.now l.past.entries.now) l.index l.ledger;
-  moved : l.days ≡ map (moved_after (postings_after (history_of l.past.site.now l.past.entries.now) l.before (l.index - l.before))) l.initial.days;
+  books : AreBooksTo l.past l.index l.ledger;
+  moved : l.days ≡ map (moved_after (postings_after l.past l.before (l.index - l.before))) l.initial.days;
   bounded : AreWithin (most_moved_by l.index) l.days;
 }

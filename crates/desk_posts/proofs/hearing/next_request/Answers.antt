@@ -17,5 +17,5 @@ loop-heard-preserved g c = record {
       c.loop-heard.room c.take_more.new.self 81920 c.in_ok-take_more.field-0 c.loop-heard.invariant.taken c.in-Need.ensures.heard c.in_ok-take_more.ensures.taken
       c.if-branch-eq0.false;
   held = c.take_more.ensures.held ∙ c.loop-heard.invariant.held;
-  quiet = c.in_ok-take_more.ensures.quiet ∙ c.loop-heard.invariant.quiet;
+  quiet = c.in_ok-take_more.ensures.counts.quiet ∙ c.loop-heard.invariant.quiet;
 }

@@ -15,7 +15,7 @@ returns-in-Err-clause-conversation g c =
     let laws = c.access_laws.ensures.followers in
     refuses follow laws (g.C.Clock.may_give c.args.clock.now) g.A.DeskAccess.limit c.args.port (g.L.Listener.events c.args.listener.now)
     (g.L.Listener.events c.listen.new.self) (count_of g.L.Listener.faults c.args.listener.now c.listen.new.self) (g.A.DeskAccess.state c.args.access.now)
-    c.requires.just_opened c.in-Err.ensures.event c.in-Err.ensures.cause.failed
+    c.requires.just_opened c.in-Err.ensures.event c.in-Err.ensures.counts.failed
 
 pub loop-init : goal.loop-init
 loop-init g c =
@@ -25,7 +25,7 @@ loop-init g c =
       search rules,
       listens follow laws (g.C.Clock.may_give c.args.clock.now) g.A.DeskAccess.limit c.args.port (g.L.Listener.events c.args.listener.now)
           (g.L.Listener.events c.listen.new.self) (g.A.DeskAccess.state c.args.access.now) c.in_default.ensures.event c.requires.just_opened,
-      c.in_default.ensures.quiet,
+      c.in_default.ensures.counts.quiet,
       c.access_laws.ensures.keeps_itself c.args.access.now,
     )
 
@@ -37,14 +37,14 @@ returns-in-Ok-End-clause-conversation g c =
     (g.A.DeskAccess.state c.args.access.now) (g.A.DeskAccess.state c.loop.access) how.Ended running.served running.serving
     (subst (λ (accepted : Accepted g.row.L-Conn.Denot). AddsAccepted (g.L.Listener.events c.loop.listener) (g.L.Listener.events c.accept.new.self) accepted)
     c.in-Ok-End.field-0-is c.in-Ok-End.ensures.event)
-    (running.no_stop, c.in-Ok-End.ensures.quiet ∙ c.loop.invariant.3)
+    (running.no_stop, c.in-Ok-End.ensures.counts.quiet ∙ c.loop.invariant.3)
 
 pub returns-in-Ok-End-clause-keeps : goal.returns-in-Ok-End-clause-keeps
 returns-in-Ok-End-clause-keeps g c = c.loop.invariant.4
 
 pub returns-in-Ok-End-clause-never_falls : goal.returns-in-Ok-End-clause-never_falls
 returns-in-Ok-End-clause-never_falls g c =
-    let same = c.in-Ok-End.ensures.quiet ∙ c.loop.invariant.3 in
+    let same = c.in-Ok-End.ensures.counts.quiet ∙ c.loop.invariant.3 in
     omega (arith, same)
 
 pub returns-in-Err-accept-clause-conversation : goal.returns-in-Err-accept-clause-conversation
@@ -54,7 +54,7 @@ returns-in-Err-accept-clause-conversation g c =
     (g.L.Listener.events c.loop.listener) (g.L.Listener.events c.accept.new.self) (count_of g.L.Listener.faults c.args.listener.now c.accept.new.self)
     (g.A.DeskAccess.state c.args.access.now) (g.A.DeskAccess.state c.loop.access) how.ListenerFailed running.served running.serving
     c.in-Err-accept.ensures.event
-    (running.no_stop, subst (λ (before : ℕ). Rose before (g.L.Listener.faults c.accept.new.self)) c.loop.invariant.3 c.in-Err-accept.ensures.cause.failed)
+    (running.no_stop, subst (λ (before : ℕ). Rose before (g.L.Listener.faults c.accept.new.self)) c.loop.invariant.3 c.in-Err-accept.ensures.counts.failed)
 
 pub returns-in-Err-accept-clause-keeps : goal.returns-in-Err-accept-clause-keeps
 returns-in-Err-accept-clause-keeps g c = c.loop.invariant.4
@@ -62,7 +62,7 @@ returns-in-Err-accept-clause-keeps g c = c.loop.invariant.4
 pub returns-in-Err-accept-clause-never_falls : goal.returns-in-Err-accept-clause-never_falls
 returns-in-Err-accept-clause-never_falls g c =
     let same = c.loop.invariant.3 in
-    let later = c.in-Err-accept.ensures.cause.never_falls in
+    let later = c.in-Err-accept.ensures.counts.never_falls in
     omega (arith, same, later)
 
 pub returns-then-stopped-clause-conversation : goal.returns-then-stopped-clause-conversation
@@ -120,7 +120,7 @@ returns-then-stopped-clause-keeps g c = elim c.match-accept-2.branch [
 pub returns-then-stopped-clause-never_falls : goal.returns-then-stopped-clause-never_falls
 returns-then-stopped-clause-never_falls g c =
     let before = c.loop.invariant.3 in
-    let accepts = c.accept.ensures.cause.never_falls in
+    let accepts = c.accept.ensures.counts.never_falls in
     elim c.match-accept-2.branch [
       | in-Ok-Conn w ↦ (let after = ap g.L.Listener.faults w.listener-is ∙ w.done.ensures.faults in omega (arith, before, accepts, after))
       | in-Ok-Idle w ↦ (let after = ap g.L.Listener.faults w.listener-is in omega (arith, before, accepts, after))

@@ -36,7 +36,7 @@ returns-in_default-clause-served g c =
     (g.A.DeskAccess.state c.args.access.now) (g.A.DeskAccess.state c.loop.access) c.loop.counter c.loop.invariant.stands c.loop-test.true
     (subst (λ (result : Result (Option Heard) Failed). HearsNext before.stream after.stream c.loop.room c.next_request.new.room result) is c.next_request.ensures.hears)
     c.next_request.ensures.held
-    (subst (λ (result : Result (Option Heard) Failed). OnOk result (after.faults ≡ before.faults)) is c.next_request.ensures.quiet)
+    (subst (λ (result : Result (Option Heard) Failed). OnOk result (after.faults ≡ before.faults)) is c.next_request.ensures.counts.quiet)
 
 pub returns-in_default-clause-keeps : goal.returns-in_default-clause-keeps
 returns-in_default-clause-keeps g c = c.loop.invariant.keeps
@@ -50,7 +50,7 @@ returns-in_default-2-clause-served g c =
     (subst (λ (result : Result (Option Heard) Failed). HearsNext before.stream after.stream c.loop.room c.next_request.new.room result) c.in_default.is
     c.next_request.ensures.hears)
     c.next_request.ensures.held
-    (subst (λ (result : Result (Option Heard) Failed). OnErr result (Rose before.faults after.faults)) c.in_default.is c.next_request.ensures.cause.failed)
+    (subst (λ (result : Result (Option Heard) Failed). OnErr result (Rose before.faults after.faults)) c.in_default.is c.next_request.ensures.counts.failed)
 
 pub returns-in_default-2-clause-keeps : goal.returns-in_default-2-clause-keeps
 returns-in_default-2-clause-keeps g c = c.loop.invariant.keeps
@@ -72,7 +72,7 @@ returns-then-is_err-clause-served g c =
     let is : c.next_request.result ≡ Ok (Some heard) = cc in
     let hears = subst (λ (result : Result (Option Heard) Failed). HearsNext before.stream heard_on.stream c.loop.room c.next_request.new.room result) is
     c.next_request.ensures.hears in
-    let quiet = subst (λ (result : Result (Option Heard) Failed). OnOk result (heard_on.faults ≡ before.faults)) is c.next_request.ensures.quiet in
+    let quiet = subst (λ (result : Result (Option Heard) Failed). OnOk result (heard_on.faults ≡ before.faults)) is c.next_request.ensures.counts.quiet in
     let zero : heard_on.faults ≡ 0 = quiet ∙ c.loop.invariant.stands.no_fault in
     let met = meets {F = Failed} follow laws give limit before heard_on after c.loop.room c.next_request.new.room old middle new c.loop.counter heard c.exchange.result
     c.loop.invariant.stands hears c.next_request.ensures.held one c.exchange.ensures.stream in
@@ -82,18 +82,18 @@ returns-then-is_err-clause-served g c =
           (let failed : is_err c.exchange.result ≡ true = sym c.is_err.ensures.value ∙ w.if-is_err.true in
           let part = put_to_prefix c.exchange.result heard_on.held after.held one.exchange failed one.put in
           cut_off follow give limit after left old new c.loop.counter heard_on.held one.exchange part.0 met c.loop-test.true part.1
-          (has_failed heard_on.faults after.faults zero (if_failed {P = Rose heard_on.faults after.faults} c.exchange.result failed c.exchange.ensures.cause.failed)))
+          (has_failed heard_on.faults after.faults zero (if_failed {P = Rose heard_on.faults after.faults} c.exchange.result failed c.exchange.ensures.counts.failed)))
       | then-is_err-via-else-is_err+then-last w ↦
           (let fine : is_err c.exchange.result ≡ false = sym c.is_err.ensures.value ∙ w.if-is_err.false in
           ends follow give limit after left old new c.loop.counter heard_on.held one.exchange met c.loop-test.true
           (put_whole c.exchange.result heard_on.held after.held one.exchange fine one.put)
-          (if_fine {P = after.faults ≡ heard_on.faults} c.exchange.result fine c.exchange.ensures.quiet ∙ zero)
+          (if_fine {P = after.faults ≡ heard_on.faults} c.exchange.result fine c.exchange.ensures.counts.quiet ∙ zero)
           (inl (ap ends_after one.heard_is ∙ sym c.ends_after-last.ensures.last ∙ w.if-last.true)))
       | then-is_err-via-else-is_err+else-last+then-stopped w ↦
           (let fine : is_err c.exchange.result ≡ false = sym c.is_err.ensures.value ∙ w.if-is_err.false in
           ends follow give limit after left old new c.loop.counter heard_on.held one.exchange met c.loop-test.true
           (put_whole c.exchange.result heard_on.held after.held one.exchange fine one.put)
-          (if_fine {P = after.faults ≡ heard_on.faults} c.exchange.result fine c.exchange.ensures.quiet ∙ zero)
+          (if_fine {P = after.faults ≡ heard_on.faults} c.exchange.result fine c.exchange.ensures.counts.quiet ∙ zero)
           (inr (sym w.stopped.ensures.stopped ∙ w.if-stopped.true)))
     ]
 
@@ -118,7 +118,7 @@ loop-preserved g c =
     let is : c.next_request.result ≡ Ok (Some heard) = cc in
     let hears = subst (λ (result : Result (Option Heard) Failed). HearsNext before.stream heard_on.stream c.loop.room c.next_request.new.room result) is
     c.next_request.ensures.hears in
-    let quiet = subst (λ (result : Result (Option Heard) Failed). OnOk result (heard_on.faults ≡ before.faults)) is c.next_request.ensures.quiet in
+    let quiet = subst (λ (result : Result (Option Heard) Failed). OnOk result (heard_on.faults ≡ before.faults)) is c.next_request.ensures.counts.quiet in
     let met = meets {F = Failed} follow laws give limit before heard_on after c.loop.room c.next_request.new.room old middle new c.loop.counter heard c.exchange.result
     c.loop.invariant.stands hears c.next_request.ensures.held one c.exchange.ensures.stream in
     let fine : is_err c.exchange.result ≡ false = sym c.is_err.ensures.value ∙ c.if-is_err.false in
@@ -126,7 +126,7 @@ loop-preserved g c =
       stands = subst (λ (room : List ℕ). IsOpen follow give limit after room old new (c.loop.counter + 1)) (sym c.exchange.ensures.in_hand)
           (stays_open follow give limit after (drop (size_of heard) c.next_request.new.room) old new c.loop.counter heard_on.held one.exchange met
           (put_whole c.exchange.result heard_on.held after.held one.exchange fine one.put)
-          (if_fine {P = after.faults ≡ heard_on.faults} c.exchange.result fine c.exchange.ensures.quiet ∙ quiet ∙ c.loop.invariant.stands.no_fault)
+          (if_fine {P = after.faults ≡ heard_on.faults} c.exchange.result fine c.exchange.ensures.counts.quiet ∙ quiet ∙ c.loop.invariant.stands.no_fault)
           (ap ends_after one.heard_is ∙ sym c.ends_after-last.ensures.last ∙ c.if-last.false)
           (sym c.stopped.ensures.stopped ∙ c.if-stopped.false));
       keeps = c.access_laws.ensures.keeps_on c.args.access.now c.loop.access c.exchange.new.access c.loop.invariant.keeps c.exchange.ensures.keeps;

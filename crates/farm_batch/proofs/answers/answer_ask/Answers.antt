@@ -10,7 +10,7 @@ use Rattle.farm_batch.proofs.Pages.{acknowledged_by, answer_meets, counted_by}
 use Rattle.farm_batch.proofs.answers.answer_ask.Goals.{then-is_stop, else-is_stop}
 use Rattle.farm_batch.proofs.answers.answer_ask.Goals as goal
 
--- of a Stop the answer ends the batch where it was entered
+-- the answer to a Stop ends the batch if the Stop was entered
 both_of_true : (stop grown result : Bool) → stop ≡ true → result ≡ grown → result ≡ (stop && grown)
 both_of_true true grown result is same = same
 both_of_true false grown result is same = cc
@@ -45,7 +45,7 @@ pub returns-clause-counted : goal.returns-clause-counted
 returns-clause-counted g c = rw c.meant_by.ensures.page (counted_by c.ask-answer.result _ _ c.ask-answer.ensures.failed c.ask-answer.ensures.not_failed)
 
 pub returns-clause-disk_counted : goal.returns-clause-disk_counted
-returns-clause-disk_counted g c = rw c.meant_by.ensures.page (counted_by c.ask-answer.result _ _ c.ask-answer.ensures.once c.ask-answer.ensures.quiet)
+returns-clause-disk_counted g c = rw c.meant_by.ensures.page (counted_by c.ask-answer.result _ _ c.ask-answer.ensures.counts.once c.ask-answer.ensures.counts.quiet)
 
 pub returns-clause-acknowledged : goal.returns-clause-acknowledged
 returns-clause-acknowledged g c = rw c.meant_by.ensures.page (acknowledged_by _ _ _ _ c.ask-answer.result c.ask-answer.ensures.answered)

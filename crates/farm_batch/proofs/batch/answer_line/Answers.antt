@@ -35,4 +35,4 @@ returns-in-Err-clause-answers g c = λ bytes kept_is.
     let meets = said.meant bytes kept_is in
     let puts = c.in-Err.ensures.puts in
     let given = subst (λ (now : ℤ). g.C.Clock.may_give c.args.clock.now now) (sym (to_z-of_z w64 c.now.result (search rules))) c.now.ensures.given in
-    fails _ _ _ _ _ bytes _ given said.keeps.surer (said.untouched bytes kept_is) _ _ _ c.answer-meant.result.page c.answer-meant.result.stops meets said.counted said.disk_counted said.acknowledged puts.0 puts.1 puts.2 puts.3 c.in-Err.ensures.cause.failed
+    fails _ _ _ _ _ bytes _ given said.keeps.surer (said.untouched bytes kept_is) _ _ _ c.answer-meant.result.page c.answer-meant.result.stops meets said.counted said.disk_counted said.acknowledged puts.0 puts.1 puts.2 puts.3 c.in-Err.ensures.counts.failed

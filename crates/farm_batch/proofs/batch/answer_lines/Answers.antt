@@ -19,23 +19,23 @@ returns-in-Some-clause-batch g c =
       | in-Line w ↦
           let reads = w.in-Line.ensures.reads in
           let answers = w.answer_line-end.ensures.answers reads.line (w.line.ensures.line ∙ reads.held) in
-          let source_quiet = w.in-Line.ensures.quiet (λ same. cc) ∙ so_far.source_quiet in
+          let source_quiet = w.in-Line.ensures.counts.quiet (λ same. cc) ∙ so_far.source_quiet in
           let ended : w.answer_line-end.result ≡ Some c.in-Some.end = sym w.end-is ∙ c.in-Some.is in
           rw (w.desk-is, w.output-is) (ends_at_line c.in-Some.end so_far few reads (rw ended at answers)
-          (λ other. (source_quiet, w.answer_line-end.ensures.quiet (λ failed. other (cc)) ∙ so_far.sink_quiet)))
+          (λ other. (source_quiet, w.answer_line-end.ensures.counts.quiet (λ failed. other (cc)) ∙ so_far.sink_quiet)))
       | in-Last w ↦
           let reads = w.in-Last.ensures.reads in
           let answers = w.answer_line.ensures.answers reads.line (w.line-in-Last.ensures.line ∙ reads.held) in
-          let source_quiet = w.in-Last.ensures.quiet (λ same. cc) ∙ so_far.source_quiet in
+          let source_quiet = w.in-Last.ensures.counts.quiet (λ same. cc) ∙ so_far.source_quiet in
           let ended = sym w.or-end.ensures ∙ sym w.end-is ∙ c.in-Some.is in
           rw (w.desk-is, w.output-is) (ends_at_last w.answer_line.result c.in-Some.end so_far few reads answers ended
-          (λ other. (source_quiet, w.answer_line.ensures.quiet (λ failed. other (or_failed w.answer_line.result c.in-Some.end ended failed)) ∙ so_far.sink_quiet)))
+          (λ other. (source_quiet, w.answer_line.ensures.counts.quiet (λ failed. other (or_failed w.answer_line.result c.in-Some.end ended failed)) ∙ so_far.sink_quiet)))
       | in-End w ↦
-          let source_quiet = w.in-End.ensures.quiet (λ same. cc) ∙ so_far.source_quiet in
+          let source_quiet = w.in-End.ensures.counts.quiet (λ same. cc) ∙ so_far.source_quiet in
           let done : c.in-Some.end ≡ Done = cc in
           rw (w.desk-is, w.output-is, done) (ends_at_end so_far few w.in-End.ensures.reads source_quiet so_far.sink_quiet)
       | in-Long w ↦
-          let source_quiet = w.in-Long.ensures.quiet (λ same. cc) ∙ so_far.source_quiet in
+          let source_quiet = w.in-Long.ensures.counts.quiet (λ same. cc) ∙ so_far.source_quiet in
           let long : c.in-Some.end ≡ Long c.loop-number.number = cc in
           rw (w.desk-is, w.output-is, long) (ends_too_long so_far few w.in-Long.ensures.reads source_quiet so_far.sink_quiet)
       | in-Failed w ↦
@@ -52,9 +52,9 @@ loop-number-preserved g c =
       | in-Line w ↦
           let reads = w.in-Line.ensures.reads in
           let answers = w.answer_line-end.ensures.answers reads.line (w.line.ensures.line ∙ reads.held) in
-          let source_quiet = w.in-Line.ensures.quiet (λ same. cc) ∙ so_far.source_quiet in
+          let source_quiet = w.in-Line.ensures.counts.quiet (λ same. cc) ∙ so_far.source_quiet in
           let ended : w.answer_line-end.result ≡ None = sym w.end-is ∙ c.in_default.is in
-          let sink_quiet = w.answer_line-end.ensures.quiet (λ failed. cc) ∙ so_far.sink_quiet in
+          let sink_quiet = w.answer_line-end.ensures.counts.quiet (λ failed. cc) ∙ so_far.sink_quiet in
           rw (w.desk-is, w.output-is) (
             goes_on so_far reads (rw ended at answers) source_quiet sink_quiet,
             keeps_more _ _ _ _ _ _ _ c.loop-number.invariant.1 w.answer_line-end.ensures.keeps,
@@ -73,12 +73,12 @@ returns-clause-batch g c =
       | in-Ok-true w ↦
           let is : c.has_more.result ≡ Ok true = w.in-Ok-true.is ∙ ap Ok w.in-Ok-true.field-0-test in
           let looks = rw is at c.has_more.ensures.looks in
-          let source_quiet = rw is at c.has_more.ensures.quiet in
+          let source_quiet = rw is at c.has_more.ensures.counts.quiet in
           rw (w.result-is) (ends_too_many so_far all looks.0 looks.1 looks.2 (source_quiet ∙ so_far.source_quiet) so_far.sink_quiet)
       | in-Ok-false w ↦
           let is : c.has_more.result ≡ Ok false = w.in-Ok-false.is ∙ ap Ok w.in-Ok-false.field-0-test in
           let looks = rw is at c.has_more.ensures.looks in
-          let source_quiet = rw is at c.has_more.ensures.quiet in
+          let source_quiet = rw is at c.has_more.ensures.counts.quiet in
           rw (w.result-is) (ends_at_most so_far all looks.0 looks.1 looks.2 (source_quiet ∙ so_far.source_quiet) so_far.sink_quiet)
       | in-Err w ↦
           let fails = w.in-Err.ensures.looks in
@@ -101,8 +101,8 @@ pub returns-in-Some-clause-output_never_falls : goal.returns-in-Some-clause-outp
 returns-in-Some-clause-output_never_falls g c =
     let quiet = c.loop-number.invariant.0.sink_quiet in
     elim c.match-read.branch [
-      | in-Line w ↦ rw w.output-is (omega (arith, quiet, w.answer_line-end.ensures.never_falls))
-      | in-Last w ↦ rw w.output-is (omega (arith, quiet, w.answer_line.ensures.never_falls))
+      | in-Line w ↦ rw w.output-is (omega (arith, quiet, w.answer_line-end.ensures.counts.never_falls))
+      | in-Last w ↦ rw w.output-is (omega (arith, quiet, w.answer_line.ensures.counts.never_falls))
       | in-End w ↦ rw w.output-is (omega (arith, quiet))
       | in-Long w ↦ rw w.output-is (omega (arith, quiet))
       | in-Failed w ↦ rw w.output-is (omega (arith, quiet))

@@ -6,19 +6,19 @@ use Rattle.farm_csv.specs.Blanks.{drop_blanks}
 use Rattle.farm_csv.proofs.Ends.{start_blank, start_other}
 use Rattle.farm_csv.proofs.blanks.blanks_at_start.Goals as goal
 
-pub bytes-preserved : goal.bytes-preserved
-bytes-preserved c =
-    let blank : is_blank (get_or c.args.text.now c.bytes.index 0) ≡ true = search rules in
-    sym (start_blank c.args.text.now c.bytes.index c.bytes-test.true blank) ∙ c.bytes.invariant
+pub loop-index-preserved : goal.loop-index-preserved
+loop-index-preserved c =
+    let blank : is_blank (get_or c.args.text.now c.loop-index.index 0) ≡ true = search rules in
+    sym (start_blank c.args.text.now c.loop-index.index c.loop-index-test.true blank) ∙ c.loop-index.invariant
 
 pub returns-then-not-is_blank-clause-rest : goal.returns-then-not-is_blank-clause-rest
 returns-then-not-is_blank-clause-rest c =
-    let other : is_blank (get_or c.args.text.now c.bytes.index 0) ≡ false = search rules in
-    sym (start_other c.args.text.now c.bytes.index c.bytes-test.true other) ∙ c.bytes.invariant
+    let other : is_blank (get_or c.args.text.now c.loop-index.index 0) ≡ false = search rules in
+    sym (start_other c.args.text.now c.loop-index.index c.loop-index-test.true other) ∙ c.loop-index.invariant
 
 pub returns-clause-rest : goal.returns-clause-rest
 unfolding drop_blanks
 returns-clause-rest c =
-    let all = drop_all c.bytes.index c.args.text.now c.bytes-test.false in
+    let all = drop_all c.loop-index.index c.args.text.now c.loop-index-test.false in
     let none = drop_all (length c.args.text.now) c.args.text.now (omega arith) in
-    rw none (rw all at c.bytes.invariant)
+    rw none (rw all at c.loop-index.invariant)

@@ -1,4 +1,4 @@
--- The bytes that are read stand for both histories.
+-- The bytes that are read encode both histories.
 use Rattle.std.proofs.Common.{Some, subst}
 use Rattle.farm_disk.specs.Memory.{states_of}
 use Rattle.farm_disk.specs.Runs.{EachNow}

@@ -12,7 +12,7 @@ returns-clause-value c =
       ambient,
       ← c.in_ok-tank_at.ensures.value,
       ← c.in_ok-text_at.ensures.value,
-      ← c.in_ok-outage_of.ensures.value,
+      ← c.in_ok-is_outage.ensures.value,
       ← c.in_ok-few_at.ensures.value,
       ← c.in_ok-few_at-2.ensures.value,
       ← c.in_ok-few_at-3.ensures.value,

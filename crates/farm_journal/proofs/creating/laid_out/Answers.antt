@@ -10,7 +10,7 @@ returns-clause-rests g c =
 pub returns-clause-was_empty : goal.returns-clause-was_empty
 returns-clause-was_empty g c =
     was_empty (g.D.Disk.trace c.args.disk.now) (g.D.Disk.trace c.len.new.self) (g.D.Disk.trace c.lay_out.new.disk) c.in_ok-len.ensures.size.stays
-    (gives_none _ (g.D.Disk.trace c.len.new.self) _ c.in_ok-len.ensures.size c.if-branch-gt0.false) c.lay_out.ensures.extends
+    (gives_none _ (g.D.Disk.trace c.len.new.self) _ c.in_ok-len.ensures.size c.if-branch-gt0.false) c.lay_out.ensures.moves.extends
 
 pub returns-clause-crash_safe : goal.returns-clause-crash_safe
 returns-clause-crash_safe g c =

@@ -12,5 +12,5 @@ loop-done-preserved g c =
       within = omega (arith, rest_within, length-take (length c.args.text.now - c.loop-done.done) (drop c.loop-done.done c.args.text.now));
       added = adds_on _ _ _ c.args.text.now c.loop-done.done c.in_ok-done.field-0 c.loop-done.invariant.added put.bytes.added;
       stream = put.stream ∙ c.loop-done.invariant.stream;
-      quiet = put.quiet ∙ c.loop-done.invariant.quiet;
+      quiet = put.counts.quiet ∙ c.loop-done.invariant.quiet;
     }

@@ -13,7 +13,7 @@ use Rattle.farm_run.proofs.alone.table.Goals as goal
 pub returns-in-Ok-clause-table_run : goal.returns-in-Ok-clause-table_run
 returns-in-Ok-clause-table_run g c =
     let text = issued_text c.in-Ok.site.tanks in
-    run_answering 2 site_refused_text table_of (g.F.Folder.files c.read.new.folder) (Some (Ok text)) _ _ _ (c.in-Ok.ensures.keeps.quiet (λ same. cc))
+    run_answering 2 site_refused_text table_of (g.F.Folder.files c.read.new.folder) (Some (Ok text)) _ _ _ (c.in-Ok.ensures.counts.quiet (λ same. cc))
     (known_map (g.F.Folder.files c.read.new.folder) _ _ (λ files is. ap issued_of is) c.in-Ok.ensures.site)
     (elim c.issue.ensures.issues [
       | inl delivers ↦ answers_delivering 2 site_refused_text (Some (Ok text)) _ _ text (omega arith, omega arith) refl delivers
@@ -23,17 +23,17 @@ returns-in-Ok-clause-table_run g c =
 pub returns-in-Err-Bad-clause-table_run : goal.returns-in-Err-Bad-clause-table_run
 returns-in-Err-Bad-clause-table_run g c =
     let fault = c.in-Err-Bad.fault in
-    run_answering 2 site_refused_text table_of (g.F.Folder.files c.read.new.folder) (Some (Err fault)) _ _ _ (c.in-Err-Bad.ensures.keeps.quiet (λ same. let other = c.in-Err-Bad.field-0-is in cc))
+    run_answering 2 site_refused_text table_of (g.F.Folder.files c.read.new.folder) (Some (Err fault)) _ _ _ (c.in-Err-Bad.ensures.counts.quiet (λ same. let other = c.in-Err-Bad.field-0-is in cc))
     (known_map (g.F.Folder.files c.read.new.folder) _ _ (λ files is. ap issued_of is) (rw c.in-Err-Bad.field-0-is at c.in-Err-Bad.ensures.site))
     (answers_refusing 2 site_refused_text (Some (Err fault)) _ _ fault (omega arith, omega arith) refl
     (refused_by 2 (site_refused_text fault) _ _ (λ (text : Vec ℕ Global). text.items) c.site_refused_text.result (omega arith, omega arith) c.site_refused_text.ensures.line c.refuse.ensures.refuses))
 
 pub returns-in-Err-Folder-clause-table_run : goal.returns-in-Err-Folder-clause-table_run
 returns-in-Err-Folder-clause-table_run g c =
-    run_faulted 2 site_refused_text table_of _ _ _ _ (omega arith, omega arith) (c.in-Err-Folder.ensures.keeps.cause (ap Err c.in-Err-Folder.field-0-is)) c.report_fault.ensures.status c.report_fault.ensures.puts
+    run_faulted 2 site_refused_text table_of _ _ _ _ (omega arith, omega arith) (c.in-Err-Folder.ensures.counts.failed (ap Err c.in-Err-Folder.field-0-is)) c.report_fault.ensures.status c.report_fault.ensures.puts
 
 pub returns-in-Err-NoMemory-clause-table_run : goal.returns-in-Err-NoMemory-clause-table_run
-returns-in-Err-NoMemory-clause-table_run g c = run_lacking 2 site_refused_text table_of _ _ _ _ (omega arith, omega arith) (c.in-Err-NoMemory.ensures.keeps.quiet (λ same. let other = c.in-Err-NoMemory.field-0-is in cc)) c.report_no_memory.ensures.lacks_memory
+returns-in-Err-NoMemory-clause-table_run g c = run_lacking 2 site_refused_text table_of _ _ _ _ (omega arith, omega arith) (c.in-Err-NoMemory.ensures.counts.quiet (λ same. let other = c.in-Err-NoMemory.field-0-is in cc)) c.report_no_memory.ensures.lacks_memory
 
 pub returns-in-Ok-clause-missing_only : goal.returns-in-Ok-clause-missing_only
 returns-in-Ok-clause-missing_only g c = λ none six quiet. absurd (quiet (delivers_risen _ _ _ c.issue.ensures.issues six))

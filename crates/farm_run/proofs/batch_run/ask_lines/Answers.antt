@@ -1,5 +1,6 @@
 -- Answers to the open goals of `ask_lines`.
-use Rattle.std.proofs.Common.{◌≡◌, ap, false}
+use Rattle.std.proofs.Common.{◌≡◌, ap, false, sym, ◌∙◌}
+use Rattle.std.proofs.lemmas.Bool.{false≢true}
 use Rattle.farm_base.specs.Counts.{count_of}
 use Rattle.run_reports.specs.Disks.{IsLater}
 use Rattle.farm_run.proofs.BatchEnds.{batch_ended, on_err_all}
@@ -17,7 +18,7 @@ returns-clause-desk_batch g c =
     (λ steps left disk_counted acknowledged.
     leaves (λ boxed. g.D.Disk.trace boxed.disk.value) (λ boxed. g.D.Disk.moment boxed.disk.value) (λ boxed. g.D.Disk.faults boxed.disk.value)
     c.args.desk c.answer_lines-end.new.desk c.finish-disk.result.0 c.finish-disk.result.1 steps c.requires.new answers.keeps.opened left disk_counted acknowledged
-    settled finish.since finish.now finish.once finish.quiet)
+    settled finish.since finish.now finish.counts.once (λ none. finish.counts.quiet (λ yes. false≢true (sym none ∙ yes))))
     c.answer_lines-end.result _ _ _ _ _ _ _ answers.batch
     (on_err_all c.answer_lines-end.result _ _ _ _ answers.desk_kept answers.input_kept answers.output_kept (λ desk_kept input_kept output_kept. record {
       desk_kept = desk_kept;
@@ -38,5 +39,5 @@ returns-clause-disk_later g c =
     let asked : IsLater (g.D.Disk.trace before) (g.D.Disk.trace between) (g.D.Disk.moment before) (g.D.Disk.moment between) (count_of g.D.Disk.faults before between) =
     record { extends = keeps.extends; moment_on = keeps.moment_on; never_falls = keeps.never_falls } in
     let finished : IsLater (g.D.Disk.trace between) (g.D.Disk.trace after) (g.D.Disk.moment between) (g.D.Disk.moment after) (count_of g.D.Disk.faults between after) =
-    record { extends = finish.extends; moment_on = finish.moment; never_falls = finish.never_falls } in
+    record { extends = finish.moves.extends; moment_on = finish.moves.moment; never_falls = finish.counts.never_falls } in
     rw c.into_inner.ensures.disk (later_more _ _ _ _ _ _ _ _ _ asked finished)

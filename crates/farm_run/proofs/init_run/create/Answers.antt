@@ -14,4 +14,4 @@ pub returns-in-Err-create-clause-site_init : goal.returns-in-Err-create-clause-s
 returns-in-Err-create-clause-site_init g c =
     rw (c.into_inner-in-Err-create.ensures.disk, ← c.in-Ok.ensures.moved, ← c.in-Ok.ensures.output_kept)
     (not_made (described c.args.site) _ (λ boxed. g.D.Disk.trace boxed.disk.value) c.in-Ok.disk c.in-Err-create.disk _ c.in-Err-create.fault _ _ refl c.in-Err-create.ensures.refused
-    c.in-Err-create.ensures.cause c.in-Err-create.ensures.quiet c.in-Err-create.ensures.crash_safe c.report_create.ensures.reports)
+    c.in-Err-create.ensures.counts.failed c.in-Err-create.ensures.counts.quiet c.in-Err-create.ensures.crash_safe c.report_create.ensures.reports)

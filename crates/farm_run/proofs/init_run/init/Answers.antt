@@ -12,7 +12,7 @@ use Rattle.farm_run.proofs.init_run.init.Goals as goal
 pub returns-in-Err-Bad-clause-init_run : goal.returns-in-Err-Bad-clause-init_run
 returns-in-Err-Bad-clause-init_run g c =
     let fault = c.in-Err-Bad.fault in
-    let quiet = c.in-Err-Bad.ensures.keeps.quiet (λ same. let other = c.in-Err-Bad.field-0-is in cc) in
+    let quiet = c.in-Err-Bad.ensures.counts.quiet (λ same. let other = c.in-Err-Bad.field-0-is in cc) in
     inl (record {
       site = run_answering 2 site_refused_text site_answer_of (g.F.Folder.files c.read.new.folder) (Some (Err fault)) _ _ _ quiet
           (known_map (g.F.Folder.files c.read.new.folder) _ _ (λ files is. ap site_answer is) (rw c.in-Err-Bad.field-0-is at c.in-Err-Bad.ensures.site))
@@ -25,7 +25,7 @@ returns-in-Err-Bad-clause-init_run g c =
 
 pub returns-in-Err-NoMemory-clause-init_run : goal.returns-in-Err-NoMemory-clause-init_run
 returns-in-Err-NoMemory-clause-init_run g c =
-    let quiet = c.in-Err-NoMemory.ensures.keeps.quiet (λ same. let other = c.in-Err-NoMemory.field-0-is in cc) in
+    let quiet = c.in-Err-NoMemory.ensures.counts.quiet (λ same. let other = c.in-Err-NoMemory.field-0-is in cc) in
     inl (record {
       site = run_lacking 2 site_refused_text site_answer_of _ _ _ _ (omega arith, omega arith) quiet c.report_no_memory.ensures.lacks_memory;
       not_done = lacking_not_done _ _ c.report_no_memory.ensures.lacks_memory;

@@ -17,7 +17,7 @@ returns-in-Ok-recover-clause-report_run g c =
       found = c.in-Ok-recover.desk.history;
       recovers = said.recovered;
       wrote_nothing = said.wrote_nothing;
-      disk_quiet = said.quiet_recovered;
+      disk_quiet = said.counts.made;
       report =
           subst (λ (day : ℤ). PutsReport c.in-Ok-recover.desk.history day (output_of g.K.Port.held g.K.Port.faults c.on_heap.new.output c.report_desk.new.output)
           c.report_desk.result.status)
@@ -28,11 +28,11 @@ pub returns-in-Ok-recover-clause-disk_later : goal.returns-in-Ok-recover-clause-
 returns-in-Ok-recover-clause-disk_later g c =
     let said = c.in-Ok-recover.ensures in
     rw (c.report_desk.ensures.disk_kept, ← c.in-Ok.ensures.moved)
-    (record { extends = said.extends; moment_on = said.moment; never_falls = said.never_falls })
+    (record { extends = said.moves.extends; moment_on = said.moves.moment; never_falls = said.counts.never_falls })
 
 pub returns-in-Err-recover-clause-report_run : goal.returns-in-Err-recover-clause-report_run
 returns-in-Err-recover-clause-report_run g c =
     let said = c.in-Err-recover.ensures in
     rw (c.into_inner.ensures.disk, ← c.in-Ok.ensures.moved, ← c.in-Ok.ensures.output_kept)
-    (inl (not_recovered _ _ _ _ _ said.wrote_nothing c.in-Err-recover.fault c.laws.ensures.recovered_is_not_refused said.refused said.cause
-    said.quiet c.report_recover.ensures.reports))
+    (inl (not_recovered _ _ _ _ _ said.wrote_nothing c.in-Err-recover.fault c.laws.ensures.recovered_is_not_refused said.refused said.counts.failed
+    said.counts.quiet c.report_recover.ensures.reports))

@@ -30,7 +30,7 @@ returns-in-Some-clause-polled g c =
     (asks_once follow give limit c.now.result c.next.result (asks_of c.args.submitter.now (c.args.submitter.now.count + 1) c.in-Some.raw) c.ask.result
     old.access new.access c.next.ensures.asks c.now.ensures.given (search rules))
     c.next.ensures.counted
-    (record { added = turn.poll.added; never_falls = turn.never_falls; fault = turn.fault; quiet = turn.quiet })
+    (record { added = turn.poll.added; never_falls = turn.counts.never_falls; fault = turn.counts.failed; quiet = turn.counts.quiet })
 
 pub returns-in_default-clause-polled : goal.returns-in_default-clause-polled
 returns-in_default-clause-polled g c =
@@ -47,5 +47,5 @@ returns-in_default-clause-polled g c =
     subst (λ (found : Option (ℕ × Raw)). HasDueReading polled answer found) c.in_default.is c.due_reading.ensures.due in
     one_alone follow laws (g.C.Clock.may_give c.args.clock.now) g.A.DeskAccess.limit c.args.submitter.now old new turn.poll.calls answer turn.poll.poll
     (submits_nothing polled answer gauge its has) turn.position
-    (record { added = turn.poll.added; never_falls = turn.never_falls; fault = turn.fault; quiet = turn.quiet })
+    (record { added = turn.poll.added; never_falls = turn.counts.never_falls; fault = turn.counts.failed; quiet = turn.counts.quiet })
     refl

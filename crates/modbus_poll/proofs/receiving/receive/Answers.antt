@@ -20,5 +20,5 @@ loop-needed-preserved g c =
       within = omega (arith, few.fits, took.piece.within, length-take c.loop-needed.len c.loop-needed.buffer);
       so_far = has_come_more _ _ _ c.args.expect.now c.loop-needed.buffer c.receive_piece.new.buffer c.loop-needed.len c.in-Need.needed c.in_ok-len-in-Need.field-0
           c.loop-needed.invariant.so_far (sym c.in-Need.ensures.frame) took.piece;
-      quiet = took.quiet ∙ c.loop-needed.invariant.quiet;
+      quiet = took.counts.quiet ∙ c.loop-needed.invariant.quiet;
     }

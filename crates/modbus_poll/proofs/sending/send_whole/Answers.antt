@@ -12,5 +12,5 @@ loop-done-preserved g c =
     record {
       within = omega (arith, rest_within, length-take (length request - done) (drop done request), length-drop done request);
       so_far = has_sent_more _ _ _ request done c.in_ok-done.field-0 c.loop-done-test.true c.loop-done.invariant.so_far put.call;
-      quiet = put.quiet ∙ c.loop-done.invariant.quiet;
+      quiet = put.counts.quiet ∙ c.loop-done.invariant.quiet;
     }

@@ -6,7 +6,7 @@ use Rattle.run_reports.proofs.reports.deliver.Goals as goal
 
 pub returns-in-Err-clause-delivers : goal.returns-in-Err-clause-delivers
 returns-in-Err-clause-delivers g c =
-    let both = says_after_fault _ _ _ _ _ _ (no_memory_line ∷ []) c.args.text.now port_fault_line c.in-Err.ensures.bytes c.in-Err.ensures.cause.failed c.report_fault.ensures.never_falls c.report_fault.ensures.puts in
+    let both = says_after_fault _ _ _ _ _ _ (no_memory_line ∷ []) c.args.text.now port_fault_line c.in-Err.ensures.bytes c.in-Err.ensures.counts.failed c.report_fault.ensures.never_falls c.report_fault.ensures.puts in
     let six = c.report_fault.ensures.status in
     record {
       statuses = inr six;

@@ -1,5 +1,6 @@
 -- Answers to the open goals of `end`.
-use Rattle.std.proofs.Common.{subst}
+use Rattle.std.proofs.Common.{subst, sym, ◌∙◌}
+use Rattle.std.proofs.lemmas.Bool.{false≢true}
 use Rattle.book_texts.specs.Summaries.{IsSummary, summary_text}
 use Rattle.farm_history.specs.History.{History}
 use Rattle.farm_history.specs.Verdicts.{IsLegal}
@@ -17,9 +18,9 @@ returns-clause-ended g c =
       settled = λ sure. (finish.untouched sure).1;
       since = finish.since;
       now = finish.now;
-      once = finish.once;
-      quiet = finish.quiet;
-      disk_later = record { extends = finish.extends; moment_on = finish.moment; never_falls = finish.never_falls };
+      once = finish.counts.once;
+      quiet = λ none. finish.counts.quiet (λ yes. false≢true (sym none ∙ yes));
+      disk_later = record { extends = finish.moves.extends; moment_on = finish.moves.moment; never_falls = finish.counts.never_falls };
       summary = subst (λ (h : History). IsSummary h (summary_text h)) history made.summary;
       reports = reports_made _ _ _ _ _ _ c.summary_of-text.result (rw (← history) made.text) c.report_summary.ensures.reports;
     })

@@ -17,7 +17,7 @@ returns-in-Ok-recover-clause-disk_later g c =
     let start = c.in-Ok.disk.disk.value in
     let recovered = c.in-Ok-recover.desk.disk.disk.value in
     let first : IsLater (g.D.Disk.trace start) (g.D.Disk.trace recovered) (g.D.Disk.moment start) (g.D.Disk.moment recovered) (count_of g.D.Disk.faults start recovered) =
-    record { extends = said.extends; moment_on = said.moment; never_falls = said.never_falls } in
+    record { extends = said.moves.extends; moment_on = said.moves.moment; never_falls = said.counts.never_falls } in
     rw (← c.in-Ok.ensures.moved) (handed_back _ _ _ (λ left later. later_more _ _ _ _ _ _ _ _ _ first later) c.serve_desk.ensures.disk_later)
 
 pub returns-in-Err-recover-clause-serve_run : goal.returns-in-Err-recover-clause-serve_run
@@ -25,7 +25,7 @@ returns-in-Err-recover-clause-serve_run g c =
     let said = c.in-Err-recover.ensures in
     rw (c.into_inner.ensures.disk, ← c.in-Ok.ensures.moved, ← c.in-Ok.ensures.output_kept)
     (inl (record {
-      nothing_recovered = not_recovered _ _ _ _ _ said.wrote_nothing c.in-Err-recover.fault c.laws.ensures.recovered_is_not_refused said.refused said.cause said.quiet
+      nothing_recovered = not_recovered _ _ _ _ _ said.wrote_nothing c.in-Err-recover.fault c.laws.ensures.recovered_is_not_refused said.refused said.counts.failed said.counts.quiet
           c.report_recover.ensures.reports;
       desks_kept = refl;
       links_kept = refl;

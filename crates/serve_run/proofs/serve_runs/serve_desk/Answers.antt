@@ -1,5 +1,6 @@
 -- Answers to the open goals of `serve_desk`.
-use Rattle.std.proofs.Common.{◌∙◌, inl, inr, List, length, min, ap, subst, arith}
+use Rattle.std.proofs.Common.{◌∙◌, inl, inr, List, length, min, ap, subst, arith, sym}
+use Rattle.std.proofs.lemmas.Bool.{false≢true}
 use Rattle.farm_history.specs.History.{History}
 use Rattle.gauge_maps.specs.declared.map.LineMap.{LineMap}
 use Rattle.run_reports.proofs.DisksLeft.{handed_back}
@@ -18,7 +19,7 @@ returns-in-Ok-clause-served g c =
     g.M.Link.faults (g.C.Clock.may_give c.args.clock.now) c.args.port c.args.workers c.args.rounds c.args.desk c.in-Ok.desk c.args.desks.now c.serve.new.desks
     c.args.links.now c.serve.new.lines left _ _ c.min-posts.result c.min-lines.result c.requires.just_made c.in-Ok.ensures.served c.in-Ok.ensures.durable
     (subst (λ failed. EndsDesk g.D.Disk.trace g.D.Disk.moment g.D.Disk.faults c.in-Ok.desk failed left
-    (output_of g.K.Port.held g.K.Port.faults c.args.output.now c.end.new.output) c.end.result.status) c.any_failed.ensures ends)
+    (output_of g.K.Port.held g.K.Port.faults c.args.output.now c.end.new.output) c.end.result.status) c.any_failed.ensures.failed ends)
     c.min-posts.ensures lines_is c.serve.auto.desks c.serve.auto.lines c.end.ensures.legal)) c.end.ensures.ended
 
 pub returns-in-Ok-clause-disk_later : goal.returns-in-Ok-clause-disk_later
@@ -27,7 +28,7 @@ returns-in-Ok-clause-disk_later g c =
     g.M.Link.faults (g.C.Clock.may_give c.args.clock.now) c.args.port c.args.workers c.args.rounds c.args.desk c.in-Ok.desk c.args.desks.now c.serve.new.desks
     c.args.links.now c.serve.new.lines left _ _ c.min-posts.result c.min-lines.result c.requires.just_made c.in-Ok.ensures.served c.in-Ok.ensures.durable
     (subst (λ failed. EndsDesk g.D.Disk.trace g.D.Disk.moment g.D.Disk.faults c.in-Ok.desk failed left
-    (output_of g.K.Port.held g.K.Port.faults c.args.output.now c.end.new.output) c.end.result.status) c.any_failed.ensures ends)
+    (output_of g.K.Port.held g.K.Port.faults c.args.output.now c.end.new.output) c.end.result.status) c.any_failed.ensures.failed ends)
     (omega (arith, c.faults_fit.ensures.fits, c.requires.just_made.faults_is))) c.end.ensures.ended
 
 pub returns-in-Err-clause-served : goal.returns-in-Err-clause-served
@@ -37,4 +38,4 @@ returns-in-Err-clause-served g c =
     (inl (no_post g.D.Disk.trace g.D.Disk.moment g.D.Disk.faults c.args.desk c.in-Err.desk c.finish.result.0.disk.value c.finish.result.1 _ _ _ _ _ _
     c.requires.just_made c.in-Err.ensures.refused (outsides_after c.min-posts.result c.args.desks.now c.serve.new.desks c.in-Err.ensures.desks_kept)
     (outsides_after c.min-lines.result c.args.links.now c.serve.new.lines c.in-Err.ensures.lines_kept) c.report_no_memory.ensures.lacks_memory
-    (λ sure. (finish.untouched sure).1) finish.since finish.now finish.once finish.quiet))
+    (λ sure. (finish.untouched sure).1) finish.since finish.now finish.counts.once (λ none. finish.counts.quiet (λ yes. false≢true (sym none ∙ yes)))))

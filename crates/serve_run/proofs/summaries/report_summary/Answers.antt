@@ -14,7 +14,7 @@ returns-then-doubt-clause-reports g c =
     let said = c.report_disk_fault.ensures in
     rw (c.in-Ok.is, ← c.deref.ensures.value)
     (reports_doubt _ _ _ _ _ c.if-doubt.true said.status
-    (says_after _ _ _ _ _ _ _ _ (puts_from_put _ _ _ _ _ c.put_all-put.result put.bytes put.cause) said.puts put.cause.never_falls said.never_falls))
+    (says_after _ _ _ _ _ _ _ _ (puts_from_put _ _ _ _ _ c.put_all-put.result put.bytes put.counts) said.puts put.counts.never_falls said.never_falls))
 
 pub returns-then-is_err-clause-reports : goal.returns-then-is_err-clause-reports
 returns-then-is_err-clause-reports g c =
@@ -27,8 +27,8 @@ returns-then-is_err-clause-reports g c =
       | then-listener_failed w ↦ inl w.if-listener_failed.true
       | else-listener_failed w ↦
           (let failed : is_err c.put_all-put.result ≡ true = sym w.is_err.ensures.value ∙ sym w.value-is ∙ c.if-is_err.true in
-          inr (rose_later before between now (if_failed {P = Rose before between} c.put_all-put.result failed put.cause.failed) said.never_falls))
+          inr (rose_later before between now (if_failed {P = Rose before between} c.put_all-put.result failed put.counts.failed) said.never_falls))
     ] in
     rw (c.in-Ok.is, ← c.deref.ensures.value)
     (reports_fault _ _ _ _ _ c.if-doubt.false cause said.status
-    (says_after _ _ _ _ _ _ _ _ (puts_from_put _ _ _ _ _ c.put_all-put.result put.bytes put.cause) said.puts put.cause.never_falls said.never_falls))
+    (says_after _ _ _ _ _ _ _ _ (puts_from_put _ _ _ _ _ c.put_all-put.result put.bytes put.counts) said.puts put.counts.never_falls said.never_falls))

@@ -5,6 +5,7 @@ use Rattle.farm_base.specs.Steps.{◌>>=◌}
 use Rattle.site_keys.specs.declared.fault.SiteReadFault.TheVariants.{Folder}
 use Rattle.site_keys.specs.Faults.{Faulty, IsMissing, Missing, Refusal, found, refusal_of}
 use Rattle.site_keys.specs.Files.{content, toml_of}
+use Rattle.site_keys.specs.Keys.{keys_of}
 use Rattle.site_keys.proofs.Steps.{found_in_folder, refused_first}
 use Rattle.site_file.specs.Files.{top_of_files}
 use Rattle.site_file.proofs.reading.top_of.Goals as goal
@@ -34,4 +35,4 @@ pub returns-clause-top : goal.returns-clause-top
 unfolding top_of_files
 returns-clause-top g c = λ files known.
     let read : content files 0 (codes "site.toml") ≡ Ok c.in_ok-bytes.bytes.items = c.in_ok-bytes.ensures.content files known in
-    rw (read, ← c.deref.ensures.value) (found_in_folder c.toml_of.result view (toml_of 0 c.deref.result.now) c.toml_of.ensures.table)
+    rw (read, ← c.deref.ensures.value) (found_in_folder c.toml_of.result (λ table. keys_of 0 (view table)) (toml_of 0 c.deref.result.now) c.toml_of.ensures.table)

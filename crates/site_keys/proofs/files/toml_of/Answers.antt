@@ -7,13 +7,14 @@ use Rattle.toml.specs.Parse.{parse_document}
 use Rattle.site_keys.specs.declared.codes.TheConstants.{TEXT}
 use Rattle.site_keys.specs.Faults.{bad}
 use Rattle.site_keys.specs.Files.{toml_of}
+use Rattle.site_keys.specs.Keys.{keys_of}
 use Rattle.site_keys.proofs.files.toml_of.Goals as goal
 
 pub returns-in-Ok-clause-table : goal.returns-in-Ok-clause-table
 unfolding toml_of
 returns-in-Ok-clause-table c =
     let text : is_utf8 c.args.bytes.now ≡ true = is_utf8-from_IsUtf8 c.args.bytes.now c.in-Ok.ensures.ok.0 in
-    rw (text, c.in-Ok.ensures.ok.1) (ap Ok (sym (view-Table c.in-Ok.table)))
+    rw (text, c.in-Ok.ensures.ok.1) (ap (λ table. Ok (keys_of c.args.item table)) (sym (view-Table c.in-Ok.table)))
 
 -- a text that no document is, or that isn't UTF-8
 no_document : (item : ℕ) (bytes : List ℕ) (text : Bool) → is_utf8 bytes ≡ text → (IsUtf8 bytes → parse_document bytes ≡ None) → toml_of item bytes ≡ bad TEXT item 0

@@ -19,11 +19,11 @@ loop-index-preserved g c =
             c.in_ok-put_by_number.ensures.placed,
             numbered_more product_number (product_of files) earlier
                 c.args.tables.now c.loop-index.index c.index-tables-index.result product (omega arith) c.index-tables-index.is here,
-          ) (c.loop-index.invariant.read files (known_before (g.F.Folder.files c.loop-index.folder) (g.F.Folder.files c.product_of.new.folder) files c.in_ok-product.ensures.keeps.stays known));
+          ) (c.loop-index.invariant.read files (known_before (g.F.Folder.files c.loop-index.folder) (g.F.Folder.files c.product_of.new.folder) files c.in_ok-product.ensures.files known));
       stays = stays_then (g.F.Folder.files c.args.folder.now) (g.F.Folder.files c.loop-index.folder) (g.F.Folder.files c.product_of.new.folder)
-          c.loop-index.invariant.stays c.in_ok-product.ensures.keeps.stays;
+          c.loop-index.invariant.stays c.in_ok-product.ensures.files;
       unlisted = λ none. c.in_ok-product.ensures.lists (c.loop-index.invariant.unlisted none);
-      quiet = omega (arith, c.loop-index.invariant.quiet, c.in_ok-product.ensures.keeps.quiet (λ is. cc));
+      quiet = omega (arith, c.loop-index.invariant.quiet, c.in_ok-product.ensures.counts.quiet (λ is. cc));
       count = rw (c.in_ok-put_by_number.ensures.placed, placed_length product_number product earlier, c.loop-index.invariant.count) refl;
       sound = rw c.in_ok-put_by_number.ensures.placed (placed_numbered product_number is_product product earlier
           c.loop-index.invariant.sound c.in_ok-product.ensures.sound fresh);

@@ -20,11 +20,11 @@ loop-index-preserved g c =
             c.in_ok-put_by_number.ensures.placed,
             numbered_more tank_number (tank_of files c.args.format c.args.rounding.now (map product_number c.args.products.now)) earlier
                 c.args.tables.now c.loop-index.index c.index-tables-index.result tank (omega arith) c.index-tables-index.is here,
-          ) (c.loop-index.invariant.read files (known_before (g.F.Folder.files c.loop-index.folder) (g.F.Folder.files c.tank_of.new.folder) files c.in_ok-tank.ensures.keeps.stays known));
+          ) (c.loop-index.invariant.read files (known_before (g.F.Folder.files c.loop-index.folder) (g.F.Folder.files c.tank_of.new.folder) files c.in_ok-tank.ensures.files known));
       stays = stays_then (g.F.Folder.files c.args.folder.now) (g.F.Folder.files c.loop-index.folder) (g.F.Folder.files c.tank_of.new.folder)
-          c.loop-index.invariant.stays c.in_ok-tank.ensures.keeps.stays;
+          c.loop-index.invariant.stays c.in_ok-tank.ensures.files;
       unlisted = λ none. c.in_ok-tank.ensures.lists (c.loop-index.invariant.unlisted none);
-      quiet = omega (arith, c.loop-index.invariant.quiet, c.in_ok-tank.ensures.keeps.quiet (λ is. cc));
+      quiet = omega (arith, c.loop-index.invariant.quiet, c.in_ok-tank.ensures.counts.quiet (λ is. cc));
       count = rw (c.in_ok-put_by_number.ensures.placed, placed_length tank_number tank earlier, c.loop-index.invariant.count) refl;
       sound = rw c.in_ok-put_by_number.ensures.placed (placed_numbered tank_number (is_tank (map product_number c.args.products.now)) tank earlier
           c.loop-index.invariant.sound c.in_ok-tank.ensures.sound fresh);

@@ -2,7 +2,7 @@
 use Rattle.std.proofs.Common.{◌≡◌, ◌+◌, ◌≤◌, length, take, drop, ◌-◌, ◌++◌, sym, arith, ap, ◌∙◌, length-append}
 use Rattle.std.proofs.lemmas.List.{length-take-le}
 use Rattle.batch_lines.proofs.reader.LineReader.keep.Goals as goal
-use Rattle.batch_lines.proofs.reader.LineReader.keep.Goals.{then-self-le-LONGEST_LINE, else-self-le-LONGEST_LINE}
+use Rattle.batch_lines.proofs.reader.LineReader.keep.Goals.{then-self-le-MOST_REQUEST_LINE_BYTES, else-self-le-MOST_REQUEST_LINE_BYTES}
 use Rattle.batch_lines.proofs.Pieces.{in_hand_after, front_again}
 use Rattle.batch_lines.proofs.Kept.{dropped_on, kept_written}
 
@@ -10,9 +10,9 @@ pub returns-clause-in_hand : goal.returns-clause-in_hand
 returns-clause-in_hand c =
     let within = rw (← c.self.view_is) at c.requires.in_hand in
     let cut = in_hand_after c.self.inside.piece.items c.self.inside.start c.self.inside.end c.args.count within in
-    elim c.if-self-le-LONGEST_LINE.branch [
-      | then-self-le-LONGEST_LINE w ↦ rw (w.self-inside-is, ← c.self.view_is) cut
-      | else-self-le-LONGEST_LINE w ↦ rw (w.self-inside-is, ← c.self.view_is) cut
+    elim c.if-self-le-MOST_REQUEST_LINE_BYTES.branch [
+      | then-self-le-MOST_REQUEST_LINE_BYTES w ↦ rw (w.self-inside-is, ← c.self.view_is) cut
+      | else-self-le-MOST_REQUEST_LINE_BYTES w ↦ rw (w.self-inside-is, ← c.self.view_is) cut
     ]
 
 pub returns-clause-extends : goal.returns-clause-extends
@@ -27,9 +27,9 @@ returns-clause-extends c line holds =
     let line_is = rw (← c.self.view_is) at holds.line_is in
     let count_is : count ≡ length text = sym (length-take-le count _ within) in
     let length_is : before + count ≡ length (line ++ text) = omega (arith, length-append line text) in
-    elim c.if-self-le-LONGEST_LINE.branch [
-      | then-self-le-LONGEST_LINE w ↦
-          let short = w.if-self-le-LONGEST_LINE.true in
+    elim c.if-self-le-MOST_REQUEST_LINE_BYTES.branch [
+      | then-self-le-MOST_REQUEST_LINE_BYTES w ↦
+          let short = w.if-self-le-MOST_REQUEST_LINE_BYTES.true in
           let invariant = c.self.invariant in
           let buffer_is : w.deref_mut.result.now ≡ buffer = w.deref_mut.ensures.value in
           let len_is = w.deref_mut.ensures.len in
@@ -41,8 +41,8 @@ returns-clause-extends c line holds =
           let room : before + count ≤ length buffer = omega arith in
           let shown_is = kept_written c.self.inside.line line text before count before_is count_is len room short line_is in
           rw (w.self-inside-is, ← c.self.view_is, buffer_is, copied) (record { line_is = shown_is; length_is = length_is })
-      | else-self-le-LONGEST_LINE w ↦ rw (w.self-inside-is, ← c.self.view_is) (record {
-        line_is = dropped_on buffer line text before count before_is count_is w.if-self-le-LONGEST_LINE.false;
+      | else-self-le-MOST_REQUEST_LINE_BYTES w ↦ rw (w.self-inside-is, ← c.self.view_is) (record {
+        line_is = dropped_on buffer line text before count before_is count_is w.if-self-le-MOST_REQUEST_LINE_BYTES.false;
         length_is = length_is;
       })
     ]

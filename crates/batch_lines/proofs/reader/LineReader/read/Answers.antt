@@ -44,7 +44,7 @@ loop-moved-preserved g c =
     rw all at c.loop-moved.invariant.comes in
     record {
       comes = cut_comes _ _ _ _ _ _ (stands_refilled _ _ _ _ _ _ on.stands on.empty refilled.taken refilled.held refilled.passed) c.cut-moved-in-Ok.ensures.moves;
-      quiet = refilled.quiet ∙ c.loop-moved.invariant.quiet;
+      quiet = refilled.counts.quiet ∙ c.loop-moved.invariant.quiet;
     }
 
 pub returns-in-Err-clause-reads : goal.returns-in-Err-clause-reads
@@ -54,4 +54,4 @@ returns-in-Err-clause-reads g c =
     let on : GoesOn c.args.self.now c.loop-moved.self (g.S.Port.stream c.args.input.now) (g.S.Port.stream c.loop-moved.input) =
     rw all at c.loop-moved.invariant.comes in
     fault_comes _ _ _ _ _ _ on.stands on.empty refilled.failed
-    (subst (λ before. Rose before (g.S.Port.faults c.refill.new.input)) c.loop-moved.invariant.quiet refilled.cause.failed)
+    (subst (λ before. Rose before (g.S.Port.faults c.refill.new.input)) c.loop-moved.invariant.quiet refilled.counts.failed)

@@ -2,7 +2,6 @@
 use Rattle.std.proofs.Common.{◌-◌, List, length, map, take, ap, sym, ◌∙◌, subst, arith}
 use Rattle.farm_stock.specs.declared.book.TankBook.{TankBook}
 use Rattle.history_lookups.specs.Ledgers.{AreBooksTo}
-use Rattle.history_lookups.specs.Pasts.{history_of}
 use Rattle.day_balances.specs.Balances.{postings_after}
 use Rattle.day_balances.specs.TankDays.{AreWithin, begun, moved_after}
 use Rattle.day_balances.proofs.Through.{AreDaysOver, as_many_books, begun_within, books_first, over_closed, over_within}
@@ -10,8 +9,8 @@ use Rattle.day_balances.proofs.balances.Balances.between.Goals as goal
 
 pub post_through-requires-clause-books : goal.post_through-requires-clause-books
 post_through-requires-clause-books c =
-    let history = history_of c.args.past.now.site.now c.args.past.now.entries.now in
-    let past = history_of c.first.result.site.now c.first.result.entries.now in
+    let history = c.args.past.now in
+    let past = c.first.result in
     books_first history past c.args.before c.ledger-ledger.result c.first.ensures.first (omega (arith, c.requires.order, c.requires.within))
     c.ledger-ledger.ensures.books
 
@@ -23,8 +22,8 @@ post_through-requires-clause-days c =
 
 pub all_closed-requires-clause-days : goal.all_closed-requires-clause-days
 all_closed-requires-clause-days c =
-    let history = history_of c.args.past.now.site.now c.args.past.now.entries.now in
-    let past = history_of c.first.result.site.now c.first.result.entries.now in
+    let history = c.args.past.now in
+    let past = c.first.result in
     let books = c.ledger-ledger.result in
     let begun_is = ap (λ (books : List TankBook). take (length books) c.begun-days.result) (c.books-count.ensures.books ∙ sym c.books.ensures.books) ∙ c.begun-days.ensures.begun in
     let posted = postings_after history c.args.before (c.args.through - c.args.before) in
@@ -37,8 +36,8 @@ all_closed-requires-clause-days c =
 
 pub returns : goal.returns
 returns c =
-    let history = history_of c.args.past.now.site.now c.args.past.now.entries.now in
-    let past = history_of c.first.result.site.now c.first.result.entries.now in
+    let history = c.args.past.now in
+    let past = c.first.result in
     let books = c.ledger-ledger.result in
     let begun_is = ap (λ (books : List TankBook). take (length books) c.begun-days.result) (c.books-count.ensures.books ∙ sym c.books.ensures.books) ∙ c.begun-days.ensures.begun in
     let posted = postings_after history c.args.before (c.args.through - c.args.before) in

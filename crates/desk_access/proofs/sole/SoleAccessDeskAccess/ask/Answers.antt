@@ -57,9 +57,9 @@ returns-clause-keeps g c =
     let new = c.ask-answer.new.self in
     subst (λ (sole : SoleState _). StandsLater g.D.Disk.trace g.D.Disk.moment g.D.Disk.faults sole.desk new) c.self.view_is (record {
       opened = c.ask-answer.ensures.opened;
-      extends = c.ask-answer.ensures.extends;
-      moment_on = c.ask-answer.ensures.moment;
+      extends = c.ask-answer.ensures.moves.extends;
+      moment_on = c.ask-answer.ensures.moves.moment;
       answered = faults_of c.ask-answer.result;
       failed = raised_by c.ask-answer.result old.failed new.failed c.ask-answer.ensures.failed c.ask-answer.ensures.not_failed;
-      counted = raised_by c.ask-answer.result (g.D.Disk.faults old.disk) (g.D.Disk.faults new.disk) c.ask-answer.ensures.once c.ask-answer.ensures.quiet;
+      counted = raised_by c.ask-answer.result (g.D.Disk.faults old.disk) (g.D.Disk.faults new.disk) c.ask-answer.ensures.counts.once c.ask-answer.ensures.counts.quiet;
     })

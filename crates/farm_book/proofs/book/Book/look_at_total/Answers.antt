@@ -8,6 +8,6 @@ use Rattle.farm_book.proofs.book.Book.look_at_total.Goals as goal
 pub returns-clause-total : goal.returns-clause-total
 returns-clause-total g c =
     let history : History = c.args.self.now.history in
-    let entries : length c.past-past.result.entries.now ≡ last_place history = cc c.past-past.ensures.history in
+    let entries : length c.past.inside.entries.now ≡ last_place history = cc (c.past.view_is, c.past-past.ensures.history) in
     let total : c.total.result ≡ total_of history = cc (c.total.ensures.total, c.past-past.ensures.history) in
-    total_given history (length c.past-past.result.entries.now) c.total.result entries total c.past-past.ensures.sound.rising
+    total_given history (length c.past.inside.entries.now) c.total.result entries total c.past-past.ensures.sound.rising

@@ -9,8 +9,12 @@ use Rattle.farm_desk.proofs.desk.Desk.create.Goals as goal
 pub returns-in-Err-clause-crash_safe : goal.returns-in-Err-clause-crash_safe
 returns-in-Err-clause-crash_safe g c = untouched_safe g.row.LIMIT (described c.args.site) (g.D.Disk.trace c.args.disk)
 
-pub returns-in-Err-clause-extends : goal.returns-in-Err-clause-extends
-returns-in-Err-clause-extends g c = extends_same (g.D.Disk.trace c.args.disk)
+pub returns-in-Err-clause-moves : goal.returns-in-Err-clause-moves
+returns-in-Err-clause-moves g c =
+    record {
+      extends = extends_same (g.D.Disk.trace c.args.disk);
+      moment = search rules;
+    }
 
 pub of_records-requires : goal.of_records-requires
 of_records-requires g c =

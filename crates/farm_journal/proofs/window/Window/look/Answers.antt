@@ -104,6 +104,6 @@ loop-self-preserved g c =
           (known_still (g.D.Disk.trace inside.disk) known _ read.stays invariant.shows) read.bytes;
       grows = begins_longer c.args.self.now.ahead old now inside.to count c.in_ok-count.ensures.front invariant.grows;
       stays = stays_then _ (g.D.Disk.trace inside.disk) known invariant.stays read.stays;
-      quiet = c.in_ok-count.ensures.quiet ∙ invariant.quiet;
+      quiet = c.in_ok-count.ensures.counts.quiet ∙ invariant.quiet;
       moment = omega (arith, invariant.moment, c.in_ok-count.ensures.moment);
     }

@@ -7,5 +7,5 @@ use Rattle.history_lookups.proofs.past.Past.last_sought.Given as goal
 
 abbrev pub invariant-loop-index : goal.invariant-loop-index
 invariant-loop-index l =
-    or_else (last_from (l.index + 1) (λ entry. is_sought l.sought l.tank entry.cmd) (drop l.index l.self.entries.now)) l.last
-    ≡ last_from 1 (λ entry. is_sought l.sought l.tank entry.cmd) l.self.entries.now
+    or_else (last_from (l.index + 1) (λ entry. is_sought l.sought l.tank entry.cmd) (drop l.index l.entry-items)) l.last
+    ≡ last_from 1 (λ entry. is_sought l.sought l.tank entry.cmd) l.entry-items

@@ -6,5 +6,5 @@ use Rattle.history_lookups.proofs.past.Past.reversal_of.Given as goal
 
 abbrev pub invariant-loop-index : goal.invariant-loop-index
 invariant-loop-index l =
-    first_from (l.index + 1) (λ entry. reverses l.ticket entry.cmd) (drop l.index l.self.entries.now)
-    ≡ first_from 1 (λ entry. reverses l.ticket entry.cmd) l.self.entries.now
+    first_from (l.index + 1) (λ entry. reverses l.ticket entry.cmd) (drop l.index l.self.entries)
+    ≡ first_from 1 (λ entry. reverses l.ticket entry.cmd) l.self.entries

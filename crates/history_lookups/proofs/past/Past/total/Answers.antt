@@ -1,6 +1,5 @@
 -- Answers to the open goals of `total`.
 use Rattle.std.proofs.Common.{◌∙◌}
-use Rattle.history_lookups.specs.Pasts.{history_of}
 use Rattle.history_lookups.proofs.HistoryStocks.{total_is}
 use Rattle.history_lookups.proofs.past.Past.total.Goals as goal
 
@@ -8,5 +7,5 @@ pub returns : goal.returns
 returns c = record {
   total =
       c.total.ensures.total
-      ∙ total_is (history_of c.args.self.now.site.now c.args.self.now.entries.now) c.ledger.result c.ledger.ensures.books;
+      ∙ total_is c.args.self.now c.ledger.result c.ledger.ensures.books;
 }

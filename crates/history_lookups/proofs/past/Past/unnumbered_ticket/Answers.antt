@@ -5,13 +5,12 @@ use Rattle.farm_ticket.specs.Tickets.{Ticket}
 use Rattle.farm_history.specs.Postings.{postings_issued}
 use Rattle.farm_history.specs.Tickets.{closed}
 use Rattle.history_lookups.specs.Bounds.{IsSmallTicket}
-use Rattle.history_lookups.specs.Pasts.{history_of}
 use Rattle.history_lookups.proofs.Closings.{closed_small, unnumbered}
 use Rattle.history_lookups.proofs.past.Past.unnumbered_ticket.Goals as goal
 
 pub returns-clause-ticket : goal.returns-clause-ticket
 returns-clause-ticket c = λ place.
-    let history = history_of c.args.self.now.site.now c.args.self.now.entries.now in
+    let history = c.args.self.now in
     let issued = c.closed.ensures.ticket ∙ ap (option_and_then (closed 0 0)) c.in_ok-movement.ensures.closed_by in
     ap postings_issued issued ∙ unnumbered history place c.args.command.now
 

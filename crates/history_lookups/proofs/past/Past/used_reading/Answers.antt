@@ -4,7 +4,6 @@ use Rattle.farm_base.specs.Steps.{or_else}
 use Rattle.farm_history.specs.declared.command.Command.TheVariants.{Gauge}
 use Rattle.farm_history.specs.declared.entry.Entry.{Entry}
 use Rattle.farm_history.specs.Movements.{used_by}
-use Rattle.history_lookups.specs.Pasts.{history_of}
 use Rattle.history_lookups.proofs.Givens.{last_more, or_else_none}
 use Rattle.history_lookups.proofs.past.Past.used_reading.Goals as goal
 
@@ -17,6 +16,6 @@ loop-entry-init c = or_else_none _
 
 pub loop-entry-preserved : goal.loop-entry-preserved
 loop-entry-preserved c =
-    let given = λ (entry : Entry). used_by (history_of c.args.self.now.site.now c.args.self.now.entries.now) c.args.tank entry.cmd in
-    let here : c.latest-used.result ≡ or_else (given (get_or c.args.self.now.entries.now c.loop-entry.entry-index blank)) c.loop-entry.used = cc in
-    last_more given c.args.self.now.entries.now c.loop-entry.entry-index blank c.loop-entry.used c.latest-used.result c.loop-entry-test.true here c.loop-entry.invariant
+    let given = λ (entry : Entry). used_by c.args.self.now c.args.tank entry.cmd in
+    let here : c.latest-used.result ≡ or_else (given (get_or c.self.inside.entries.now c.loop-entry.entry-index blank)) c.loop-entry.used = cc in
+    last_more given c.self.inside.entries.now c.loop-entry.entry-index blank c.loop-entry.used c.latest-used.result c.loop-entry-test.true here c.loop-entry.invariant

@@ -1,5 +1,5 @@
 -- Answers to the open goals of `answer`.
-use Rattle.std.proofs.Common.{◌∙◌, ap, refl, sym, subst, arith, w64, ℤ}
+use Rattle.std.proofs.Common.{◌∙◌, ap, refl, sym, subst, arith, w64, ℤ, rules}
 use Rattle.std.proofs.lemmas.Int.{to_z-of_z}
 use Rattle.farm_base.specs.Counts.{Rose, raised}
 use Rattle.farm_book.specs.Kept.{Kept}
@@ -54,17 +54,21 @@ returns-in-Do-clause-unwritten g c = λ sure none.
 pub returns-in-Do-clause-images : goal.returns-in-Do-clause-images
 returns-in-Do-clause-images g c =
     settled_and_answered g.row.LIMIT c.args.self.now.doubt c.args.self.now.book c.settle.new.self.book c.judge_and_enter.new.self.book _ _ _ c.settle.ensures.book
-    c.judge_and_enter.ensures.grows c.judge_and_enter.ensures.extends c.settle.ensures.images c.judge_and_enter.ensures.images
+    c.judge_and_enter.ensures.grows c.judge_and_enter.ensures.moves.extends c.settle.ensures.images c.judge_and_enter.ensures.images
 
-pub returns-in-Do-clause-extends : goal.returns-in-Do-clause-extends
-returns-in-Do-clause-extends g c = extends_more _ _ _ c.settle.ensures.extends c.judge_and_enter.ensures.extends
+pub returns-in-Do-clause-moves : goal.returns-in-Do-clause-moves
+returns-in-Do-clause-moves g c =
+    record {
+      extends = extends_more _ _ _ c.settle.ensures.moves.extends c.judge_and_enter.ensures.moves.extends;
+      moment = search rules;
+    }
 
-pub returns-in-Do-clause-cause : goal.returns-in-Do-clause-cause
-returns-in-Do-clause-cause g c = λ is.
-    subst (λ count. Rose count (g.D.Disk.faults c.judge_and_enter.new.self.journal.disk)) c.in_ok-settle.ensures.quiet (c.judge_and_enter.ensures.cause is)
-
-pub returns-in-Do-clause-quiet : goal.returns-in-Do-clause-quiet
-returns-in-Do-clause-quiet g c = λ isnt. c.judge_and_enter.ensures.quiet isnt ∙ c.in_ok-settle.ensures.quiet
-
-pub returns-in-Do-clause-once : goal.returns-in-Do-clause-once
-returns-in-Do-clause-once g c = λ is. c.judge_and_enter.ensures.once is ∙ ap (λ count. raised 1 count) c.in_ok-settle.ensures.quiet
+pub returns-in-Do-clause-counts : goal.returns-in-Do-clause-counts
+returns-in-Do-clause-counts g c =
+    record {
+      never_falls = search rules;
+      failed = λ is.
+          subst (λ count. Rose count (g.D.Disk.faults c.judge_and_enter.new.self.journal.disk)) c.in_ok-settle.ensures.counts.quiet (c.judge_and_enter.ensures.counts.failed is);
+      once = λ is. c.judge_and_enter.ensures.counts.once is ∙ ap (λ count. raised 1 count) c.in_ok-settle.ensures.counts.quiet;
+      quiet = λ isnt. c.judge_and_enter.ensures.counts.quiet isnt ∙ c.in_ok-settle.ensures.counts.quiet;
+    }
