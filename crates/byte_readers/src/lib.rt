@@ -5,8 +5,8 @@
 //! is put together; `proofs/` has a lemma for each of them.
 #![tactic(auto)]
 
-mod number_laws;
+mod laws;
 mod numbers;
 
-pub use number_laws::laws;
+pub use laws::reader_laws;
 pub use numbers::{i16_at, i64_at, u8_at, u16_at, u32_at, u64_at};

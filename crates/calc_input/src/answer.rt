@@ -68,7 +68,7 @@ pub fn figures_of_input(alloc: Global, bytes: &[u8]) -> Result<Quantities, NoFig
 }
 
 /// Does nothing: its contract is the laws that an input has one refused line at most, and that a prefix over the limit decides.
-pub fn laws()
+pub fn input_laws()
     ensures one_refused_line { OneRefusedLine }
     ensures front_decides { FrontDecides }
 {}

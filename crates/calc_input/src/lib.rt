@@ -17,6 +17,6 @@ mod refusal;
 mod table_rows;
 mod volumes_line;
 
-pub use answer::{MOST_INPUT_BYTES, NoFigures, figures_of_input, laws};
+pub use answer::{MOST_INPUT_BYTES, NoFigures, figures_of_input, input_laws};
 pub use number_laws::defined_numbers;
 pub use refusal::{Cause, Refused};

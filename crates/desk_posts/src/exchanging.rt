@@ -39,7 +39,7 @@ pub(crate) fn exchange<P: Source + Sink, A: DeskAccess, C: Clock>(
     ensures counts { Counts (P.faults conn.old) (P.faults conn.new) result }
 {
     A::access_laws();
-    http_requests::laws();
+    http_requests::request_laws();
     let last = ends_after(&heard);
     room.pass(size_of(&heard));
     let page = meant_page(access, clock, heard);

@@ -6,11 +6,11 @@
 
 mod answers;
 mod batch;
-mod batch_laws;
+mod laws;
 mod limits;
 mod number_laws;
 
 pub use batch::{BatchEnd, answer_lines};
-pub use batch_laws::laws;
+pub use laws::batch_laws;
 pub use limits::{BATCH_CALLER, MOST_LINES};
 pub use number_laws::defined_numbers;

@@ -20,7 +20,7 @@ ghost use Rattle.farm_site.specs.Sites.{described};
 use crate::judging::verdict_of;
 use crate::tables::table_facts;
 use farm_base::NoMemory;
-use farm_history::{Entry, Query, Reply, Rule, Verdict, laws};
+use farm_history::{Entry, Query, Reply, Rule, Verdict, history_laws};
 use farm_site::Site;
 use history_lookups::Past;
 use key_index::KeyIndex;
@@ -76,7 +76,7 @@ impl<const LIMIT: usize> Book<LIMIT> {
         ensures meaning { IsVerdict LIMIT self.now.history entry.now result }
         ensures repeated { (place : ℕ) → result ≡ Verdict.Repeat place → (1 ≤ place) × (place ≤ last_place self.now.history) }
     {
-        laws();
+        history_laws();
         verdict_of(LIMIT, &self.past(), &self.keys, entry)
     }
 

@@ -9,8 +9,8 @@ use Rattle.farm_disk.specs.Memory.{MemState, call_begun, call_over, state_after,
 use Rattle.farm_disk.specs.Rebuilt.{IsCoveredBy, IsFilled, all_written, as_found, filled, found_at, image_by, rebuilt, seen_by}
 use Rattle.farm_disk.specs.declared.disk_call.DiskCall.{DiskCall}
 use Rattle.farm_disk.specs.declared.disk_call.DiskCall.TheVariants.{Write, Sync}
-use Rattle.farm_disk.specs.declared.fill.Fill.{Fill}
-use Rattle.farm_disk.specs.declared.fill.Fill.TheVariants.{Old, New, Byte}
+use Rattle.farm_disk.specs.declared.crash_fill.Fill.{Fill}
+use Rattle.farm_disk.specs.declared.crash_fill.Fill.TheVariants.{Old, New, Byte}
 use Rattle.farm_disk.proofs.Images.{begun_keeps_images, begun_seen, length-overlaid, overlaid_after, overlaid_before, overlaid_beside, overlaid_gap, overlaid_here, overlaid_is_image, synced_is_image, written_is_image}
 
 -- at the first moment no call has begun

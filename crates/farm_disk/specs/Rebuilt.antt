@@ -4,8 +4,8 @@ use Rattle.farm_disk.specs.Images.{IsWritten, State, overlaid, reach, state_at, 
 use Rattle.farm_disk.specs.Memory.{MemState, states_of}
 use Rattle.farm_disk.specs.declared.disk_call.DiskCall.{DiskCall}
 use Rattle.farm_disk.specs.declared.disk_call.DiskCall.TheVariants.{Write, Sync}
-use Rattle.farm_disk.specs.declared.fill.Fill.{Fill}
-use Rattle.farm_disk.specs.declared.fill.Fill.TheVariants.{Old, New, Byte}
+use Rattle.farm_disk.specs.declared.crash_fill.Fill.{Fill}
+use Rattle.farm_disk.specs.declared.crash_fill.Fill.TheVariants.{Old, New, Byte}
 
 -- a call as a crash finds it: one that has begun and isn't over is one that isn't done
 abbrev pub as_found : Bool → DiskCall → DiskCall

@@ -7,7 +7,7 @@ ghost use Rattle.farm_disk.specs.Calls.{Measures, Passes, Reads, Syncs, Writes};
 ghost use Rattle.farm_disk.specs.Files.{two_moments_more};
 ghost use Rattle.farm_disk.specs.Images.{IsCrashImage, present};
 
-use crate::late_file::LateFile;
+use crate::file_at_first_call::LateFile;
 use crate::{Disk, Stand};
 use farm_ports::Failed;
 use std::fs::File;

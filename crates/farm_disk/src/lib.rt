@@ -5,19 +5,19 @@
 //! the system nothing is.
 #![tactic(auto)]
 
+mod bytes_at_offset;
+mod crash_fill;
 mod disk;
 mod disk_call;
+mod file_at_first_call;
 mod file_disk;
-mod fill;
-mod kept_disk;
-mod late_file;
 mod mem_disk;
 mod opening;
-mod overlay;
 mod rebuilding;
+mod recorded_calls;
 
+pub use crash_fill::Fill;
 pub use disk::{Disk, Stand, disk_laws};
 pub use disk_call::DiskCall;
 pub use file_disk::FileDisk;
-pub use fill::Fill;
 pub use mem_disk::MemDisk;

@@ -9,8 +9,8 @@ ghost use Rattle.farm_disk.specs.Memory.{HasRoomForCall, HasRoomForWrite, Keeps,
 ghost use Rattle.farm_disk.specs.Rebuilt.{IsFilled};
 ghost use Rattle.farm_ports.specs.Objects.{CountsCall, FailsNext};
 
-use crate::kept_disk::KeptDisk;
-use crate::overlay::copy_at;
+use crate::bytes_at_offset::copy_at;
+use crate::recorded_calls::KeptDisk;
 use crate::{Disk, DiskCall, Fill, Stand};
 use farm_base::NoMemory;
 use farm_ports::{Failed, FailingCalls};

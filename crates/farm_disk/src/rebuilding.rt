@@ -3,7 +3,7 @@
 ghost use Rattle.std.specs.Prelude.{◌≡◌, ◌&&◌, IfOk, OnOk};
 ghost use Rattle.farm_disk.specs.Rebuilt.{as_found, filled, found_at, image_by, rebuilt, seen_by};
 
-use crate::overlay::overlay;
+use crate::bytes_at_offset::overlay;
 use crate::{DiskCall, Fill};
 use farm_base::NoMemory;
 use std::alloc::Global;

@@ -60,7 +60,7 @@ pub(crate) fn recovered<const LIMIT: usize>(
     requires certain { desk.doubt ≡ false }
     ensures history { IfOk result (λ recovered. recovered.history ≡ desk.entry.history) }
 {
-    farm_recovery::laws();
+    farm_recovery::recovery_laws();
     let (disk, _) = desk.finish();
     match Desk::recover(alloc, disk) {
         Ok(desk) => Ok(desk),

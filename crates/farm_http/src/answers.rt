@@ -108,7 +108,7 @@ fn put_amount(
 }
 
 /// Does nothing: its contract says what bodies are, byte by byte.
-pub fn laws()
+pub fn answer_laws()
     ensures place { PlaceInBytes }
     ensures ticket { TicketInBytes }
     ensures gain { GainInBytes }

@@ -13,7 +13,7 @@ mod page;
 mod requests;
 mod tickets;
 
-pub use answers::{body, laws};
+pub use answers::{answer_laws, body};
 pub use number_laws::defined_numbers;
 pub use page::{Allow, Page};
 pub use requests::{

@@ -8,7 +8,6 @@
 
 mod clock;
 mod copy_room;
-mod copying;
 mod dir_folder;
 mod failing_calls;
 mod fault;
@@ -18,16 +17,16 @@ mod gather;
 mod kept_calls;
 mod links;
 mod ports;
-mod real;
 mod responses;
 mod script;
+mod std_streams;
 mod system_clock;
 mod tcp_link;
+mod whole_texts;
 mod wire;
 
 pub use clock::{Clock, Fixed};
 pub use copy_room::CopyRoom;
-pub use copying::{put_all, read_up_to};
 pub use dir_folder::DirFolder;
 pub use failing_calls::FailingCalls;
 pub use fault::PortFault;
@@ -36,8 +35,9 @@ pub use folder::{Folder, FolderFault};
 pub use gather::Gather;
 pub use links::{Bytes, Link, LinkCall, link_laws};
 pub use ports::{Failed, Port, Sink, Source};
-pub use real::{StdSink, StdSource};
 pub use script::Script;
+pub use std_streams::{StdSink, StdSource};
 pub use system_clock::SystemClock;
 pub use tcp_link::TcpLink;
+pub use whole_texts::{put_all, read_up_to};
 pub use wire::Wire;

@@ -4,8 +4,8 @@
 //! history at most.
 #![tactic(auto)]
 
+mod laws;
 mod recovering;
-mod recovery_laws;
 
+pub use laws::recovery_laws;
 pub use recovering::Recovering;
-pub use recovery_laws::laws;

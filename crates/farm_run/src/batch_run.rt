@@ -38,7 +38,7 @@ pub(crate) fn batch<S: Source, K: Sink, D: Disk, C: Clock>(
     ensures input_never_falls { S.faults input.old ≤ S.faults input.new }
     ensures output_never_falls { K.faults output.old ≤ K.faults output.new }
 {
-    farm_recovery::laws();
+    farm_recovery::recovery_laws();
     let disk = match on_heap(alloc, disk, output) {
         Ok(disk) => disk,
         Err(done) => return done,
@@ -70,7 +70,7 @@ fn ask_lines<S: Source, K: Sink, D: Disk, C: Clock>(
     ensures input_never_falls { S.faults input.old ≤ S.faults input.new }
     ensures output_never_falls { K.faults output.old ≤ K.faults output.new }
 {
-    farm_batch::laws(clock);
+    farm_batch::batch_laws(clock);
     let mut desk = desk;
     let end = answer_lines(alloc, &mut desk, input, output, clock);
     let (disk, doubt) = desk.finish();

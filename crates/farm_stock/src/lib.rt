@@ -5,11 +5,11 @@
 #![tactic(auto)]
 
 mod book;
+mod laws;
 mod posting;
 mod stock;
-mod stock_laws;
 
 pub use book::{TankBook, book_of, plus, total_of};
+pub use laws::stock_laws;
 pub use posting::{Kind, Posting};
 pub use stock::Stock;
-pub use stock_laws::laws;

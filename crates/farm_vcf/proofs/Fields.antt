@@ -10,7 +10,7 @@ use Rattle.farm_csv.specs.declared.fault.CsvFault.{CsvFault}
 use Rattle.farm_csv.specs.declared.fault.CsvFault.TheVariants as cause
 use Rattle.farm_vcf.specs.declared.rows.Listed.{Listed}
 use Rattle.farm_vcf.specs.Faults.{BadField, FactorFault, fault_of, reported}
-use Rattle.farm_vcf.specs.Records.{grid_of_few, grid_of_records, grid_under_header, row_of, row_of_fields, rows_from, vcf_of, with_row}
+use Rattle.farm_vcf.specs.Records.{grid_within_limit, grid_of_records, grid_under_header, row_of, row_of_fields, rows_from, vcf_of, with_row}
 
 -- a record of three fields
 pub three_fields : (fields : List (List ℕ)) (a b c : List ℕ) → length fields ≡ 3 → Some a ≡ field_at fields 0 → Some b ≡ field_at fields 1 → Some c ≡ field_at fields 2 → row_of fields ≡ row_of_fields a b c
@@ -62,7 +62,7 @@ rows_agree above (fields ∷ records) = by (row_of fields) (rows_of (above + 1) 
     by (Some row) (Err number) same = rw same refl
 
 -- the grid of a text with rows
-pub vcf_of_rows : (text : List ℕ) (rows : List Listed) → AreRows (λ above fields. row_of fields) (have_equal_lengths (records_of text)) (below_header (records_of text)) rows → vcf_of text ≡ grid_of_few (Ok rows)
+pub vcf_of_rows : (text : List ℕ) (rows : List Listed) → AreRows (λ above fields. row_of fields) (have_equal_lengths (records_of text)) (below_header (records_of text)) rows → vcf_of text ≡ grid_within_limit (Ok rows)
 unfolding grid_of_records grid_under_header
 vcf_of_rows text rows are = rw (are.0, rows_agree 0 (below_header (records_of text)), are.1) refl
 

@@ -11,7 +11,7 @@ use Rattle.farm_vcf.specs.declared.rows.Listed.{Listed}
 use Rattle.farm_vcf.specs.Blocks.{IsFaultOfRows, IsGridOf}
 use Rattle.farm_vcf.specs.Faults.{FactorFault, Csv, BadField, TooMany, NotGrid, reported}
 use Rattle.farm_vcf.specs.Grid.{Grid}
-use Rattle.farm_vcf.specs.Records.{IsFaultOfText, IsFirstBadRecord, IsGridOfText, IsUneven, grid_of_few, grid_of_records, grid_under_header, row_of, rows_below_header, rows_from, vcf_of, with_row}
+use Rattle.farm_vcf.specs.Records.{IsFaultOfText, IsFirstBadRecord, IsGridOfText, IsUneven, grid_within_limit, grid_of_records, grid_under_header, row_of, rows_below_header, rows_from, vcf_of, with_row}
 use Rattle.farm_vcf.specs.Rows.{grid_of_rows}
 use Rattle.farm_vcf.proofs.Meanings.{answered_right, reported_right, rows_mean}
 
@@ -140,7 +140,7 @@ uneven_is (header ∷ records) uneven =
 
 -- the grid of the rows of a text, or its fault
 few_mean : (text : List ℕ) (few : Result (List Listed) FactorFault) → have_equal_lengths (records_of text) ≡ true → rows_below_header (records_of text) ≡ few →
-    MatchResult (grid_of_few few) (IsGridOfText text) (IsFaultOfText text)
+    MatchResult (grid_within_limit few) (IsGridOfText text) (IsFaultOfText text)
 few_mean text (Err fault) even is = not_read text fault even is
 few_mean text (Ok rows) even is = by (nat_lt 100000 (length rows)) (grid_of_rows rows) refl (rows_mean rows)
   where
@@ -158,8 +158,8 @@ text_means : (text : List ℕ) → MatchResult (vcf_of text) (IsGridOfText text)
 unfolding grid_of_records grid_under_header
 text_means text = by (have_equal_lengths (records_of text)) refl (λ even. few_mean text (rows_below_header (records_of text)) even refl)
   where
-    by : (even : Bool) → have_equal_lengths (records_of text) ≡ even → (have_equal_lengths (records_of text) ≡ true → MatchResult (grid_of_few (rows_below_header (records_of text))) (IsGridOfText text) (IsFaultOfText text)) →
-        MatchResult (if even then grid_of_few (rows_below_header (records_of text)) else Err Csv) (IsGridOfText text) (IsFaultOfText text)
+    by : (even : Bool) → have_equal_lengths (records_of text) ≡ even → (have_equal_lengths (records_of text) ≡ true → MatchResult (grid_within_limit (rows_below_header (records_of text))) (IsGridOfText text) (IsFaultOfText text)) →
+        MatchResult (if even then grid_within_limit (rows_below_header (records_of text)) else Err Csv) (IsGridOfText text) (IsFaultOfText text)
     by true e mean = mean e
     by false e mean = uneven_is (records_of text) e
 

@@ -48,9 +48,9 @@ rows_from number [] = Ok []
 rows_from number (fields ∷ records) = with_row number (row_of fields) (rows_from (number + 1) records)
 
 -- the grid of rows, of which there may be at most 100,000
-abbrev pub grid_of_few : Result (List Listed) FactorFault → Result Grid FactorFault
-grid_of_few (Err fault) = Err fault
-grid_of_few (Ok rows) = if nat_lt most_factors (length rows) then Err TooMany else grid_of_rows rows
+abbrev pub grid_within_limit : Result (List Listed) FactorFault → Result Grid FactorFault
+grid_within_limit (Err fault) = Err fault
+grid_within_limit (Ok rows) = if nat_lt most_factors (length rows) then Err TooMany else grid_of_rows rows
 
 -- the rows of the records below the header
 abbrev pub rows_below_header : List (List (List ℕ)) → Result (List Listed) FactorFault
@@ -58,7 +58,7 @@ rows_below_header records = rows_from 1 (below_header records)
 
 -- the grid of the records below the header
 unfoldable pub grid_under_header : List (List (List ℕ)) → Result Grid FactorFault
-grid_under_header records = grid_of_few (rows_below_header records)
+grid_under_header records = grid_within_limit (rows_below_header records)
 
 -- the grid of the records of a file
 unfoldable pub grid_of_records : List (List (List ℕ)) → Result Grid FactorFault

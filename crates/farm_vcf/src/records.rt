@@ -4,7 +4,7 @@ ghost use Rattle.std.specs.Prelude.{◌≡◌, MatchResult, Ok};
 ghost use Rattle.csv.specs.Records.{fields_of};
 ghost use Rattle.farm_base.specs.Steps.{IsRefusedAs};
 ghost use Rattle.farm_vcf.specs.Faults.{fault_of, reported};
-ghost use Rattle.farm_vcf.specs.Records.{grid_of_few, row_of, row_of_fields, vcf_of};
+ghost use Rattle.farm_vcf.specs.Records.{grid_within_limit, row_of, row_of_fields, vcf_of};
 
 use crate::grid::MOST_FACTORS;
 use crate::rows::{Listed, grid_of_rows};
@@ -19,7 +19,7 @@ pub(crate) fn vcf_of(alloc: Global, text: &[u8]) -> Result<Vcf, VcfFault>
     ensures { MatchResult result (λ grid. vcf_of text.now ≡ Ok grid) (λ fault. IsRefusedAs (reported fault) (vcf_of text.now)) }
 {
     match rows_below_header::<FactorRows>(alloc, text) {
-        Ok(rows) => grid_of_few(alloc, rows.as_slice()),
+        Ok(rows) => grid_within_limit(alloc, rows.as_slice()),
         Err(fault) => Err(fault_of(fault)),
     }
 }
@@ -36,8 +36,8 @@ fn fault_of(fault: CsvFault) -> VcfFault
 }
 
 // The grid of rows, of which there may be at most 100,000.
-fn grid_of_few(alloc: Global, rows: &[Listed]) -> Result<Vcf, VcfFault>
-    ensures { MatchResult result (λ grid. grid_of_few (Ok rows.now) ≡ Ok grid) (λ fault. IsRefusedAs (reported fault) (grid_of_few (Ok rows.now))) }
+fn grid_within_limit(alloc: Global, rows: &[Listed]) -> Result<Vcf, VcfFault>
+    ensures { MatchResult result (λ grid. grid_within_limit (Ok rows.now) ≡ Ok grid) (λ fault. IsRefusedAs (reported fault) (grid_within_limit (Ok rows.now))) }
 {
     if rows.len() > MOST_FACTORS {
         return Err(VcfFault::TooMany);

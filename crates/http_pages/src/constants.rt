@@ -40,5 +40,5 @@ pub fn constant_pages()
     ensures insufficient_storage { INSUFFICIENT_STORAGE.now ≡ page_text (status_page 507) false }
     ensures insufficient_storage_last { INSUFFICIENT_STORAGE_LAST.now ≡ page_text (status_page 507) true }
 {
-    farm_http::laws();
+    farm_http::answer_laws();
 }

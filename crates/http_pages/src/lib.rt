@@ -15,4 +15,4 @@ pub use constants::{
     constant_pages,
 };
 pub use number_laws::defined_numbers;
-pub use writing::{MOST_PAGE_HEAD_BYTES, laws, page};
+pub use writing::{MOST_PAGE_HEAD_BYTES, page, page_laws};

@@ -60,7 +60,7 @@ fn append_page(answer: &Page, last: bool, content: &[u8], out: &mut Vec<u8>) -> 
 }
 
 /// Does nothing: its contract says of pages what their readers rest on.
-pub fn laws()
+pub fn page_laws()
     ensures whole { PagesAreWhole }
     ensures one_content { OneContent }
     ensures heads_fit { HeadsFit }

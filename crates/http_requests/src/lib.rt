@@ -6,10 +6,10 @@
 
 mod asked;
 mod heard;
+mod laws;
 mod limits;
 mod number_laws;
 mod paths;
-mod request_laws;
 mod resource;
 mod route;
 mod routes;
@@ -17,7 +17,7 @@ mod word;
 
 pub use asked::Asked;
 pub use heard::{Heard, hear};
+pub use laws::request_laws;
 pub use limits::{METHOD_NOT_ALLOWED, MOST_PARAMETER_DIGITS, MOST_REQUEST_BYTES, NOT_FOUND};
 pub use number_laws::defined_numbers;
-pub use request_laws::laws;
 pub use routes::Routes;

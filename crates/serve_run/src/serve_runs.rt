@@ -64,7 +64,7 @@ pub fn serve<
     ensures disk_later { IfSome result.disk (λ left. IsLater (D.trace disk) (D.trace left) (D.moment disk) (D.moment left) (count_of D.faults disk left)) }
     ensures output_never_falls { K.faults output.old ≤ K.faults output.new }
 {
-    farm_recovery::laws();
+    farm_recovery::recovery_laws();
     let disk = match on_heap(alloc, disk, output) {
         Ok(disk) => disk,
         Err(done) => return done,

@@ -6,7 +6,7 @@ use Rattle.desk_posts.proofs.exchanging.exchange.Goals as goal
 
 pub put_page-requires : goal.put_page-requires
 put_page-requires g c =
-    let first : AskedIsFirst = c.laws.ensures.first in
+    let first : AskedIsFirst = c.request_laws.ensures.first in
     record {
       answer = is_answer g.A.DeskAccess.may_follow (g.C.Clock.may_give c.args.clock.now) g.A.DeskAccess.limit first c.args.room.now c.args.heard
           c.meant_page-page.result (g.A.DeskAccess.state c.args.access.now) (g.A.DeskAccess.state c.meant_page-page.new.access) c.requires.heard

@@ -16,6 +16,6 @@ returns-in-Ok g c =
     c.finish-disk.ensures.now in
     record {
       history =
-          recovered_same g.row.LIMIT c.args.desk.history c.in-Ok.desk.history disk (states_of left.start left.calls) c.laws.ensures.one_history now
+          recovered_same g.row.LIMIT c.args.desk.history c.in-Ok.desk.history disk (states_of left.start left.calls) c.recovery_laws.ensures.one_history now
           c.in-Ok.ensures.wrote_nothing c.in-Ok.ensures.recovered;
     }

@@ -14,7 +14,7 @@ returns-clause-desk_batch g c =
     let answers = c.answer_lines-end.ensures in
     let settled : c.answer_lines-end.new.desk.doubt ≡ false → c.finish-disk.result.1 ≡ false = λ sure. (finish.untouched sure).1 in
     rw c.into_inner.ensures.disk
-    (batch_ended (λ boxed. g.D.Disk.faults boxed.disk.value) _ c.args.desk c.answer_lines-end.new.desk _ _ _ _ _ _ c.finish-disk.result.1 c.laws.ensures.outcomes_are_one
+    (batch_ended (λ boxed. g.D.Disk.faults boxed.disk.value) _ c.args.desk c.answer_lines-end.new.desk _ _ _ _ _ _ c.finish-disk.result.1 c.batch_laws.ensures.outcomes_are_one
     (λ steps left disk_counted acknowledged.
     leaves (λ boxed. g.D.Disk.trace boxed.disk.value) (λ boxed. g.D.Disk.moment boxed.disk.value) (λ boxed. g.D.Disk.faults boxed.disk.value)
     c.args.desk c.answer_lines-end.new.desk c.finish-disk.result.0 c.finish-disk.result.1 steps c.requires.new answers.keeps.opened left disk_counted acknowledged

@@ -34,5 +34,5 @@ pub returns-in-Err-recover-clause-report_run : goal.returns-in-Err-recover-claus
 returns-in-Err-recover-clause-report_run g c =
     let said = c.in-Err-recover.ensures in
     rw (c.into_inner.ensures.disk, ← c.in-Ok.ensures.moved, ← c.in-Ok.ensures.output_kept)
-    (inl (not_recovered _ _ _ _ _ said.wrote_nothing c.in-Err-recover.fault c.laws.ensures.recovered_is_not_refused said.refused said.counts.failed
+    (inl (not_recovered _ _ _ _ _ said.wrote_nothing c.in-Err-recover.fault c.recovery_laws.ensures.recovered_is_not_refused said.refused said.counts.failed
     said.counts.quiet c.report_recover.ensures.reports))

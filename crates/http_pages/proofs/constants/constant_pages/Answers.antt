@@ -8,8 +8,8 @@ use Rattle.http_pages.proofs.constants.constant_pages.Goals as goal
 pub returns : goal.returns
 unfolding page_text reason_of digits
 returns c = record {
-  service_unavailable = rw (c.laws.ensures.status 503 None) refl;
-  service_unavailable_last = rw (c.laws.ensures.status 503 None) refl;
-  insufficient_storage = rw (c.laws.ensures.status 507 None) refl;
-  insufficient_storage_last = rw (c.laws.ensures.status 507 None) refl;
+  service_unavailable = rw (c.answer_laws.ensures.status 503 None) refl;
+  service_unavailable_last = rw (c.answer_laws.ensures.status 503 None) refl;
+  insufficient_storage = rw (c.answer_laws.ensures.status 507 None) refl;
+  insufficient_storage_last = rw (c.answer_laws.ensures.status 507 None) refl;
 }
