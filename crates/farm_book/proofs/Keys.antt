@@ -1,44 +1,13 @@
--- An index follows the entries as one comes; and what is said of an entry whose account and key stand, or stand nowhere.
-use Rattle.std.proofs.Common.{All, ◌≡◌, ◌∙◌, ℕ, ◌+◌, ◌-◌, ◌≤◌, ◌&&◌, ◌==◌, Bool, true, false, if◌then◌else◌, IsFalse, IsTrue, List, [], ◌∷◌, ◌++◌, length, Option, Some, None, IfSome, get_or, refl, arith, ap, sym, subst, append_assoc, length-append}
+-- What is said of an entry whose account and key stand, or stand nowhere.
+use Rattle.std.proofs.Common.{All, ◌≡◌, ◌∙◌, ℕ, ◌+◌, ◌-◌, ◌≤◌, ◌&&◌, ◌==◌, Bool, true, false, IsFalse, IsTrue, List, [], ◌∷◌, ◌++◌, length, Option, Some, None, IfSome, get_or, refl, arith, ap, sym, append_assoc, length-append}
 use Rattle.std.proofs.Math.Seq.{get_or-append_seam}
 use Rattle.std.proofs.lemmas.Bool.{and_from, and_parts, eq-eqb, eqb-true}
 use Rattle.std.proofs.lemmas.List.Elements.{All-cons, All-head, All-nil, All-tail}
-use Rattle.farm_base.specs.Steps.{or_else}
-use Rattle.key_index.specs.Keys.{is_under}
 use Rattle.farm_history.specs.declared.entry.Entry.{Entry}
 use Rattle.farm_history.specs.Commands.{is_same_command}
 use Rattle.farm_history.specs.Places.{IsFirstPlace, first_from, first_place}
 use Rattle.farm_history.specs.Rules.{has_same_key, is_repeat}
 use Rattle.farm_history.proofs.Places.{found_place}
-use Rattle.farm_book.specs.Kept.{has_key}
-
--- the first place among items and one more: that of the items, or else the one of the last
-first_from_more : {A : Type 0} (begin : ℕ) (holds : A → Bool) (items : List A) (item : A) →
-    first_from begin holds (items ++ item ∷ []) ≡ or_else (first_from begin holds items) (if holds item then Some (begin + length items) else None)
-first_from_more begin holds [] item =
-    let counted : begin + 0 ≡ begin = omega arith in rw counted refl
-first_from_more begin holds (other ∷ items) item = by (holds other) refl (first_from_more (begin + 1) holds items item)
-  where
-    by : (b : Bool) → holds other ≡ b →
-        first_from (begin + 1) holds (items ++ item ∷ []) ≡ or_else (first_from (begin + 1) holds items) (if holds item then Some (begin + 1 + length items) else None) →
-        (if holds other then Some begin else first_from (begin + 1) holds (items ++ item ∷ [])) ≡
-        or_else (if holds other then Some begin else first_from (begin + 1) holds items) (if holds item then Some (begin + length (other ∷ items)) else None)
-    by true e later = rw e refl
-    by false e later =
-        let counted : begin + 1 + length items ≡ begin + length (other ∷ items) = omega arith in
-        rw e (later ∙ ap (λ n. or_else (first_from (begin + 1) holds items) (if holds item then Some n else None)) counted)
-
--- a search that finds none among items finds the one of the last, or none
-or_none : {A : Type 0} (found : Option A) → or_else found None ≡ found
-or_none None = refl
-or_none (Some item) = refl
-
--- where something holds of no item, the search finds none
-none_found : {A : Type 0} (begin : ℕ) (holds : A → Bool) (items : List A) → All (λ other. IsFalse (holds other)) items → first_from begin holds items ≡ None
-none_found begin holds [] none = refl
-none_found begin holds (item ∷ items) none =
-    let here : holds item ≡ false = All-head (λ other. IsFalse (holds other)) item items none in
-    rw here (none_found (begin + 1) holds items (All-tail (λ other. IsFalse (holds other)) item items none))
 
 -- an entry without an account and a key repeats none that has them
 isnt_repeat : (entry other : Entry) → has_same_key entry other ≡ false → is_repeat entry other ≡ false
@@ -57,37 +26,6 @@ no_repeat_from begin entry (other ∷ entries) none = by (has_same_key entry oth
 
 pub no_repeat : (entries : List Entry) (entry : Entry) → first_place (has_same_key entry) entries ≡ None → first_place (is_repeat entry) entries ≡ None
 no_repeat entries entry none = no_repeat_from 1 entry entries none
-
--- an index that enters the key of a new entry is one of the entries with it
-pub more_indexed : (entries : List Entry) (entry : Entry) (old new : ℕ → ℕ → Option ℕ) →
-    ((account key : ℕ) → old account key ≡ first_place (has_key account key) entries) →
-    ((account key : ℕ) → new account key ≡ (if is_under entry.account entry.key account key then Some (length entries + 1) else old account key)) →
-    All (λ other. IsFalse (has_same_key entry other)) entries →
-    (account key : ℕ) → new account key ≡ first_place (has_key account key) (entries ++ entry ∷ [])
-more_indexed entries entry old new was entered fresh account key = by (has_key account key entry) refl
-  where
-    more : first_place (has_key account key) (entries ++ entry ∷ []) ≡
-        or_else (first_place (has_key account key) entries) (if has_key account key entry then Some (1 + length entries) else None)
-    more = first_from_more 1 (has_key account key) entries entry
-
-    by : (b : Bool) → has_key account key entry ≡ b → new account key ≡ first_place (has_key account key) (entries ++ entry ∷ [])
-    by false e =
-        let kept : new account key ≡ old account key = entered account key ∙ (rw e refl) in
-        let none : or_else (first_place (has_key account key) entries) (if has_key account key entry then Some (1 + length entries) else None) ≡ first_place (has_key account key) entries =
-        rw e (or_none (first_place (has_key account key) entries)) in
-        kept ∙ was account key ∙ sym (more ∙ none)
-    by true e =
-        let parts = and_parts (entry.account == account) (entry.key == key) e in
-        let accounts : entry.account ≡ account = eqb-true entry.account account parts.0 in
-        let keys : entry.key ≡ key = eqb-true entry.key key parts.1 in
-        let none : first_place (has_key account key) entries ≡ None =
-        subst (λ (a : ℕ). first_place (has_key a key) entries ≡ None) accounts
-        (subst (λ (k : ℕ). first_place (has_key entry.account k) entries ≡ None) keys (none_found 1 (has_same_key entry) entries fresh)) in
-        let counted : length entries + 1 ≡ 1 + length entries = omega arith in
-        let here : new account key ≡ Some (length entries + 1) = entered account key ∙ (rw e refl) in
-        let there : or_else (first_place (has_key account key) entries) (if has_key account key entry then Some (1 + length entries) else None) ≡ Some (1 + length entries) =
-        rw none (rw e refl) in
-        here ∙ ap {B = Option ℕ} Some counted ∙ sym (more ∙ there)
 
 -- the search finds the item after those of which it doesn't hold
 found_after : {A : Type 0} (begin : ℕ) (holds : A → Bool) (front rest : List A) → All (λ other. IsFalse (holds other)) front →

@@ -21,9 +21,9 @@ use crate::judging::verdict_of;
 use crate::tables::table_facts;
 use farm_base::NoMemory;
 use farm_history::{Entry, Query, Reply, Rule, Verdict, history_laws};
+use farm_indexes::{Indexed, Indexes, PastFacts};
 use farm_site::Site;
 use history_lookups::Past;
-use key_index::KeyIndex;
 use std::alloc::Global;
 use std::marker::Model;
 
@@ -34,8 +34,8 @@ use std::marker::Model;
 pub struct Book<const LIMIT: usize> {
     site: Site,
     entries: Vec<Entry>,
-    // Where the account and the key of each entry stand.
-    keys: KeyIndex,
+    // What the rules and look-ups ask of the entries.
+    indexes: Indexes,
     // For how many entries more there is room in both.
     room: usize,
 }
@@ -49,21 +49,21 @@ impl<const LIMIT: usize> Model for Book<LIMIT> {
 
     ghost view = { λ book. record { history = history_of book.site book.entries.items; spare = book.room } };
 
-    ghost invariant = { λ book. IsKept LIMIT (history_of book.site book.entries.items) book.keys book.room (vec_capacity book.entries - vec_len book.entries) };
+    ghost invariant = { λ book. IsKept LIMIT (history_of book.site book.entries.items) book.indexes book.room (vec_capacity book.entries - vec_len book.entries) };
 }
 
 impl<const LIMIT: usize> Book<LIMIT> {
     /// The book of a site before its first entry.
     pub fn new(alloc: Global, site: Site) -> Result<Self, NoMemory>
         requires limit { LIMIT ≤ MOST_LIMIT }
-        ensures made { IsOk result }
         ensures history { IfOk result (λ book. book.history ≡ empty_history (described site)) }
     {
         table_facts(&site);
+        let indexes = Indexes::new(alloc, &site)?;
         Ok(Book {
             site,
             entries: Vec::new(alloc),
-            keys: KeyIndex::new(alloc),
+            indexes,
             room: 0,
         })
     }
@@ -77,7 +77,7 @@ impl<const LIMIT: usize> Book<LIMIT> {
         ensures repeated { (place : ℕ) → result ≡ Verdict.Repeat place → (1 ≤ place) × (place ≤ last_place self.now.history) }
     {
         history_laws();
-        verdict_of(LIMIT, &self.past(), &self.keys, entry)
+        verdict_of(LIMIT, &self.facts(), entry)
     }
 
     /// Makes room for one entry more. It fails only where there was no room and no memory for it.
@@ -91,7 +91,7 @@ impl<const LIMIT: usize> Book<LIMIT> {
     {
         if self.room == 0 {
             self.entries.reserve(1)?;
-            self.keys.reserve()?;
+            self.indexes.reserve()?;
             self.room = 1;
         }
         Ok(())
@@ -113,7 +113,11 @@ impl<const LIMIT: usize> Book<LIMIT> {
         ensures spare { self.new.spare + 1 ≡ self.old.spare }
     {
         let place = self.entries.len() as u32 + 1;
-        self.keys.enter(entry.account, entry.key, place);
+        let past = Past {
+            site: &self.site,
+            entries: &self.entries,
+        };
+        self.indexes.enter(&past, &entry);
         self.entries.push_reserved(entry);
         self.room -= 1;
         self.reply_at(place)
@@ -129,11 +133,11 @@ impl<const LIMIT: usize> Book<LIMIT> {
         ensures gain { SettlesAt self.now.history place → IsGainReply self.now.history place result }
         ensures placed { ¬ (IssuesAt self.now.history place) → ¬ (SettlesAt self.now.history place) → result ≡ Reply.Placed place }
     {
-        let past = self.past();
-        if let Some(ticket) = past.ticket_at(place) {
+        let facts = self.facts();
+        if let Some(ticket) = facts.ticket_at(place) {
             return Reply::Ticket(ticket);
         }
-        match past.gain_at(place) {
+        match facts.gain_at(place) {
             Some(amount) => Reply::Gain { place, amount },
             None => Reply::Placed(place),
         }
@@ -171,7 +175,7 @@ impl<const LIMIT: usize> Book<LIMIT> {
         ensures ticket { IssuesAt self.now.history place → IsTicketReply self.now.history place result }
         ensures none { ¬ (IssuesAt self.now.history place) → result ≡ Reply.Refused Rule.UnknownTicket }
     {
-        match self.past().ticket_at(place) {
+        match self.facts().ticket_at(place) {
             Some(ticket) => Reply::Ticket(ticket),
             None => Reply::Refused(Rule::UnknownTicket),
         }
@@ -184,13 +188,13 @@ impl<const LIMIT: usize> Book<LIMIT> {
         ensures stock { IsSome (tank_after self.now.history tank) → IsStockReply self.now.history tank result }
         ensures no_tank { IsNone (tank_after self.now.history tank) → result ≡ Reply.Refused Rule.UnknownTank }
     {
-        let past = self.past();
-        match past.book_of(tank) {
+        let facts = self.facts();
+        match facts.book_of(tank) {
             Some(amount) => Reply::Stock {
                 tank,
                 amount,
-                reading: past.last_reading(tank).unwrap_or(0),
-                sample: past.last_sample(tank).unwrap_or(0),
+                reading: facts.last_reading(tank).unwrap_or(0),
+                sample: facts.last_sample(tank).unwrap_or(0),
             },
             None => Reply::Refused(Rule::UnknownTank),
         }
@@ -202,11 +206,20 @@ impl<const LIMIT: usize> Book<LIMIT> {
         ensures looked_up { result ≡ looked_up self.now.history Query.Total }
         ensures total { IsTotalReply self.now.history result }
     {
-        let past = self.past();
         Reply::Total {
-            entries: past.entries.len() as u32,
-            amount: past.total(),
+            entries: self.entries.len() as u32,
+            amount: self.facts().total(),
         }
+    }
+
+    // The facts of the history.
+    fn facts(&self) -> Indexed<'_>
+        ensures history { result ≡ self.now.history }
+        ensures sound { IsSound LIMIT self.now.history }
+        ensures readable { IsReadable self.now.history }
+        ensures limit { LIMIT ≤ MOST_LIMIT }
+    {
+        Indexed::new(self.past(), &self.indexes)
     }
 
     /// The site and the entries, to look among them.

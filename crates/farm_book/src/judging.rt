@@ -8,47 +8,46 @@ ghost use Rattle.farm_history.specs.History.{tank_after};
 ghost use Rattle.farm_history.specs.Places.{first_place};
 ghost use Rattle.farm_history.specs.Rules.{broken_by_command, is_full, is_missing, is_repeat, has_same_key, unknown_tank};
 ghost use Rattle.farm_history.specs.Verdicts.{IsLegal, repeated_or, verdict};
-ghost use Rattle.farm_book.specs.Kept.{AreIndexed};
 ghost use Rattle.farm_history.specs.declared.limits.TheConstants.{MOST_LIMIT, STOPS_BEYOND_LIMIT};
 
 use crate::field_rule::first_bad_field;
 use crate::gauging_rules::refused_gauging;
 use crate::movement_rules::{broken_by_movement, unknown_party};
 use farm_history::{Command, Entry, Plan, Rule, STOPS_BEYOND_LIMIT, Verdict};
+use farm_indexes::PastFacts;
 use history_lookups::Past;
-use key_index::KeyIndex;
 
 /// What the rules say of a further entry, where there may be `limit` entries.
 #[tactic(auto, unfolding(farm_history::specs::Verdicts::verdict, farm_history::specs::Rules::broken_rule, farm_history::specs::Rules::key_reused, farm_history::specs::Rules::history_full))]
-pub(crate) fn verdict_of(limit: usize, past: &Past<'_>, keys: &KeyIndex, entry: &Entry) -> Verdict
+pub(crate) fn verdict_of<F: PastFacts>(limit: usize, facts: &F, entry: &Entry) -> Verdict
     requires limit { limit ≤ MOST_LIMIT }
-    requires readable { IsReadable past.now }
-    requires legal { IsLegal limit past.now }
-    requires indexed { AreIndexed keys.now past.now.entries }
+    requires readable { IsReadable (F.history facts.now) }
+    requires legal { IsLegal limit (F.history facts.now) }
     requires command { IsWellFormedCommand entry.now.cmd }
-    ensures verdict { result ≡ verdict limit past.now entry.now }
-    ensures repeated { (place : ℕ) → result ≡ Verdict.Repeat place → (1 ≤ place) × (place ≤ length past.now.entries) }
+    ensures verdict { result ≡ verdict limit (F.history facts.now) entry.now }
+    ensures repeated { (place : ℕ) → result ≡ Verdict.Repeat place → (1 ≤ place) × (place ≤ length (F.history facts.now).entries) }
 {
-    if let Some(place) = used_place(past, keys, entry) {
-        return verdict_on_used(limit, past, place, entry);
+    let past = facts.past();
+    if let Some(place) = used_place(facts, entry) {
+        return verdict_on_used(limit, &past, place, entry);
     }
     if is_full(limit, past.entries.len(), entry.cmd.is_stop()) {
         return Verdict::Refused(Rule::HistoryFull);
     }
-    match broken_by_command(past, &entry.cmd) {
+    match broken_by_command(facts, &entry.cmd) {
         Some(rule) => Verdict::Refused(rule),
         None => Verdict::Accept,
     }
 }
 
 // The place at which the account and the key of an entry stand.
-fn used_place(past: &Past<'_>, keys: &KeyIndex, entry: &Entry) -> Option<u32>
-    requires indexed { AreIndexed keys.now past.now.entries }
-    ensures used { result ≡ first_place (has_same_key entry.now) past.now.entries }
-    ensures new { result ≡ None → first_place (is_repeat entry.now) past.now.entries ≡ None }
-    ensures within { IfSome result (λ place. (1 ≤ place) × (place ≤ length past.now.entries)) }
+fn used_place<F: PastFacts>(facts: &F, entry: &Entry) -> Option<u32>
+    requires readable { IsReadable (F.history facts.now) }
+    ensures used { result ≡ first_place (has_same_key entry.now) (F.history facts.now).entries }
+    ensures new { result ≡ None → first_place (is_repeat entry.now) (F.history facts.now).entries ≡ None }
+    ensures within { IfSome result (λ place. (1 ≤ place) × (place ≤ length (F.history facts.now).entries)) }
 {
-    keys.place_of(entry.account, entry.key)
+    facts.place_of(entry.account, entry.key)
 }
 
 // What is said of an entry whose account and key stand at a place: there the same command is repeated, and any other has a used key.
@@ -84,24 +83,25 @@ fn is_full(limit: usize, entries: usize, stop: bool) -> bool
 
 // The first rule that a command breaks whose key is new and for which there is room.
 #[tactic(auto, unfolding(farm_history::specs::Rules::broken_by_command, farm_history::specs::Rules::out_of_range))]
-fn broken_by_command(past: &Past<'_>, command: &Command) -> Option<Rule>
+fn broken_by_command<F: PastFacts>(facts: &F, command: &Command) -> Option<Rule>
     requires command { IsWellFormedCommand command.now }
-    requires readable { IsReadable past.now }
-    ensures broken { result ≡ broken_by_command past.now command.now }
+    requires readable { IsReadable (F.history facts.now) }
+    ensures broken { result ≡ broken_by_command (F.history facts.now) command.now }
 {
-    if let Some(rule) = unknown_tank(past, command) {
+    let past = facts.past();
+    if let Some(rule) = unknown_tank(&past, command) {
         return Some(rule);
     }
-    if let Some(rule) = unknown_party(past, command) {
+    if let Some(rule) = unknown_party(&past, command) {
         return Some(rule);
     }
     if let Some(field) = first_bad_field(command) {
         return Some(Rule::OutOfRange(field));
     }
-    if let Some(rule) = refused_gauging(past, command) {
+    if let Some(rule) = refused_gauging(&past, command) {
         return Some(rule);
     }
-    broken_by_movement(past, command)
+    broken_by_movement(facts, command)
 }
 
 // Rule 3: a tank that a command gives isn't of the site.

@@ -11,47 +11,48 @@ ghost use Rattle.farm_history.specs.Rules.{broken_by_movement, broken_by_names, 
 
 use crate::named_rules::broken_by_names;
 use farm_history::{Command, Plan, Rule};
+use farm_indexes::PastFacts;
 use farm_site::item_numbered;
 use farm_ticket::Ticket;
 use history_lookups::Past;
 
 /// The first rule on movements and tickets that a command breaks.
 #[tactic(auto, unfolding(farm_history::specs::Rules::broken_by_movement))]
-pub(crate) fn broken_by_movement(past: &Past<'_>, command: &Command) -> Option<Rule>
-    requires readable { IsReadable past.now }
-    ensures broken { result ≡ broken_by_movement past.now command.now }
+pub(crate) fn broken_by_movement<F: PastFacts>(facts: &F, command: &Command) -> Option<Rule>
+    requires readable { IsReadable (F.history facts.now) }
+    ensures broken { result ≡ broken_by_movement (F.history facts.now) command.now }
 {
     if let Some(rule) = same_tank(command) {
         return Some(rule);
     }
-    if let Some(rule) = other_product(past, command) {
+    if let Some(rule) = other_product(&facts.past(), command) {
         return Some(rule);
     }
-    if let Some(rule) = tank_busy(past, command) {
+    if let Some(rule) = tank_busy(facts, command) {
         return Some(rule);
     }
-    if let Some(rule) = no_movement(past, command) {
+    if let Some(rule) = no_movement(facts, command) {
         return Some(rule);
     }
-    if let Some(rule) = broken_by_names(past, command) {
+    if let Some(rule) = broken_by_names(facts, command) {
         return Some(rule);
     }
-    broken_by_ticket(past, command)
+    broken_by_ticket(facts, command)
 }
 
 // The first rule that is broken by the ticket which a Reverse names.
 #[tactic(auto, unfolding(farm_history::specs::Rules::broken_by_ticket))]
-fn broken_by_ticket(past: &Past<'_>, command: &Command) -> Option<Rule>
-    requires readable { IsReadable past.now }
-    ensures broken { result ≡ broken_by_ticket past.now command.now }
+fn broken_by_ticket<F: PastFacts>(facts: &F, command: &Command) -> Option<Rule>
+    requires readable { IsReadable (F.history facts.now) }
+    ensures broken { result ≡ broken_by_ticket (F.history facts.now) command.now }
 {
-    if let Some(rule) = unknown_ticket(past, command) {
+    if let Some(rule) = unknown_ticket(&facts.past(), command) {
         return Some(rule);
     }
-    if let Some(rule) = already_reversed(past, command) {
+    if let Some(rule) = already_reversed(facts, command) {
         return Some(rule);
     }
-    settled(past, command)
+    settled(facts, command)
 }
 
 /// Rule 4: the party of a receipt or a delivery isn't of the site.
@@ -97,25 +98,25 @@ fn other_product(past: &Past<'_>, command: &Command) -> Option<Rule>
 
 // Rule 11: a tank of an Opening or a Settle is named by an open movement.
 #[tactic(auto, unfolding(farm_history::specs::MovementRules::tank_busy))]
-fn tank_busy(past: &Past<'_>, command: &Command) -> Option<Rule>
-    requires readable { IsReadable past.now }
-    ensures rule { result ≡ tank_busy past.now command.now }
+fn tank_busy<F: PastFacts>(facts: &F, command: &Command) -> Option<Rule>
+    requires readable { IsReadable (F.history facts.now) }
+    ensures rule { result ≡ tank_busy (F.history facts.now) command.now }
 {
-    Some(Rule::TankBusy(holding(past, command)?))
+    Some(Rule::TankBusy(holding(facts, command)?))
 }
 
 // The place of the movement that holds a tank which a command needs free, the first tank's first.
-fn holding(past: &Past<'_>, command: &Command) -> Option<u32>
-    requires readable { IsReadable past.now }
-    ensures holding { result ≡ first_given (holding_movement past.now) (tanks_needed command.now) }
+fn holding<F: PastFacts>(facts: &F, command: &Command) -> Option<u32>
+    requires readable { IsReadable (F.history facts.now) }
+    ensures holding { result ≡ first_given (holding_movement (F.history facts.now)) (tanks_needed command.now) }
 {
     match command {
         Command::Opening(Plan::Outside { tank, .. }) | Command::Settle { tank, .. } => {
-            past.holding_movement(*tank)
+            facts.holding_movement(*tank)
         }
-        Command::Opening(Plan::Transfer { from, to, .. }) => match past.holding_movement(*from) {
+        Command::Opening(Plan::Transfer { from, to, .. }) => match facts.holding_movement(*from) {
             Some(place) => Some(place),
-            None => past.holding_movement(*to),
+            None => facts.holding_movement(*to),
         },
         _ => None,
     }
@@ -123,11 +124,11 @@ fn holding(past: &Past<'_>, command: &Command) -> Option<u32>
 
 // Rule 12: the movement of a Closing or a Cancel isn't the place of an open movement.
 #[tactic(auto, unfolding(farm_history::specs::MovementRules::no_movement))]
-fn no_movement(past: &Past<'_>, command: &Command) -> Option<Rule>
-    ensures rule { result ≡ no_movement past.now command.now }
+fn no_movement<F: PastFacts>(facts: &F, command: &Command) -> Option<Rule>
+    ensures rule { result ≡ no_movement (F.history facts.now) command.now }
 {
     let movement = movement_named(command)?;
-    match past.open_movement(movement) {
+    match facts.open_movement(movement) {
         Some(_) => None,
         None => Some(Rule::NoMovement),
     }
@@ -166,39 +167,39 @@ fn is_closing(command: &Command) -> bool
 
 // Rule 21, its first part: a Reverse names the ticket already.
 #[tactic(auto, unfolding(farm_history::specs::MovementRules::already_reversed))]
-fn already_reversed(past: &Past<'_>, command: &Command) -> Option<Rule>
-    requires readable { IsReadable past.now }
-    ensures rule { result ≡ already_reversed past.now command.now }
+fn already_reversed<F: PastFacts>(facts: &F, command: &Command) -> Option<Rule>
+    requires readable { IsReadable (F.history facts.now) }
+    ensures rule { result ≡ already_reversed (F.history facts.now) command.now }
 {
     let Command::Reverse { ticket } = command else {
         return None;
     };
-    Some(Rule::AlreadyReversed(past.reversal_of(*ticket)?))
+    Some(Rule::AlreadyReversed(facts.reversal_of(*ticket)?))
 }
 
 // Rule 21, its second part: the last Settle of a tank of the ticket is later than the ticket.
 #[tactic(auto, unfolding(farm_history::specs::MovementRules::settled))]
-fn settled(past: &Past<'_>, command: &Command) -> Option<Rule>
-    requires readable { IsReadable past.now }
-    ensures rule { result ≡ settled past.now command.now }
+fn settled<F: PastFacts>(facts: &F, command: &Command) -> Option<Rule>
+    requires readable { IsReadable (F.history facts.now) }
+    ensures rule { result ≡ settled (F.history facts.now) command.now }
 {
     let Command::Reverse { ticket: place } = command else {
         return None;
     };
-    let ticket = past.closing_ticket(*place)?;
-    Some(Rule::Settled(settled_after(past, *place, &ticket)?))
+    let ticket = facts.closing_ticket(*place)?;
+    Some(Rule::Settled(settled_after(facts, *place, &ticket)?))
 }
 
 // The place of the last Settle of a tank of a ticket, where it is later than the ticket, the first tank first.
-fn settled_after(past: &Past<'_>, place: u32, ticket: &Ticket) -> Option<u32>
-    requires readable { IsReadable past.now }
-    ensures settled { result ≡ settled_after past.now place ticket.now }
+fn settled_after<F: PastFacts>(facts: &F, place: u32, ticket: &Ticket) -> Option<u32>
+    requires readable { IsReadable (F.history facts.now) }
+    ensures settled { result ≡ settled_after (F.history facts.now) place ticket.now }
 {
-    if let Some(settle) = settled_later(place, past.last_settlement(ticket.first.tank)) {
+    if let Some(settle) = settled_later(place, facts.last_settlement(ticket.first.tank)) {
         return Some(settle);
     }
     let second = ticket.second.as_ref()?;
-    settled_later(place, past.last_settlement(second.tank))
+    settled_later(place, facts.last_settlement(second.tank))
 }
 
 // The place of a Settle, where it is later than a ticket.

@@ -11,25 +11,27 @@ ghost use Rattle.farm_history.specs.Rules.{broken_by_figures, broken_by_names};
 
 use crate::figure_rules::broken_by_figures;
 use farm_history::{Command, Gauged, Named, Plan, Rule};
+use farm_indexes::PastFacts;
 use history_lookups::{Pairs, Past, is_gauging_of, is_sample_of};
 
 /// The first rule that is broken by what a command names for its tanks.
 #[tactic(auto, unfolding(farm_history::specs::Rules::broken_by_names))]
-pub(crate) fn broken_by_names(past: &Past<'_>, command: &Command) -> Option<Rule>
-    requires readable { IsReadable past.now }
-    ensures broken { result ≡ broken_by_names past.now command.now }
+pub(crate) fn broken_by_names<F: PastFacts>(facts: &F, command: &Command) -> Option<Rule>
+    requires readable { IsReadable (F.history facts.now) }
+    ensures broken { result ≡ broken_by_names (F.history facts.now) command.now }
 {
+    let past = facts.past();
     let pairs = past.named_by(command);
-    if let Some(rule) = unknown_reading(past, command, &pairs) {
+    if let Some(rule) = unknown_reading(&past, command, &pairs) {
         return Some(rule);
     }
-    if let Some(rule) = unknown_sample(past, command, &pairs) {
+    if let Some(rule) = unknown_sample(&past, command, &pairs) {
         return Some(rule);
     }
-    if let Some(rule) = stale_reading(past, command, &pairs) {
+    if let Some(rule) = stale_reading(facts, command, &pairs) {
         return Some(rule);
     }
-    broken_by_figures(past, command, &pairs)
+    broken_by_figures(&past, command, &pairs)
 }
 
 // Rule 13: a named reading isn't one of that tank, or a Closing names too few or too many.
@@ -115,27 +117,27 @@ fn lacks_sample(past: &Past<'_>, pair: &Option<Named>) -> bool
 
 // Rule 15: a named reading is stale, the first tank's first.
 #[tactic(auto, unfolding(farm_history::specs::MovementRules::stale_reading))]
-fn stale_reading(past: &Past<'_>, command: &Command, pairs: &Pairs) -> Option<Rule>
-    requires pairs { listed pairs.now ≡ named_by past.now command.now }
-    ensures rule { result ≡ stale_reading past.now command.now }
+fn stale_reading<F: PastFacts>(facts: &F, command: &Command, pairs: &Pairs) -> Option<Rule>
+    requires pairs { listed pairs.now ≡ named_by (F.history facts.now) command.now }
+    ensures rule { result ≡ stale_reading (F.history facts.now) command.now }
 {
-    let place = match stale_for(past, command, &pairs.first) {
+    let place = match stale_for(facts, command, &pairs.first) {
         Some(place) => place,
-        None => stale_for(past, command, &pairs.second)?,
+        None => stale_for(facts, command, &pairs.second)?,
     };
     Some(Rule::StaleReading(place))
 }
 
 // The place for which a named reading is stale.
-fn stale_for(past: &Past<'_>, command: &Command, pair: &Option<Named>) -> Option<u32>
-    ensures stale { result ≡ first_given (stale_for past.now command.now) (listed_one pair.now) }
+fn stale_for<F: PastFacts>(facts: &F, command: &Command, pair: &Option<Named>) -> Option<u32>
+    ensures stale { result ≡ first_given (stale_for (F.history facts.now) command.now) (listed_one pair.now) }
 {
     let Some(pair) = pair else {
         return None;
     };
     match command {
         Command::Opening(_) | Command::Settle { .. } => {
-            let used = past.used_reading(pair.tank)?;
+            let used = facts.used_reading(pair.tank)?;
             (pair.gauged.reading < used).then_some(used)
         }
         Command::Closing { movement, .. } => {

@@ -32,14 +32,14 @@ unbroken limit history entry accepted =
     by (Some place) r e = cc
 
 -- a command breaks none of the rules from 3 on
-record BreaksNone (history : History) (command : Command) : Type 0 where
-  tank : unknown_tank history command ≡ None
-  range : out_of_range command ≡ None
-  gauging : option_and_then refused_gauging (gauging_after history command) ≡ None
-  movement : broken_by_movement history command ≡ None
+pub record BreaksNone (history : History) (command : Command) : Type 0 where
+  pub tank : unknown_tank history command ≡ None
+  pub range : out_of_range command ≡ None
+  pub gauging : option_and_then refused_gauging (gauging_after history command) ≡ None
+  pub movement : broken_by_movement history command ≡ None
 
 -- an accepted one does
-breaks_none : (limit : ℕ) (history : History) (entry : Entry) → verdict limit history entry ≡ Accept → BreaksNone history entry.cmd
+pub breaks_none : (limit : ℕ) (history : History) (entry : Entry) → verdict limit history entry ≡ Accept → BreaksNone history entry.cmd
 unfolding broken_rule broken_by_command
 breaks_none limit history entry accepted =
     let all = unbroken limit history entry accepted in

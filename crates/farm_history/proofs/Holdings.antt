@@ -120,13 +120,13 @@ none_holding begin tank (entry ∷ later) place e held =
     ]
 
 -- a command that opens a movement on a tank is an Opening whose plan names it
-record OpensOn (tank : ℕ) (command : Command) : Type 0 where
-  plan : Plan
-  opened : command ≡ Opening plan
-  named : IsTrue (names_tank tank plan)
+pub record OpensOn (tank : ℕ) (command : Command) : Type 0 where
+  pub plan : Plan
+  pub opened : command ≡ Opening plan
+  pub named : IsTrue (names_tank tank plan)
 
 -- so the test says
-opens_on_is : (tank : ℕ) (command : Command) → IsTrue (opens_on tank command) → OpensOn tank command
+pub opens_on_is : (tank : ℕ) (command : Command) → IsTrue (opens_on tank command) → OpensOn tank command
 opens_on_is tank (Opening plan) e = record { plan = plan; opened = refl; named = e }
 opens_on_is tank command e = cc
 

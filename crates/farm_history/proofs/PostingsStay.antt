@@ -72,13 +72,13 @@ pub place_grown : (history : History) (entry : Entry) → last_place (with_entry
 place_grown history entry = omega (arith, length-append history.entries (entry ∷ []))
 
 -- the entries before the next place are those of the history
-before_grown : (history : History) (entry : Entry) → before (with_entry history entry) (suc (last_place history)) ≡ history
+pub before_grown : (history : History) (entry : Entry) → before (with_entry history entry) (suc (last_place history)) ≡ history
 before_grown history entry =
     let make : List Entry → History = λ entries. record { site = history.site; entries = entries } in
     ap make (ap (λ n. take n (history.entries ++ entry ∷ [])) (sub-one (suc (last_place history))) ∙ take-append_seam history.entries (entry ∷ []))
 
 -- what stands there is the entry
-at_grown : (history : History) (entry : Entry) → entry_at (with_entry history entry) (suc (last_place history)) ≡ Some entry
+pub at_grown : (history : History) (entry : Entry) → entry_at (with_entry history entry) (suc (last_place history)) ≡ Some entry
 at_grown history entry =
     ap (entry_at (with_entry history entry)) (sym (add-one (last_place history)))
     ∙ at_after (with_entry history entry) history.entries [] entry refl

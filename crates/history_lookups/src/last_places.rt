@@ -96,8 +96,8 @@ pub fn is_sample_of(tank: u16, command: &Command) -> bool
     }
 }
 
-// Whether a command settles the book of a tank.
-fn settles(tank: u16, command: &Command) -> bool
+/// Whether a command settles the book of a tank.
+pub fn settles(tank: u16, command: &Command) -> bool
     ensures settles { result ≡ settles tank command.now }
 {
     match command {

@@ -17,8 +17,9 @@ mod tickets;
 
 pub use figures::{Pairs, tank_of};
 pub use gauging::gauged;
-pub use last_places::{is_gauging_of, is_sample_of};
+pub use last_places::{is_gauging_of, is_sample_of, settles};
 pub use ledger::Ledger;
+pub use movements::{ends, opens_on};
 pub use past::Past;
 pub use postings::Posted;
 pub use tickets::{ToClose, goes_wrong, issues_ticket};

@@ -63,8 +63,8 @@ impl Past<'_> {
         used
     }
 
-    // The reading that a command used for a tank. `None` where it used none.
-    fn used_by(&self, tank: u16, command: &Command) -> Option<u32>
+    /// The reading that a command used for a tank. `None` if it used none.
+    pub fn used_by(&self, tank: u16, command: &Command) -> Option<u32>
         ensures used { result ≡ used_by self.now tank command.now }
     {
         match command {
@@ -131,8 +131,8 @@ fn is_ended(movement: u32, entries: &[Entry]) -> bool
     false
 }
 
-// Whether a command closes or cancels a movement.
-fn ends(movement: u32, command: &Command) -> bool
+/// Whether a command closes or cancels a movement.
+pub fn ends(movement: u32, command: &Command) -> bool
     ensures ends { result ≡ ends movement command.now }
 {
     match command {
@@ -145,8 +145,8 @@ fn ends(movement: u32, command: &Command) -> bool
     }
 }
 
-// Whether a command opens a movement that names a tank.
-fn opens_on(tank: u16, command: &Command) -> bool
+/// Whether a command opens a movement that names a tank.
+pub fn opens_on(tank: u16, command: &Command) -> bool
     ensures opens { result ≡ opens_on tank command.now }
 {
     match command {

@@ -5,11 +5,9 @@ use Rattle.farm_book.proofs.Keys.{no_repeat, within_found}
 use Rattle.farm_book.proofs.judging.used_place.Goals as goal
 
 pub returns-clause-new : goal.returns-clause-new
-returns-clause-new c = λ none.
-    no_repeat c.args.past.now.entries c.args.entry.now
-    (sym (c.requires.indexed.places c.args.entry.now.account c.args.entry.now.key) ∙ sym c.place_of.ensures.place ∙ none)
+returns-clause-new g c = λ none.
+    no_repeat (g.F.PastFacts.history c.args.facts.now).entries c.args.entry.now (sym c.place_of.ensures.place ∙ none)
 
 pub returns-clause-within : goal.returns-clause-within
-returns-clause-within c =
-    within_found (has_same_key c.args.entry.now) c.args.past.now.entries c.place_of.result
-    (c.place_of.ensures.place ∙ c.requires.indexed.places c.args.entry.now.account c.args.entry.now.key)
+returns-clause-within g c =
+    within_found (has_same_key c.args.entry.now) (g.F.PastFacts.history c.args.facts.now).entries c.place_of.result c.place_of.ensures.place

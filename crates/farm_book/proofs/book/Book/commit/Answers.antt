@@ -1,12 +1,10 @@
 -- Answers to the open goals of `commit`.
-use Rattle.std.proofs.Common.{rules, ◌≡◌, ◌∙◌, ◌+◌, ℕ, [], ◌∷◌, length, Some, if◌then◌else◌, option_map, arith, ap, sym, subst, length-append}
-use Rattle.key_index.specs.Keys.{is_under, place_under}
+use Rattle.std.proofs.Common.{rules, ◌≡◌, ◌∙◌, ◌+◌, ℕ, [], ◌∷◌, length, option_map, arith, ap, sym, subst, length-append}
 use Rattle.farm_stock.specs.Books.{plus}
 use Rattle.farm_stock.specs.Postings.{amount_of, at_tank}
 use Rattle.farm_history.specs.declared.reply.Reply.TheVariants.{Placed}
 use Rattle.farm_history.specs.Conservation.{Moves}
 use Rattle.farm_history.specs.History.{History, last_place, with_entry}
-use Rattle.farm_history.specs.Places.{first_place}
 use Rattle.farm_history.specs.Postings.{postings_at}
 use Rattle.farm_history.specs.Sites.{AreRising}
 use Rattle.farm_history.specs.Stocks.{book_of, total_of}
@@ -14,37 +12,38 @@ use Rattle.farm_history.specs.Verdicts.{IsNext}
 use Rattle.farm_history.proofs.Books.{books_grow}
 use Rattle.farm_history.proofs.Repeats.{new_key}
 use Rattle.farm_history.proofs.Totals.{totals_grow}
-use Rattle.farm_book.specs.Kept.{Kept, has_key}
+use Rattle.farm_book.specs.Kept.{Kept}
 use Rattle.farm_book.specs.Replies.{IsGainReply, IsTicketReply, IssuesAt, SettlesAt}
-use Rattle.history_lookups.specs.Pasts.{history_of}
+use Rattle.farm_indexes.specs.Indexing.{AreIndexesOf}
+use Rattle.history_lookups.specs.Pasts.{IsReadable, history_of}
 use Rattle.farm_book.proofs.Entered.{entered_issues, entered_issues_none, entered_settles, entered_settles_none, where_entered}
-use Rattle.farm_book.proofs.Entries.{sound_more}
-use Rattle.farm_book.proofs.Keys.{more_indexed}
+use Rattle.farm_book.proofs.Entries.{sound_more, sound_readable}
 use Rattle.farm_book.proofs.book.Book.commit.Goals as goal
 use Rattle.farm_book.proofs.book.Book.commit.Goals.{After-reply_at}
 use Rattle.farm_book.proofs.book.Book.commit.Given.{Over}
 
 pub invariant_of-self : goal.invariant_of-self
 invariant_of-self g c =
-    let before : History = history_of c.self.inside.site c.self.inside.entries.items in
+    let site = c.self.inside.site in
+    let before : History = history_of site c.self.inside.entries.items in
     let next = subst (λ (kept : Kept). IsNext g.row.LIMIT kept.history c.args.entry) (sym c.self.view_is) c.requires.next in
-    let fresh = new_key g.row.LIMIT before c.args.entry next.accepted in
-    let counted : c.len.result ≡ length c.self.inside.entries.items = search rules in
-    let entered : (account key : ℕ) → place_under c.enter.new.self account key ≡
-    (if is_under c.args.entry.account c.args.entry.key account key then Some (length c.self.inside.entries.items + 1)
-    else place_under c.self.inside.keys account key) =
-    λ account key. subst (λ (n : ℕ). place_under c.enter.new.self account key ≡ (if is_under c.args.entry.account c.args.entry.key account key then Some (n + 1) else place_under c.self.inside.keys account key)) counted (c.enter.ensures.entered account key) in
+    let same : with_entry (history_of site c.deref.result.now) c.args.entry ≡ history_of site c.push_reserved.new.self.items =
+    ap (λ entries. with_entry (history_of site entries) c.args.entry) c.deref.ensures.value
+    ∙ ap (history_of site) (sym c.push_reserved.ensures.items) in
     let room = c.self.invariant.room_of_entries in
-    let keys = c.self.invariant.room_of_keys in
+    let indexes = c.self.invariant.room_of_indexes in
     record {
       sound = rw c.push_reserved.ensures.items (sound_more g.row.LIMIT before c.args.entry c.self.invariant.sound next);
-      indexed = record {
-        places = λ account key. more_indexed c.self.inside.entries.items c.args.entry (place_under c.self.inside.keys) (place_under c.enter.new.self)
-            c.self.invariant.indexed.places entered fresh account key ∙ ap (first_place (has_key account key)) (sym c.push_reserved.ensures.items);
-      };
+      indexed = subst (λ (history : History). AreIndexesOf history c.enter.new.self) same c.enter.ensures.indexes;
       room_of_entries = let len = c.push_reserved.ensures.len in let capacity = c.push_reserved.ensures.capacity in omega (arith, room, len, capacity);
-      room_of_keys = let left = c.enter.ensures.room in omega (arith, keys, left);
+      room_of_indexes = let left = c.enter.ensures.room in omega (arith, indexes, left);
     }
+
+pub enter-requires-clause-readable : goal.enter-requires-clause-readable
+enter-requires-clause-readable g c =
+    let site = c.self.inside.site in
+    let readable = sound_readable g.row.LIMIT (history_of site c.self.inside.entries.items) c.self.invariant.sound in
+    subst (λ entries. IsReadable (history_of site entries)) (sym c.deref.ensures.value) readable
 
 -- the history that the book has after it
 abbrev after : (g : Over) → After-reply_at g → History

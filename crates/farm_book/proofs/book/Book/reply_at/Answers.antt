@@ -9,15 +9,15 @@ use Rattle.farm_book.proofs.book.Book.reply_at.Given.{Over}
 
 -- a ticket that is found is that of the place
 ticket : (g : Over) (c : In-Some g) → ticket_at c.args.self.now.history c.args.place ≡ Some c.in-Some.ticket
-ticket g c = cc (c.ticket_at.ensures.ticket, c.in-Some.is, c.past-past.ensures.history)
+ticket g c = cc (c.ticket_at.ensures.ticket, c.in-Some.is, c.facts-facts.ensures.history)
 
 -- a gain that is found is that of the place
 gain : (g : Over) (c : In-Some-gain_at g) → gain_at c.args.self.now.history c.args.place ≡ Some c.in-Some-gain_at.amount
-gain g c = cc (c.gain_at.ensures.gain, c.in-Some-gain_at.is, c.past-past.ensures.history)
+gain g c = cc (c.gain_at.ensures.gain, c.in-Some-gain_at.is, c.facts-facts.ensures.history)
 
 -- where none is found, the place has none
 no_gain : (g : Over) (c : In-None g) → gain_at c.args.self.now.history c.args.place ≡ None
-no_gain g c = cc (c.gain_at.ensures.gain, c.in-None.is, c.past-past.ensures.history)
+no_gain g c = cc (c.gain_at.ensures.gain, c.in-None.is, c.facts-facts.ensures.history)
 
 pub returns-in-Some-clause-ticket : goal.returns-in-Some-clause-ticket
 returns-in-Some-clause-ticket g c = λ at. ticket_given c.args.self.now.history c.args.place c.in-Some.ticket (ticket g c)
@@ -34,8 +34,8 @@ returns-in-Some-clause-placed g c = λ none no_settle.
 pub returns-in-Some-gain_at-clause-ticket : goal.returns-in-Some-gain_at-clause-ticket
 returns-in-Some-gain_at-clause-ticket g c = λ at.
     let none : ticket_at c.args.self.now.history c.args.place ≡ None =
-    cc (c.ticket_at.ensures.ticket, c.in_default.is, c.past-past.ensures.history) in
-    absurd (none_there g.row.LIMIT c.args.self.now.history c.args.place c.past-past.ensures.sound none at)
+    cc (c.ticket_at.ensures.ticket, c.in_default.is, c.facts-facts.ensures.history) in
+    absurd (none_there g.row.LIMIT c.args.self.now.history c.args.place c.facts-facts.ensures.sound none at)
 
 pub returns-in-Some-gain_at-clause-gain : goal.returns-in-Some-gain_at-clause-gain
 returns-in-Some-gain_at-clause-gain g c = λ at. gain_given c.args.self.now.history c.args.place c.in-Some-gain_at.amount (gain g c)
@@ -47,9 +47,9 @@ returns-in-Some-gain_at-clause-placed g c = λ none no_settle.
 pub returns-in-None-clause-ticket : goal.returns-in-None-clause-ticket
 returns-in-None-clause-ticket g c = λ at.
     let none : ticket_at c.args.self.now.history c.args.place ≡ None =
-    cc (c.ticket_at.ensures.ticket, c.in_default.is, c.past-past.ensures.history) in
-    absurd (none_there g.row.LIMIT c.args.self.now.history c.args.place c.past-past.ensures.sound none at)
+    cc (c.ticket_at.ensures.ticket, c.in_default.is, c.facts-facts.ensures.history) in
+    absurd (none_there g.row.LIMIT c.args.self.now.history c.args.place c.facts-facts.ensures.sound none at)
 
 pub returns-in-None-clause-gain : goal.returns-in-None-clause-gain
 returns-in-None-clause-gain g c = λ at.
-    absurd (no_settle_there g.row.LIMIT c.args.self.now.history c.args.place c.past-past.ensures.sound (no_gain g c) at)
+    absurd (no_settle_there g.row.LIMIT c.args.self.now.history c.args.place c.facts-facts.ensures.sound (no_gain g c) at)

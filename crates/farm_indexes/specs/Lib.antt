@@ -1,0 +1,6 @@
+-- The definitions of `farm_indexes`, by subject.
+pub mod Keys
+pub mod TankStates
+pub mod Notes
+pub mod Following
+pub mod Indexing

@@ -1,0 +1,78 @@
+//! The indexes of a history.
+
+ghost use Rattle.std.specs.Prelude.{◌≡◌, ◌+◌, ◌≤◌, IfOk, OnErr, OnOk};
+ghost use Rattle.farm_history.specs.History.{History, empty_history, with_entry};
+ghost use Rattle.farm_indexes.specs.Following.{MayFollow};
+ghost use Rattle.farm_indexes.specs.Indexing.{AreIndexesOf, room};
+ghost use Rattle.farm_site.specs.Sites.{described};
+ghost use Rattle.history_lookups.specs.Pasts.{IsReadable};
+
+use crate::notes::Notes;
+use crate::tank_states::TankStates;
+use farm_base::NoMemory;
+use farm_history::Entry;
+use farm_site::Site;
+use history_lookups::{Ledger, Past};
+use key_index::KeyIndex;
+use std::alloc::Global;
+
+/// What is kept beside the entries of a history, and is what the whole list of them gives.
+///
+/// Contracts see it by `AreIndexesOf`, which says of which history they are, and `room`, for how many entries more there is memory.
+#[derive(Drop)]
+pub struct Indexes {
+    // Where the account and the key of each entry stand.
+    pub(crate) keys: KeyIndex,
+    // A note of each entry.
+    pub(crate) notes: Notes,
+    // What entries say of each tank.
+    pub(crate) states: TankStates,
+    // The book of each tank.
+    pub(crate) ledger: Ledger,
+}
+
+impl Indexes {
+    /// The indexes of a site's history before its first entry.
+    pub fn new(alloc: Global, site: &Site) -> Result<Indexes, NoMemory>
+        ensures indexes { IfOk result (AreIndexesOf (empty_history (described site.now))) }
+    {
+        let states = TankStates::new(alloc, site)?;
+        Ok(Indexes {
+            keys: KeyIndex::new(alloc),
+            notes: Notes::new(alloc),
+            states,
+            ledger: Ledger::opened(site.tanks.get()),
+        })
+    }
+
+    /// Makes room for one entry more. It fails only if there was no room and no memory for it. They stay the indexes that they are.
+    #[tactic(auto, unfolding(crate::specs::Indexing::room))]
+    pub fn reserve(&mut self) -> Result<(), NoMemory>
+        ensures indexes { (history : History) → AreIndexesOf history self.old → AreIndexesOf history self.new }
+        ensures room { OnOk result (1 ≤ room self.new) }
+        ensures no_room { OnErr result (room self.old ≡ 0) }
+        ensures never_falls { room self.old ≤ room self.new }
+    {
+        self.keys.reserve()?;
+        self.notes.reserve()?;
+        Ok(())
+    }
+
+    /// Takes an entry in that comes next after a past. It can't fail, and takes no memory.
+    #[tactic(auto, unfolding(crate::specs::Indexing::room))]
+    pub fn enter(&mut self, past: &Past<'_>, entry: &Entry)
+        requires follows { MayFollow past.now entry.now }
+        requires readable { IsReadable past.now }
+        requires indexes { AreIndexesOf past.now self.old }
+        requires room { 1 ≤ room self.old }
+        ensures indexes { AreIndexesOf (with_entry past.now entry.now) self.new }
+        ensures room { room self.old ≤ room self.new + 1 }
+    {
+        let place = past.entries.len() as u32 + 1;
+        let posted = past.posted_by(&self.ledger, &entry.cmd);
+        self.keys.enter(entry.account, entry.key, place);
+        self.notes.enter(past, entry, &posted);
+        self.states.enter(past, entry);
+        self.ledger.post(&posted);
+    }
+}
