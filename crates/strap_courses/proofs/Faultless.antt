@@ -19,7 +19,6 @@ low_enough top height none = grind (arith, nat_tests)
 
 -- parts without a fault
 pub record Faultless (tank : StrappedTank) : Type 0 where
-  pub deadwoods : bad_deadwood (bottom_height tank.bottom) 1 tank.deadwoods ≡ None
   pub points : bad_point tank.bottom ≡ None
   pub height : height_of tank.courses ≤ unsigned_abs MOST_HEIGHT
 
@@ -37,7 +36,6 @@ faultless tank none =
     let deadwoods = or_else-none deadwood (or_else bottom height) past_courses in
     let others = or_else-none bottom height deadwoods.1 in
     record {
-      deadwoods = no_number (λ n. BadDeadwood n) (bad_deadwood top 1 tank.deadwoods) deadwoods.0;
       points = no_number (λ n. BadBottom n) (bad_point tank.bottom) others.0;
       height = low_enough top (height_of tank.courses) others.1;
     }

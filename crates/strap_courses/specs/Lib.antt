@@ -3,3 +3,4 @@ pub mod Limits
 pub mod Courses
 pub mod Faults
 pub mod Rows
+pub mod Passes

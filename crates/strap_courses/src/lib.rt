@@ -6,11 +6,13 @@
 #![tactic(auto)]
 
 mod bottom;
+mod climb;
 mod deadwood;
 mod faults;
 mod heights;
 mod number_laws;
 mod parts;
+mod quotient;
 mod shell;
 mod strapping;
 

@@ -3,7 +3,7 @@
 ghost use Rattle.std.specs.Prelude.{◌≡◌, ◌≤◌, ◌-◌, ◌*◌, ◌^◌, pos, ◌+ℤ◌, ◌-ℤ◌, ◌*ℤ◌};
 ghost use Rattle.std.specs.Int.RustNames.{unsigned_abs};
 ghost use Rattle.farm_fixed.specs.declared.limits.TheConstants.{MOST_HEIGHT};
-ghost use Rattle.strap_courses.specs.Courses.{held_between, height_of, scaled_circumference, shared_height};
+ghost use Rattle.strap_courses.specs.Courses.{height_of, scaled_circumference, shared_height};
 
 use crate::Course;
 use crate::heights::millimetres;
@@ -69,18 +69,12 @@ pub(crate) fn height(courses: &[Course]) -> u128
     height
 }
 
-/// What the courses hold between two heights, times `per_litre`.
-pub(crate) fn held_between(courses: &[Course], low: u64, high: u64) -> u128
-    requires { height_of courses.now ≤ unsigned_abs MOST_HEIGHT }
-    ensures value { result ≡ held_between low high 0 courses.now }
-    ensures size { result ≤ 10 ^ 26 }
+/// What a course that reaches from one height to another holds between two heights, times `per_litre`.
+pub(crate) fn held_by(course: &Course, low: u64, high: u64, from: u64, to: u64) -> u128
+    requires order { from ≤ to }
+    requires height { to ≤ unsigned_abs MOST_HEIGHT }
+    ensures value { result ≡ unsigned_abs (scaled_circumference course.now) ^ 2 * shared_height low high from to }
+    ensures size { result ≤ 2 * 10 ^ 21 * (to - from) }
 {
-    let mut held = 0;
-    let mut from = 0;
-    for course in courses {
-        let to = from + millimetres(course.height);
-        held += held_by_one(course) * u128::from(shared_height(low, high, from, to));
-        from = to;
-    }
-    held
+    held_by_one(course) * u128::from(shared_height(low, high, from, to))
 }

@@ -8,12 +8,14 @@ ghost use Rattle.farm_fixed.specs.declared.limits.TheConstants.{MOST_HEIGHT};
 ghost use Rattle.strap_courses.specs.declared.faults.StrapFault.TheVariants.{NoMemory};
 ghost use Rattle.strap_courses.specs.Courses.{bottom_height, exact_volume};
 ghost use Rattle.strap_courses.specs.Faults.{HaveFault, IsTank, first_fault, found, reported};
-ghost use Rattle.strap_courses.specs.Rows.{HaveRowFault, IsStrappedTable, row_count, rounded_litres, strapped_row, strapped_rows, wrong_row};
+ghost use Rattle.strap_courses.specs.Passes.{IsClimb};
+ghost use Rattle.strap_courses.specs.Rows.{HaveRowFault, IsStrappedTable, deadwood_parts, row_count, rounded_litres, strapped_row, strapped_rows, wrong_row};
 
 use crate::bottom::{bottom_height, bottom_row, whole_bottom};
-use crate::deadwood::deadwood_parts;
+use crate::climb::Climb;
+use crate::deadwood::rises;
 use crate::faults::first_fault;
-use crate::shell::{height, held_between};
+use crate::shell::height;
 use crate::{Course, Deadwood, StrapFault};
 use farm_fixed::{MOST_LITRES, Mm};
 use farm_rounding::{RoundTable, STRAPPED_ROW, product, sum, wide_difference};
@@ -77,8 +79,8 @@ impl Strapping {
     /// The rows of its capacity table, in litres: row i at 10 i mm, for each such height up to the sum of the courses.
     ///
     /// A row is the volume of bottom and courses by the rounding of strapped rows, less each deadwood's part by its own
-    /// rounding. `TooLarge` or `NotRising` at the first row that is wrong, in this order at one row. Each row is summed from
-    /// the bottom anew.
+    /// rounding. `TooLarge` or `NotRising` at the first row that is wrong, in this order at one row. Takes the memory of the
+    /// rows and of as many sums in 128 bits.
     pub fn rows(&self, alloc: Global, rounding: &RoundTable) -> Result<Vec<i64>, StrapFault>
         ensures rows { MatchResult result (λ rows. strapped_rows rounding.now self.now ≡ Ok rows.items) (λ fault. IsRefusedAs (reported fault) (strapped_rows rounding.now self.now)) }
         ensures meaning { IfOk result (λ rows. IsStrappedTable rounding.now self.now rows.items) }
@@ -86,11 +88,15 @@ impl Strapping {
         ensures tank { first_fault self.now ≡ None }
     {
         let count = self.row_count();
+        let rises = rises(alloc, rounding, &self.deadwoods, count)?;
         let mut rows = Vec::new(alloc);
         rows.reserve(count)?;
+        let mut climb = Climb::begin();
+        let mut parts = 0;
         let mut before = 0;
         for i in 0..count {
-            let row = self.row(rounding, i as u64);
+            parts += rises[i];
+            let row = self.row(rounding, &mut climb, parts, i as u64);
             if let Some(fault) = wrong_row(i, before, row) {
                 return Err(fault);
             }
@@ -111,20 +117,29 @@ impl Strapping {
 
     // Row i: bottom and courses up to 10 i mm, less the deadwoods.
     #[tactic(auto, unfolding(crate::specs::Rows::strapped_row))]
-    fn row(&self, rounding: &RoundTable, i: u64) -> i128
-        requires { 10 * i ≤ unsigned_abs MOST_HEIGHT }
-        ensures { result ≡ strapped_row rounding.now self.now i }
+    fn row(&self, rounding: &RoundTable, climb: &mut Climb, parts: i128, i: u64) -> i128
+        requires height { 10 * i ≤ unsigned_abs MOST_HEIGHT }
+        requires climb { IsClimb (bottom_height self.now.bottom) self.now.courses climb.old }
+        requires not_above { climb.old.from ≤ 10 * i }
+        requires parts { parts ≡ deadwood_parts rounding.now (10 * i) self.now.deadwoods }
+        requires size { unsigned_abs parts ≤ 10 ^ 36 }
+        ensures value { result ≡ strapped_row rounding.now self.now i }
+        ensures climb { IsClimb (bottom_height self.now.bottom) self.now.courses climb.new }
+        ensures not_above { climb.new.from ≤ 10 * i }
     {
-        let parts = deadwood_parts(rounding, &self.deadwoods, 10 * i);
-        wide_difference(self.volume(rounding, 10 * i), parts)
+        wide_difference(self.volume(rounding, climb, 10 * i), parts)
     }
 
     // The volume of bottom and courses up to a height, rounded.
     #[tactic(auto, unfolding(crate::specs::Courses::exact_volume))]
-    fn volume(&self, rounding: &RoundTable, height: u64) -> i128
-        requires { height ≤ unsigned_abs MOST_HEIGHT }
+    fn volume(&self, rounding: &RoundTable, climb: &mut Climb, height: u64) -> i128
+        requires height { height ≤ unsigned_abs MOST_HEIGHT }
+        requires climb { IsClimb (bottom_height self.now.bottom) self.now.courses climb.old }
+        requires not_above { climb.old.from ≤ height }
         ensures value { result ≡ rounded_litres rounding.now STRAPPED_ROW (exact_volume self.now height) }
         ensures size { unsigned_abs result ≤ 10 ^ 36 }
+        ensures climb { IsClimb (bottom_height self.now.bottom) self.now.courses climb.new }
+        ensures not_above { climb.new.from ≤ height }
     {
         let top = bottom_height(&self.bottom);
         if height <= top {
@@ -134,7 +149,7 @@ impl Strapping {
             PER_LITRE as i64,
             whole_bottom(&self.bottom),
         );
-        let above = held_between(&self.courses, top, height) as i128;
+        let above = climb.held_up_to(&self.courses, top, height) as i128;
         rounding.round(STRAPPED_ROW, sum(below, above), i128::from(PER_LITRE))
     }
 }

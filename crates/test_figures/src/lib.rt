@@ -23,6 +23,8 @@ mod rounding;
 #[cfg(test)]
 mod strap_faults;
 #[cfg(test)]
+mod strapped_rows;
+#[cfg(test)]
 mod strapping;
 #[cfg(test)]
 mod ten_figures;

@@ -103,7 +103,8 @@ fn wall_of(
     }
 }
 
-const FLAT: &[(i64, i64)] = &[(0, 0)];
+/// A flat bottom.
+pub(crate) const FLAT: &[(i64, i64)] = &[(0, 0)];
 
 /// A strapped tank of the figures of its parts.
 pub(crate) fn tank_of(
@@ -137,11 +138,11 @@ pub(crate) fn rows_of(
     Ok(rows)
 }
 
-// Rows of a table: the index and the litres of each.
-type Rows = &'static [(&'static str, usize, i64)];
+/// Rows of a table: the index and the litres of each.
+pub type Rows = &'static [(&'static str, usize, i64)];
 
-// The rows of a table are these.
-fn check_rows<R: Print>(checks: &mut Checks<'_, R>, rows: &[i64], wants: Rows) {
+/// The rows of a table are these.
+pub(crate) fn check_rows<R: Print>(checks: &mut Checks<'_, R>, rows: &[i64], wants: Rows) {
     for (name, index, want) in wants {
         checks.same_at(name, rows.get(*index).copied(), Some(*want));
     }

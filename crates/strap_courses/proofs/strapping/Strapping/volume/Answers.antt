@@ -27,8 +27,8 @@ whole_bottom-requires c =
     let P : List Point → Type 0 = λ points. bad_point points ≡ None in
     subst P (sym c.deref-2.ensures.value) good.points
 
-pub held_between-above-requires : goal.held_between-above-requires
-held_between-above-requires c =
+pub held_up_to-above-requires-clause-height : goal.held_up_to-above-requires-clause-height
+held_up_to-above-requires-clause-height c =
     let inside = c.self.inside in
     let good = faultless (record { courses = inside.courses.items; deadwoods = inside.deadwoods.items; bottom = inside.bottom.items }) c.self.invariant in
     let P : List Course → Type 0 = λ courses. height_of courses ≤ unsigned_abs MOST_HEIGHT in
@@ -43,12 +43,12 @@ returns-clause-value c =
     c.bottom_height-top.ensures.value ∙ ap (λ (points : List Point). bottom_height points) c.deref.ensures.value in
     let whole : c.whole_bottom.result ≡ (last_point tank.bottom).1 =
     c.whole_bottom.ensures.value ∙ ap (λ (points : List Point). (last_point points).1) c.deref-2.ensures.value in
-    let held : c.held_between-above.result ≡ held_between top c.args.height 0 tank.courses =
-    c.held_between-above.ensures.value ∙ ap (λ (courses : List Course). held_between top c.args.height 0 courses) c.deref-3.ensures.value in
-    let lifted : to_z w128 c.held_between-above.result ≡ pos c.held_between-above.result = omega (arith, ints, c.held_between-above.ensures.size) in
+    let held : c.held_up_to-above.result ≡ held_between top c.args.height 0 tank.courses =
+    c.held_up_to-above.ensures.value ∙ ap (λ (courses : List Course). held_between top c.args.height 0 courses) c.deref-3.ensures.value in
+    let lifted : to_z w128 c.held_up_to-above.result ≡ pos c.held_up_to-above.result = omega (arith, ints, c.held_up_to-above.ensures.size) in
     let below = to_z-of_z w128 c.product-below.result (search rules) in
-    let num : c.sum.result ≡ c.product-below.result +ℤ pos c.held_between-above.result = cc (c.sum.ensures.sum) in
+    let num : c.sum.result ≡ c.product-below.result +ℤ pos c.held_up_to-above.result = cc (c.sum.ensures.sum) in
     let P : StrappedTank → Type 0 = λ tank. to_z w128 (of_z w128 c.round.result) ≡ rounded_litres c.args.rounding.now STRAPPED_ROW (exact_volume tank c.args.height) in
     subst P c.self.view_is
-    (of_the_shell c.args.rounding.now STRAPPED_ROW tank c.args.height top c.held_between-above.result c.whole_bottom.result c.product-below.result c.sum.result c.from.result (to_z w128 (of_z w128 c.round.result))
+    (of_the_shell c.args.rounding.now STRAPPED_ROW tank c.args.height top c.held_up_to-above.result c.whole_bottom.result c.product-below.result c.sum.result c.from.result (to_z w128 (of_z w128 c.round.result))
     c.if-height-top.false top_is whole held (search rules) num (search rules) (search rules))

@@ -1,0 +1,44 @@
+-- Quotients and what is left over.
+use Rattle.std.proofs.Common.{◌≡◌, ℕ, ◌+◌, ◌*◌, ◌/◌, ◌%◌, ◌<◌, ◌≤◌, nat_le, true, false, refl, arith}
+use Rattle.std.proofs.lemmas.Nat.{div-add-mod', div_below, le-div}
+use Rattle.std.proofs.lemmas.Bool.Decides.{nat_tests}
+use Rattle.farm_rounding.specs.declared.mode.Mode.{Mode}
+use Rattle.farm_rounding.specs.declared.mode.Mode.TheVariants.{HalfAway, TowardZero}
+use Rattle.farm_rounding.specs.Multiple.{steps_to}
+
+-- so many wholes and less than one have one quotient
+pub quotient_is : (wholes whole left : ℕ) → left < whole → (wholes * whole + left) / whole ≡ wholes
+quotient_is wholes whole left few =
+    let low : wholes ≤ (wholes * whole + left) / whole = le-div wholes (wholes * whole + left) whole (omega arith) (omega arith) in
+    let high : (wholes * whole + left) / whole < wholes + 1 = div_below (wholes * whole + left) whole (wholes + 1) (omega arith) (omega arith) in
+    omega arith
+
+-- and one remainder
+pub remainder_is : (wholes whole left : ℕ) → left < whole → (wholes * whole + left) % whole ≡ left
+remainder_is wholes whole left few =
+    let same = quotient_is wholes whole left few in
+    let number : wholes * whole + (wholes * whole + left) % whole ≡ wholes * whole + left =
+    rw same at (div-add-mod' (wholes * whole + left) whole) in
+    omega arith
+
+-- half a whole or more makes one more
+pub rounded_up : (wholes whole left : ℕ) → left < whole → whole ≤ 2 * left → steps_to HalfAway (wholes * whole + left) whole ≡ wholes + 1
+unfolding steps_to
+rounded_up wholes whole left few half =
+    let test : nat_le whole (2 * left) ≡ true = grind (arith, nat_tests) in
+    rw (quotient_is wholes whole left few, remainder_is wholes whole left few, test) refl
+
+-- less than half makes none
+pub rounded_down : (wholes whole left : ℕ) → left < whole → 2 * left < whole → steps_to HalfAway (wholes * whole + left) whole ≡ wholes
+unfolding steps_to
+rounded_down wholes whole left few half =
+    let test : nat_le whole (2 * left) ≡ false = grind (arith, nat_tests) in
+    rw (quotient_is wholes whole left few, remainder_is wholes whole left few, test) (omega arith)
+
+-- nothing is rounded to nothing
+pub none_rounded : (mode : Mode) (whole : ℕ) → 0 < whole → steps_to mode 0 whole ≡ 0
+unfolding steps_to
+none_rounded HalfAway whole positive =
+    let test : nat_le whole (2 * (0 % whole)) ≡ false = grind (arith, nat_tests) in
+    rw test (omega arith)
+none_rounded TowardZero whole positive = omega arith
