@@ -10,7 +10,7 @@ use Rattle.batch_lines.specs.declared.limits.TheConstants.{LINE_FEED, MOST_BYTES
 use Rattle.batch_lines.specs.declared.reader.Moved.{Moved}
 use Rattle.batch_lines.specs.declared.reader.Moved.TheVariants as moves
 use Rattle.batch_lines.specs.Lines.{IsOneLine}
-use Rattle.batch_lines.specs.Reader.{AtEnd, Holds, Moves, ReaderState, ReadsFault, ReadsLast, ReadsLine, ReadsNothing, ReadsTooMuch}
+use Rattle.batch_lines.specs.Reader.{AtEnd, Holds, Moves, ReaderState, ReadsFault, ReadsLast, ReadsLine, ReadsNothing, ReadsTooMuch, StopsWithin}
 
 -- what a reader has read of a line: what was in hand and what it took since are that line so far and what is in hand now, and it took
 -- nothing while a line feed was in hand
@@ -34,7 +34,7 @@ pub record GoesOn (old now : ReaderState) (from to : Option Stream) : Type 0 whe
 abbrev pub Comes : ReaderState → ReaderState → Option Stream → Option Stream → Moved → Type 0
 Comes old new from to moves.Ended = ReadsLine old new from to
 Comes old new from to moves.All = GoesOn old new from to
-Comes old new from to moves.Long = ReadsTooMuch old from to
+Comes old new from to moves.Long = ReadsTooMuch old from to × StopsWithin old new from to
 
 -- a bound on the cuts of a line that are still to come
 abbrev pub cuts_left : Moved → ℕ → ℕ
@@ -86,6 +86,18 @@ stands_refilled old now filled from middle to stands empty takes holds passed_is
   passed = passed_is ∙ stands.passed;
 }
 
+-- what was read of a line is read where it stops
+pub stops_within : (old now : ReaderState) (from to : Option Stream) → Stands old now from to → StopsWithin old now from to
+stops_within old now from to stands = record {
+  line = stands.line;
+  taken = stands.taken;
+  moved = stands.moved;
+  split = stands.split;
+  one_line = stands.one_line;
+  held = stands.held;
+  passed = stands.passed;
+}
+
 -- a cut into what is in hand ends the line, leaves it open, or finds a byte too many
 pub cut_comes : (old start new : ReaderState) (from to : Option Stream) (moved : Moved) →
     Stands old start from to → Moves start new moved → Comes old new from to moved
@@ -116,20 +128,23 @@ cut_comes old start new from to moves.All stands cut = record {
   empty = cut.empty;
   within = cut.within;
 }
-cut_comes old start new from to moves.Long stands cut = record {
-  taken = stands.taken;
-  moved = stands.moved;
-  too_many = record {
-    front = stands.line ++ cut.front;
-    byte = cut.byte;
-    back = cut.back;
-    split =
-        stands.split ∙ ap (λ t. stands.line ++ t) cut.split
-        ∙ sym (append_assoc stands.line cut.front (cut.byte ∷ cut.back));
-    one_line = All-append (λ byte. byte ≢ LINE_FEED) stands.line cut.front stands.one_line cut.one_line;
-    all = omega (arith, length-append stands.line cut.front, cut.all, stands.passed);
-  };
-}
+cut_comes old start new from to moves.Long stands cut = (
+  record {
+    taken = stands.taken;
+    moved = stands.moved;
+    too_many = record {
+      front = stands.line ++ cut.too_many.front;
+      byte = cut.too_many.byte;
+      back = cut.too_many.back;
+      split =
+          stands.split ∙ ap (λ t. stands.line ++ t) cut.too_many.split
+          ∙ sym (append_assoc stands.line cut.too_many.front (cut.too_many.byte ∷ cut.too_many.back));
+      one_line = All-append (λ byte. byte ≢ LINE_FEED) stands.line cut.too_many.front stands.one_line cut.too_many.one_line;
+      all = omega (arith, length-append stands.line cut.too_many.front, cut.too_many.all, stands.passed);
+    };
+  },
+  subst (λ (now : ReaderState). StopsWithin old now from to) (sym cut.as_before) (stops_within old start from to stands),
+)
 
 -- at the end of the stream the line so far is the last one, where it isn't empty
 pub last_comes : (old now : ReaderState) (from to : Option Stream) →

@@ -51,11 +51,16 @@ pub record CutsAll (old new : ReaderState) : Type 0 where
   pub passed : new.passed ≡ old.passed + length old.in_hand
   pub within : new.passed ≤ most_bytes
 
+-- what is in hand holds a byte too many, and nothing was cut off
+pub record FindsTooMany (old new : ReaderState) : Type 0 where
+  pub too_many : HasByteTooMany old.passed old.in_hand
+  pub as_before : new ≡ old
+
 -- what one cut into the bytes in hand does
 abbrev pub Moves : ReaderState → ReaderState → Moved → Type 0
 Moves old new moves.Ended = CutsEnd old new
 Moves old new moves.All = CutsAll old new
-Moves old new moves.Long = HasByteTooMany old.passed old.in_hand
+Moves old new moves.Long = FindsTooMany old new
 
 -- a line was read, and the line feed after it; nothing was taken where the whole line was in hand
 pub record ReadsLine (old new : ReaderState) (from to : Option Stream) : Type 0 where
@@ -108,6 +113,16 @@ pub record ReadsFault (old : ReaderState) (from to : Option Stream) (source : Co
   pub moved : Takes from to taken
   pub one_line : IsOneLine (old.in_hand ++ taken)
   pub risen : HasRisen source
+
+-- A line was begun and not ended: this much of it was read and cut off, and what was taken behind that is in hand.
+pub record StopsWithin (old new : ReaderState) (from to : Option Stream) : Type 0 where
+  pub line : List ℕ
+  pub taken : List ℕ
+  pub moved : Takes from to taken
+  pub split : old.in_hand ++ taken ≡ line ++ new.in_hand
+  pub one_line : IsOneLine line
+  pub held : Holds new line
+  pub passed : new.passed ≡ old.passed + length line
 
 -- what reading a line does
 abbrev pub Reads : ReaderState → ReaderState → Option Stream → Option Stream → Count → Cut → Type 0

@@ -4,7 +4,7 @@ ghost use Rattle.std.specs.Prelude.{◌≡◌, ◌≢◌, ◌+◌, ◌≤◌, �
 ghost use Rattle.farm_base.specs.Counts.{Counts, CountsIf, count_of};
 ghost use Rattle.farm_base.specs.Known.{Takes};
 ghost use Rattle.batch_lines.specs.declared.limits.TheConstants.{MOST_BYTES};
-ghost use Rattle.batch_lines.specs.Reader.{AtEnd, Extends, Holds, LooksOn, Moves, Reads, TakesOn};
+ghost use Rattle.batch_lines.specs.Reader.{AtEnd, Extends, Holds, LooksOn, Moves, Reads, StopsWithin, TakesOn};
 
 use crate::limits::{LINE_FEED, MOST_BYTES, MOST_REQUEST_LINE_BYTES};
 use farm_base::NoMemory;
@@ -98,6 +98,11 @@ impl LineReader {
     pub fn read<S: Source>(&mut self, input: &mut S) -> Cut
         ensures reads { Reads self.old self.new (S.stream input.old) (S.stream input.new) (count_of S.faults input.old input.new) result }
         ensures counts { CountsIf (result ≡ Cut.Failed) (S.faults input.old) (S.faults input.new) }
+
+        // After a byte too many, or a fault of the source, the line stays begun; after a fault nothing is in hand.
+        ensures long { result ≡ Cut.Long → StopsWithin self.old self.new (S.stream input.old) (S.stream input.new) }
+        ensures failed { result ≡ Cut.Failed → StopsWithin self.old self.new (S.stream input.old) (S.stream input.new) }
+        ensures empty { result ≡ Cut.Failed → self.new.in_hand ≡ [] }
     {
         self.length = 0;
         let mut moved = self.cut();
@@ -123,6 +128,7 @@ impl LineReader {
     pub fn has_more<S: Source>(&mut self, input: &mut S) -> Result<bool, Failed>
         ensures looks { LooksOn self.old (S.stream input.old) (S.stream input.new) (count_of S.faults input.old input.new) result }
         ensures keeps { OnOk result (TakesOn self.old self.new (S.stream input.old) (S.stream input.new)) }
+        ensures as_before { OnErr result (self.new ≡ self.old) }
         ensures counts { Counts (S.faults input.old) (S.faults input.new) result }
     {
         if self.start < self.end {
@@ -138,6 +144,7 @@ impl LineReader {
         ensures count { IfOk result (λ count. count ≡ length self.new.in_hand) }
         ensures at_end { result ≡ Ok 0 → AtEnd (S.stream input.new) }
         ensures failed { OnErr result (Takes (S.stream input.old) (S.stream input.new) []) }
+        ensures as_before { OnErr result (self.new ≡ self.old) }
         ensures line { self.new.line ≡ self.old.line }
         ensures held { (line : List ℕ) → Holds self.old line → Holds self.new line }
         ensures passed { self.new.passed ≡ self.old.passed }

@@ -36,7 +36,7 @@ impl<const LIMIT: usize> Book<LIMIT> {
     pub fn enter(&mut self, bytes: &[u8]) -> Result<(), EnterFault>
         ensures entered { OnOk result (Enters LIMIT self.old.history self.new.history bytes.now) }
         ensures not_next { result ≡ Err EnterFault.NotNext → IsNextEncoding LIMIT self.old.history bytes.now → ⊥ }
-        ensures refused { OnErr result (self.new.history ≡ self.old.history) }
+        ensures refused { OnErr result (self.new ≡ self.old) }
     {
         let Ok(entry) = Entry::read(bytes) else {
             return Err(EnterFault::NotNext);

@@ -93,6 +93,10 @@ impl<D: Disk, const LIMIT: usize> Desk<D, LIMIT> {
 
         // Memory is taken before the first byte is written.
         ensures unwritten { self.old.doubt ≡ false → result ≡ Answer.NoMemory → self.new.disk ≡ self.old.disk }
+
+        // Nothing is in doubt where memory ran out, and an entry comes into doubt only as it is entered.
+        ensures sure { result ≡ Answer.NoMemory → self.new.doubt ≡ false }
+        ensures stays_sure { self.old.doubt ≡ false → self.new.history ≡ self.old.history → self.new.doubt ≡ false }
         ensures moves { MovesOn (D.trace self.old.disk) (D.trace self.new.disk) (D.moment self.old.disk) (D.moment self.new.disk) }
         ensures counts { CountsOnceIf (result ≡ Answer.DiskFault) (D.faults self.old.disk) (D.faults self.new.disk) }
         ensures failed { result ≡ Answer.DiskFault → self.new.failed ≡ raised 1 self.old.failed }

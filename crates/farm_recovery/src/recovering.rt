@@ -1,10 +1,11 @@
 //! What is recovered of a journal: the book of its site, and then its entries.
 
-ghost use Rattle.std.specs.Prelude.{◌≡◌, ◌+◌, ◌<◌, ◌≤◌, ℕ, List, None, Some, IsSome};
+ghost use Rattle.std.specs.Prelude.{◌≡◌, ◌≢◌, ◌+◌, ◌<◌, ◌≤◌, ℕ, List, [], length, None, Some, IsSome};
 ghost use Rattle.farm_history.specs.History.{last_place};
 ghost use Rattle.farm_history.specs.declared.limits.TheConstants.{MOST_LIMIT, STOPS_BEYOND_LIMIT};
 ghost use Rattle.farm_journal.specs.Recovery.{IsJudged, IsRefusal, TakesNext};
 ghost use Rattle.farm_journal.specs.declared.faults.RecoverFault.{RecoverFault};
+ghost use Rattle.farm_journal.specs.declared.limits.TheConstants.{MAX_BODIES};
 ghost use Rattle.farm_recovery.specs.Accepting.{accepted_next, taken_of};
 ghost use Rattle.journaled_book.specs.Histories.{IsRecordable};
 ghost use Rattle.farm_recovery.specs.Recovery.{IsRefused};
@@ -72,7 +73,12 @@ impl<const LIMIT: usize> Taker for Recovering<LIMIT> {
 
     ghost accepts = { accepted_next LIMIT };
 
-    fn header(&mut self, bytes: &[u8]) -> Taken {
+    fn header(&mut self, bytes: &[u8]) -> Taken
+        requires first { ⟦<Recovering<LIMIT> as Taker>⟧.taken self.old ≡ [] }
+        ensures judged { IsJudged (⟦<Recovering<LIMIT> as Taker>⟧.accepts (⟦<Recovering<LIMIT> as Taker>⟧.taken self.old) bytes.now) result }
+        ensures taken { TakesNext (⟦<Recovering<LIMIT> as Taker>⟧.taken self.old) (⟦<Recovering<LIMIT> as Taker>⟧.taken self.new) bytes.now result }
+        ensures refused { result ≢ Taken.Go → self.new ≡ self.old }
+    {
         decoding_laws();
         match Site::from_bytes(self.alloc, bytes) {
             Ok(site) => match Book::new(self.alloc, site) {
@@ -87,7 +93,14 @@ impl<const LIMIT: usize> Taker for Recovering<LIMIT> {
         }
     }
 
-    fn body(&mut self, _place: u32, bytes: &[u8]) -> Taken {
+    fn body(&mut self, place: u32, bytes: &[u8]) -> Taken
+        requires next { length (⟦<Recovering<LIMIT> as Taker>⟧.taken self.old) ≡ place }
+        requires after_header { ⟦<Recovering<LIMIT> as Taker>⟧.taken self.old ≢ [] }
+        ensures judged { IsJudged (⟦<Recovering<LIMIT> as Taker>⟧.accepts (⟦<Recovering<LIMIT> as Taker>⟧.taken self.old) bytes.now) result }
+        ensures taken { TakesNext (⟦<Recovering<LIMIT> as Taker>⟧.taken self.old) (⟦<Recovering<LIMIT> as Taker>⟧.taken self.new) bytes.now result }
+        ensures last_place { result ≡ Taken.Go → place ≤ MAX_BODIES }
+        ensures refused { result ≢ Taken.Go → self.new ≡ self.old }
+    {
         match &mut self.book {
             None => unreachable!(),
             Some(book) => entered(book, bytes),
@@ -102,6 +115,7 @@ fn entered<const LIMIT: usize>(book: &mut Book<LIMIT>, bytes: &[u8]) -> Taken
     ensures taken { TakesNext (taken_of (Some book.old.history)) (taken_of (Some book.new.history)) bytes.now result }
     ensures recordable { IsRecordable LIMIT book.new.history }
     ensures room { result ≡ Taken.Go → last_place book.old.history < LIMIT + STOPS_BEYOND_LIMIT }
+    ensures refused { result ≢ Taken.Go → book.new ≡ book.old }
 {
     decoding_laws();
     match book.enter(bytes) {

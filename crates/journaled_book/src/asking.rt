@@ -33,6 +33,10 @@ impl<D: Disk, const LIMIT: usize> Records<D, LIMIT> {
 
         // Memory is taken before the first byte is written.
         ensures unwritten { self.old.doubt ≡ false → result ≡ Err NoReply.NoMemory → self.new.journal.disk ≡ self.old.journal.disk }
+
+        // Nothing is in doubt where memory ran out, and an entry comes into doubt only as it is entered.
+        ensures sure { result ≡ Err NoReply.NoMemory → self.new.doubt ≡ false }
+        ensures stays_sure { self.old.doubt ≡ false → self.new.book.history ≡ self.old.book.history → self.new.doubt ≡ false }
         ensures images { EachSince (D.trace self.old.journal.disk) (D.trace self.new.journal.disk)
             (RecoversFront LIMIT self.new.book.history (certain self.old.doubt self.old.book.history)) }
         ensures moves { MovesOn (D.trace self.old.journal.disk) (D.trace self.new.journal.disk) (D.moment self.old.journal.disk) (D.moment self.new.journal.disk) }
@@ -79,6 +83,8 @@ impl<D: Disk, const LIMIT: usize> Records<D, LIMIT> {
         ensures untouched { (answered_on self.old.book.history entry (verdict LIMIT self.old.book.history entry)).history ≡ self.old.book.history →
             self.new.journal.disk ≡ self.old.journal.disk }
         ensures unwritten { result ≡ Err NoReply.NoMemory → self.new.journal.disk ≡ self.old.journal.disk }
+        ensures sure { result ≡ Err NoReply.NoMemory → self.new.doubt ≡ false }
+        ensures stays_sure { self.new.book.history ≡ self.old.book.history → self.new.doubt ≡ false }
         ensures images { EachSince (D.trace self.old.journal.disk) (D.trace self.new.journal.disk)
             (RecoversFront LIMIT self.new.book.history (last_place self.old.book.history)) }
         ensures moves { MovesOn (D.trace self.old.journal.disk) (D.trace self.new.journal.disk) (D.moment self.old.journal.disk) (D.moment self.new.journal.disk) }

@@ -1,5 +1,5 @@
 -- Answers to the open goals of `cut`.
-use Rattle.std.proofs.Common.{◌≡◌, ◌+◌, ◌-◌, ◌≤◌, ℕ, List, ◌++◌, ◌∷◌, length, take, drop, arith, ap, ◌∙◌, sym, subst}
+use Rattle.std.proofs.Common.{◌≡◌, ◌+◌, ◌-◌, ◌≤◌, ℕ, List, ◌++◌, ◌∷◌, length, take, drop, arith, ap, ◌∙◌, sym, subst, refl}
 use Rattle.std.proofs.lemmas.List.{drop-drop, drop_all, length-take-le, take_all}
 use Rattle.batch_lines.specs.declared.limits.TheConstants.{LINE_FEED, MOST_BYTES}
 use Rattle.batch_lines.specs.Reader.{Holds}
@@ -62,7 +62,10 @@ returns-in_default c =
     let first = rw in_hand_is at c.in-Some.ensures in
     let room = MOST_BYTES - old.passed in
     record {
-      moves = byte_too_many old.in_hand old.passed room (omega arith) (omega arith) (λ k from below. first.0.before k from (omega arith));
+      moves = record {
+        too_many = byte_too_many old.in_hand old.passed room (omega arith) (omega arith) (λ k from below. first.0.before k from (omega arith));
+        as_before = refl;
+      };
     }
 
 pub returns-in_default-2 : goal.returns-in_default-2
@@ -78,5 +81,8 @@ returns-in_default-2 c =
     let length_is : length old.in_hand ≡ c.self.inside.end - c.self.inside.start =
     sym (ap length in_hand_is) ∙ in_hand_length c.deref.result.now c.self.inside.start c.self.inside.end within in
     record {
-      moves = byte_too_many old.in_hand old.passed room (omega arith) (omega arith) (λ k from below. nowhere k from (omega arith));
+      moves = record {
+        too_many = byte_too_many old.in_hand old.passed room (omega arith) (omega arith) (λ k from below. nowhere k from (omega arith));
+        as_before = refl;
+      };
     }

@@ -113,3 +113,11 @@ returns-clause-not_failed g c = λ none.
     not_counted c.answer_of-answer.result c.self.inside.failed c.saturating_add-self-inside.result
     (c.saturating_add-self-inside.ensures ∙ ap (λ n. min (c.self.inside.failed + n) (2 ^ 64 - 1)) c.faults.ensures.faults) c.self.ranges.1.1.0.1 none
     ∙ ap (λ (desk : DeskState _). desk.failed) c.self.view_is
+
+pub returns-clause-sure : goal.returns-clause-sure
+returns-clause-sure g c = lacking_of c.answer.result c.answer_of-answer.result _ c.answer_of-answer.ensures.answer c.answer.ensures.sure
+
+pub returns-clause-stays_sure : goal.returns-clause-stays_sure
+returns-clause-stays_sure g c =
+    subst (λ (desk : DeskState _). desk.doubt ≡ false → c.answer.new.self.book.history ≡ desk.history → c.answer.new.self.doubt ≡ false) c.self.view_is
+    c.answer.ensures.stays_sure

@@ -72,3 +72,7 @@ returns-in-Do-clause-counts g c =
       once = λ is. c.judge_and_enter.ensures.counts.once is ∙ ap (λ count. raised 1 count) c.in_ok-settle.ensures.counts.quiet;
       quiet = λ isnt. c.judge_and_enter.ensures.counts.quiet isnt ∙ c.in_ok-settle.ensures.counts.quiet;
     }
+
+pub returns-in-Do-clause-stays_sure : goal.returns-in-Do-clause-stays_sure
+returns-in-Do-clause-stays_sure g c = λ sure same.
+    c.judge_and_enter.ensures.stays_sure (same ∙ sym (ap (λ (kept : Kept). kept.history) c.settle.ensures.book))
