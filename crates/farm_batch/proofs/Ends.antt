@@ -13,7 +13,7 @@ use Rattle.farm_desk.specs.States.{DeskState}
 use Rattle.farm_batch.specs.declared.batch.BatchEnd.{BatchEnd}
 use Rattle.farm_batch.specs.declared.batch.BatchEnd.TheVariants.{Done, Long, Failed}
 use Rattle.farm_batch.specs.declared.limits.TheConstants.{MOST_LINES}
-use Rattle.farm_batch.specs.LineAnswers.{AreAcknowledged, AsksNothing, IsPrefixOfAnswers, Step, answer_text, answers_text, faults_in, history_after}
+use Rattle.farm_batch.specs.LineAnswers.{AreAcknowledged, AsksNothing, IsPrefixOfAnswers, Step, answers_text, faults_in, history_after}
 use Rattle.farm_batch.specs.Puts.{PutsPrefix}
 use Rattle.farm_batch.specs.Batches.{AnswersOneLine, Asks, Batch, EndsAs, PutsRest, TakesLines, lines_of}
 use Rattle.farm_batch.proofs.Prefixes.{all_put, put_on, put_whole}
@@ -170,10 +170,10 @@ ends_at_last {faults = faults} {may_give = may_give} {limit = limit} {before = b
 
 -- what was put when the next line was read
 put_next : {D : Type 0} {faults : D → ℕ} {may_give : ℤ → Type 0} {limit : ℕ} {before after : DeskState D} {from between : Option Stream} {source : Count}
-    {old held new : Option (List ℕ)} {waiting waiting_now : List ℕ} {sink sink_now : Count} {reading : ReaderState} {number : ℕ} {end : BatchEnd} →
+    {old held new : Option (List ℕ)} {waiting waiting_now : List ℕ} {sink : Count} {reading : ReaderState} {number : ℕ} (sink_now : Count) (end : BatchEnd) →
     (so_far : SoFar faults may_give limit before after from between source old held waiting sink reading number) →
     PutsPrefix held new waiting waiting_now → PutSo old new so_far.steps waiting_now sink_now end
-put_next {old = old} {held = held} {new = new} {waiting = waiting} {waiting_now = waiting_now} so_far put =
+put_next {old = old} {held = held} {new = new} {waiting = waiting} {waiting_now = waiting_now} sink_now end so_far put =
     inl (put_on old held new (answers_text so_far.steps) waiting waiting_now so_far.put put)
 
 -- The batch ends with its source.
@@ -185,7 +185,7 @@ pub ends_at_end : {D : Type 0} {faults : D → ℕ} {may_give : ℤ → Type 0} 
 ends_at_end {reading = reading} so_far few put reads source_quiet sink_quiet =
     let taken = taken_on [] so_far.read reads.moved in
     let none = append-nil reading.in_hand ∙ reads.nothing in
-    ends (reading.in_hand ++ []) so_far (omega (arith, few)) taken (put_next so_far put) (inl (so_far.goes_on, none, reads.at_end))
+    ends (reading.in_hand ++ []) so_far (omega (arith, few)) taken (put_next _ _ so_far put) (inl (so_far.goes_on, none, reads.at_end))
     (λ quiet. (source_quiet, sink_quiet))
 
 -- The batch ends at a line that holds a byte too many.
@@ -197,7 +197,7 @@ pub ends_too_long : {D : Type 0} {faults : D → ℕ} {may_give : ℤ → Type 0
 ends_too_long {reading = reading} so_far few put reads source_quiet sink_quiet =
     let in_hand = reading.in_hand ++ reads.taken in
     let too_many = subst (λ (passed : ℕ). HasByteTooMany passed in_hand) so_far.read.passed reads.too_many in
-    ends in_hand so_far (omega (arith, few)) (taken_on reads.taken so_far.read reads.moved) (put_next so_far put)
+    ends in_hand so_far (omega (arith, few)) (taken_on reads.taken so_far.read reads.moved) (put_next _ _ so_far put)
     (so_far.goes_on, inr too_many, so_far.next) (λ quiet. (source_quiet, sink_quiet))
 
 -- The batch ends because the source fails.
@@ -207,7 +207,7 @@ pub ends_at_fault : {D : Type 0} {faults : D → ℕ} {may_give : ℤ → Type 0
     PutsPrefix held new waiting waiting_now → (more : List ℕ) → Takes between to more → Rose stop now →
     Ended faults may_give limit before after from to (counts start now) old new waiting_now sink_now Failed
 ends_at_fault {start = start} {stop = stop} {now = now} {reading = reading} so_far few put more moved rose =
-    ends (reading.in_hand ++ more) so_far few (taken_on more so_far.read moved) (put_next so_far put)
+    ends (reading.in_hand ++ more) so_far few (taken_on more so_far.read moved) (put_next _ _ so_far put)
     (inl (risen_since start stop now so_far.source_quiet rose)) (λ other. absurd (other refl))
 
 -- The batch ends because the answers that wait can't be put, and no more is taken.
@@ -229,7 +229,7 @@ pub ends_too_many : {D : Type 0} {faults : D → ℕ} {may_give : ℤ → Type 0
     Ended faults may_give limit before after from to source_now old new waiting_now sink_now (Long (MOST_LINES + 1))
 ends_too_many {reading = reading} so_far all put more moved some source_quiet sink_quiet =
     let as_many : length (lines_of so_far.steps) ≡ MOST_LINES = omega (arith, all, so_far.next, length-map so_far.steps (λ (step : Step). step.line)) in
-    ends (reading.in_hand ++ more) so_far (omega (arith, all)) (taken_on more so_far.read moved) (put_next so_far put)
+    ends (reading.in_hand ++ more) so_far (omega (arith, all)) (taken_on more so_far.read moved) (put_next _ _ so_far put)
     (so_far.goes_on, inl (as_many, some), sym all ∙ so_far.next) (λ quiet. (source_quiet, sink_quiet))
 
 -- The batch ends with its source, after the most lines that it may have.
@@ -239,7 +239,7 @@ pub ends_at_most : {D : Type 0} {faults : D → ℕ} {may_give : ℤ → Type 0}
     PutsPrefix held new waiting waiting_now → Takes between to [] → reading.in_hand ≡ [] → AtEnd to → IsQuiet source_now → IsQuiet sink_now →
     Ended faults may_give limit before after from to source_now old new waiting_now sink_now Done
 ends_at_most {reading = reading} so_far all put moved nothing at_end source_quiet sink_quiet =
-    ends (reading.in_hand ++ []) so_far (omega (arith, all)) (taken_on [] so_far.read moved) (put_next so_far put)
+    ends (reading.in_hand ++ []) so_far (omega (arith, all)) (taken_on [] so_far.read moved) (put_next _ _ so_far put)
     (inl (so_far.goes_on, append-nil reading.in_hand ∙ nothing, at_end)) (λ quiet. (source_quiet, sink_quiet))
 
 -- nothing was put where nothing waited
@@ -256,10 +256,10 @@ nothing_more old held new answers waiting lost last puts none more =
     }
 
 -- a batch that failed has put a prefix of its answers
-cut_off : {steps : List Step} {old new : Option (List ℕ)} {sink : Count} {lost : List ℕ} {end : BatchEnd} → end ≡ Failed → HasRisen sink →
+cut_off : {steps : List Step} {old new : Option (List ℕ)} {lost : List ℕ} {end : BatchEnd} (sink : Count) → end ≡ Failed → HasRisen sink →
     PutsPrefix old new (answers_text steps) lost →
     Adds old new (answers_text steps) ⊎ ((end ≡ Failed) × HasRisen sink × (bytes : List ℕ) × IsPrefixOfAnswers steps bytes × Adds old new bytes)
-cut_off {lost = lost} failed risen puts = inr (failed, risen, puts.put, record { lost = lost; split = puts.split }, puts.added)
+cut_off {lost = lost} sink failed risen puts = inr (failed, risen, puts.put, record { lost = lost; split = puts.split }, puts.added)
 
 -- a batch at its end, with what was put then
 finished : {D : Type 0} {faults : D → ℕ} {may_give : ℤ → Type 0} {limit : ℕ} {before after : DeskState D} {from to : Option Stream} {source : Count}
@@ -301,14 +301,14 @@ batch_of {faults = faults} {may_give = may_give} {limit = limit} {before = befor
     (subst (λ (now : ℕ). Batch faults may_give limit before after from to source old new (counts start now) end) still
     (finished ended (elim ended.put [
       | inl puts ↦ inl (all_put old new answers [] (put_on old held new answers waiting [] puts all) refl)
-      | inr failed ↦ cut_off failed.0 failed.1 (nothing_more old held new answers waiting failed.3 [] failed.4 failed.2 all)
+      | inr failed ↦ cut_off _ failed.0 failed.1 (nothing_more old held new answers waiting failed.3 [] failed.4 failed.2 all)
     ]) ended.ends ended.quiet))
 batch_of {old = old} {held = held} {new = new} {waiting = waiting} {start = start} {stop = stop} {now = now} ended earlier (inr cut) =
     let answers = answers_text ended.steps in
     let risen : Rose start now = omega (arith, earlier, cut.0) in
     rw cut.3 (finished ended (elim ended.put [
-      | inl puts ↦ cut_off refl risen (put_on old held new answers waiting cut.1 puts cut.2)
-      | inr failed ↦ cut_off refl risen (nothing_more old held new answers waiting failed.3 cut.1 failed.4 failed.2 cut.2)
+      | inl puts ↦ cut_off _ refl risen (put_on old held new answers waiting cut.1 puts cut.2)
+      | inr failed ↦ cut_off _ refl risen (nothing_more old held new answers waiting failed.3 cut.1 failed.4 failed.2 cut.2)
     ]) (inr risen) (λ other. absurd (other refl)))
 
 -- if nothing waits at the end, nothing is put then

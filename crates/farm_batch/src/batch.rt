@@ -86,13 +86,14 @@ pub fn answer_lines<D: Disk, const LIMIT: usize, S: Source, K: Sink, C: Clock>(
             .or(Some(BatchEnd::Done)),
             Ok(Cut::End) => Some(BatchEnd::Done),
             Ok(Cut::Long) => Some(BatchEnd::Long(number)),
-            Ok(Cut::Failed) | Err(Failed) => Some(BatchEnd::Failed),
+            Ok(Cut::Failed) => Some(BatchEnd::Failed),
+            Err(Failed) => Some(BatchEnd::Failed),
         };
         if let Some(end) = end {
             return Ok(put_rest(&mut waiting, output, end));
         }
     }
-    if waiting.put(output).is_err() {
+    if let Err(Failed) = waiting.put(output) {
         return Ok(BatchEnd::Failed);
     }
     Ok(match look_on(&mut reader, &waiting, input) {

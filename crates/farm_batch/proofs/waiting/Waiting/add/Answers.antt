@@ -1,5 +1,5 @@
 -- Answers to the open goals of `add`.
-use Rattle.std.proofs.Common.{◌+◌, ◌-◌, ◌++◌, ℕ, List, length, take, drop, min, subst, arith, ◌∙◌}
+use Rattle.std.proofs.Common.{◌+◌, ◌-◌, ◌++◌, ℕ, List, take, drop, subst, arith, ◌∙◌}
 use Rattle.farm_batch.specs.Puts.{PutsPrefix}
 use Rattle.farm_batch.proofs.Prefixes.{piece_after, put_longer, put_then, puts_failed, rest_after}
 use Rattle.farm_batch.proofs.waiting.Waiting.add.Goals as goal
