@@ -8,7 +8,7 @@ use Rattle.farm_run.specs.BatchRuns.{SaysAfter}
 use Rattle.run_reports.specs.Reports.{Says}
 use Rattle.run_reports.proofs.Printing.{output_with, rose_before, rose_later}
 
--- what a batch put: the answers, or the answers cut at the last if a put failed
+-- what a batch put: the answers, or a prefix of them if a put failed
 abbrev pub PutAnswers : Option (List ℕ) → Option (List ℕ) → Count → List Step → Type 0
 PutAnswers old new sink steps =
     Adds old new (answers_text steps) ⊎ (HasRisen sink × (bytes : List ℕ) × IsPrefixOfAnswers steps bytes × Adds old new bytes)

@@ -20,7 +20,7 @@ use Rattle.run_reports.specs.Texts.{disk_fault_line, no_memory_line, port_fault_
 use Rattle.farm_run.specs.Runs.{given}
 use Rattle.farm_run.specs.Texts.{too_long_text}
 
--- The answers of lines were put, whole but for the last one if a put failed, and then a prefix of each of these texts; if no put
+-- The answers of lines were put, a prefix of them if a put failed, and then a prefix of each of these texts; if no put
 -- failed, the answers and then the last text, both whole.
 pub record SaysAfter (output : Output) (steps : List Step) (middle : List (List ℕ)) (last : List ℕ) : Type 0 where
   pub answers : List ℕ
