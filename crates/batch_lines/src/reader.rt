@@ -98,9 +98,8 @@ impl LineReader {
     pub fn holds_line(&self) -> bool
         ensures held { IsTrue result ↔ HoldsLine self.now }
     {
-        let room = MOST_BYTES - self.passed;
         match memchr(LINE_FEED, &self.piece[self.start..self.end]) {
-            Some(count) => count < room,
+            Some(count) => count < MOST_BYTES - self.passed,
             None => false,
         }
     }

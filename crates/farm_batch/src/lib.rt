@@ -1,4 +1,4 @@
-//! Batches: lines of requests, each answered before the next one is read.
+//! Batches: lines of requests, each answered before more is taken.
 //!
 //! A batch asks the lines of a source one after another, as caller 0, and puts all answers before it takes more. It ends at the end of
 //! the source, after a Stop that was accepted and answered, at a line too many, or if a port fails.
