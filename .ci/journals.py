@@ -93,8 +93,13 @@ def traced(words, text, folder, flags):
         file.write(text)
     with open(lines, "rb") as file:
         done = subprocess.run(["strace", "-o", trace, *flags, *words], stdin=file, stdout=subprocess.PIPE)
+    return done.returncode, done.stdout, calls_from_the_lock(trace)
+
+
+def calls_from_the_lock(trace):
+    """The names of the calls in what strace wrote, from the lock of the journal on."""
     names = re.findall(r"^(\w+)\(", bytes_of(trace).decode(), re.MULTILINE)
-    return done.returncode, done.stdout, names[names.index("flock") :]
+    return names[names.index("flock") :]
 
 
 def may_trace():

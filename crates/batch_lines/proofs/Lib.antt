@@ -3,3 +3,4 @@ pub mod Pieces
 pub mod Kept
 pub mod Cuts
 pub mod Steps
+pub mod WholeLines

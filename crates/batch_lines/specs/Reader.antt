@@ -62,6 +62,14 @@ Moves old new moves.Ended = CutsEnd old new
 Moves old new moves.All = CutsAll old new
 Moves old new moves.Long = FindsTooMany old new
 
+-- the next line is in hand whole, with its line feed, and within the limit
+pub record HoldsLine (reader : ReaderState) : Type 0 where
+  pub line : List ℕ
+  pub rest : List ℕ
+  pub split : reader.in_hand ≡ line ++ line_feed ∷ rest
+  pub one_line : IsOneLine line
+  pub within : reader.passed + length line + 1 ≤ most_bytes
+
 -- a line was read, and the line feed after it; nothing was taken where the whole line was in hand
 pub record ReadsLine (old new : ReaderState) (from to : Option Stream) : Type 0 where
   pub line : List ℕ

@@ -1,10 +1,10 @@
 //! Lines out of a source, one after another.
 
-ghost use Rattle.std.specs.Prelude.{◌≡◌, ◌≢◌, ◌+◌, ◌≤◌, ℕ, List, [], length, take, drop, option_map, IfOk, OnErr, OnOk, Ok};
+ghost use Rattle.std.specs.Prelude.{◌≡◌, ◌≢◌, ◌↔◌, ◌+◌, ◌≤◌, ℕ, List, [], length, take, drop, option_map, IfOk, IsTrue, OnErr, OnOk, Ok};
 ghost use Rattle.farm_base.specs.Counts.{Counts, CountsIf, count_of};
 ghost use Rattle.farm_base.specs.Known.{Takes};
 ghost use Rattle.batch_lines.specs.declared.limits.TheConstants.{MOST_BYTES};
-ghost use Rattle.batch_lines.specs.Reader.{AtEnd, Extends, Holds, LooksOn, Moves, Reads, StopsWithin, TakesOn};
+ghost use Rattle.batch_lines.specs.Reader.{AtEnd, Extends, Holds, HoldsLine, LooksOn, Moves, Reads, StopsWithin, TakesOn};
 
 use crate::limits::{LINE_FEED, MOST_BYTES, MOST_REQUEST_LINE_BYTES};
 use farm_base::NoMemory;
@@ -94,9 +94,20 @@ impl LineReader {
         self.line.get(..self.length)
     }
 
-    /// Reads a line.
+    /// Whether the next line is in hand whole, so that it is read without a take.
+    pub fn holds_line(&self) -> bool
+        ensures held { IsTrue result ↔ HoldsLine self.now }
+    {
+        match memchr(LINE_FEED, &self.piece[self.start..self.end]) {
+            Some(count) => count < MOST_BYTES - self.passed,
+            None => false,
+        }
+    }
+
+    /// Reads a line. Of one in hand whole the source isn't asked.
     pub fn read<S: Source>(&mut self, input: &mut S) -> Cut
         ensures reads { Reads self.old self.new (S.stream input.old) (S.stream input.new) (count_of S.faults input.old input.new) result }
+        ensures in_hand { HoldsLine self.old → (result ≡ Cut.Line) × (input.new ≡ input.old) }
         ensures counts { CountsIf (result ≡ Cut.Failed) (S.faults input.old) (S.faults input.new) }
 
         // After a byte too many, or a fault of the source, the line stays begun; after a fault nothing is in hand.

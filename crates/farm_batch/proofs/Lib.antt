@@ -11,6 +11,7 @@ pub mod MoreSteps
 pub mod OneOutcome
 pub mod OutcomeSteps
 pub mod Puts
+pub mod Prefixes
 pub mod SoFar
 pub mod StatusTexts
 pub mod Ends

@@ -1,5 +1,5 @@
 -- What a batch does over its ports.
-use Rattle.std.specs.Prelude.{◌≡◌, ◌≢◌, ◌⊎◌, ℕ, ◌+◌, ◌≤◌, All, true, false, Bool, List, [], length, take, map, Option, None, Some, Result, Ok, Err, ℤ}
+use Rattle.std.specs.Prelude.{◌≡◌, ◌≢◌, ◌⊎◌, ℕ, ◌+◌, ◌≤◌, All, true, false, Bool, List, [], ◌++◌, length, map, Option, None, Some, Result, Ok, Err, ℤ}
 use Rattle.farm_base.specs.Counts.{Count, HasRisen, IsQuiet, raised}
 use Rattle.farm_base.specs.Known.{Adds, Stream, Takes}
 use Rattle.journaled_book.specs.Histories.{certain}
@@ -9,7 +9,8 @@ use Rattle.farm_batch.specs.declared.batch.BatchEnd.{BatchEnd}
 use Rattle.farm_batch.specs.declared.batch.BatchEnd.TheVariants.{Done, Long, Failed}
 use Rattle.farm_batch.specs.Limits.{most_lines}
 use Rattle.farm_http.specs.declared.page.Page.{Page}
-use Rattle.farm_batch.specs.LineAnswers.{AnswersEach, AnswersLine, AreAcknowledged, AsksNothing, EndsInStop, IsCutAtLast, IsReply, Step, answer_text, answers_text, disk_fault, faults_in, faults_on_page, history_after, out_of_memory}
+use Rattle.farm_batch.specs.Puts.{PutsPrefix}
+use Rattle.farm_batch.specs.LineAnswers.{AnswersEach, AnswersLine, AreAcknowledged, AsksNothing, EndsInStop, IsPrefixOfAnswers, IsReply, Step, answer_text, answers_text, disk_fault, faults_in, faults_on_page, history_after, out_of_memory}
 use Rattle.batch_lines.specs.Limits.{most_bytes}
 use Rattle.batch_lines.specs.Lines.{BeginsWith, EndsWithin, HasByteTooMany, ended}
 use Rattle.batch_lines.specs.Reader.{AtEnd}
@@ -65,8 +66,8 @@ pub record Batch {D : Type 0} (faults : D → ℕ) (may_give : ℤ → Type 0) (
   pub acknowledged : AreAcknowledged (certain after.doubt after.history) steps
   -- if no line asks anything, the desk stays as it was
   pub untouched : All AsksNothing (lines_of steps) → after ≡ before
-  -- the answers were put whole, but for the last one if a put failed
-  pub put : Adds old new (answers_text steps) ⊎ ((end ≡ Failed) × HasRisen sink × (bytes : List ℕ) × IsCutAtLast steps bytes × Adds old new bytes)
+  -- the answers were put whole, or a prefix of them if a put failed
+  pub put : Adds old new (answers_text steps) ⊎ ((end ≡ Failed) × HasRisen sink × (bytes : List ℕ) × IsPrefixOfAnswers steps bytes × Adds old new bytes)
   pub ends : EndsAs in_hand to steps source sink end
   pub quiet : end ≢ Failed → IsQuiet source × IsQuiet sink
 
@@ -74,22 +75,29 @@ pub record Batch {D : Type 0} (faults : D → ℕ) (may_give : ℤ → Type 0) (
 abbrev pub MayBePut : Page → Page → Type 0
 MayBePut page shown = (shown ≡ page) ⊎ ((shown ≡ out_of_memory) × (page ≢ disk_fault))
 
--- An answer was put, whole or else out of memory in its place; or the put failed, and a prefix of one of these was added.
-abbrev pub PutsPage : {E : Type 0} → Page → Option (List ℕ) → Option (List ℕ) → Result Bool E → Type 0
-PutsPage page old new (Ok true) = Adds old new (answer_text page)
-PutsPage page old new (Ok false) = (page ≢ disk_fault) × Adds old new (answer_text out_of_memory)
-PutsPage page old new (Err e) = (shown : Page) × MayBePut page shown × (count : ℕ) × Adds old new (take count (answer_text shown))
+-- After those that wait an answer waits, or out of memory in its place, and of all these a prefix was put; or a put failed.
+abbrev pub PutsPage : {E : Type 0} → Page → Option (List ℕ) → Option (List ℕ) → List ℕ → List ℕ → Result Bool E → Type 0
+PutsPage page old new waited waiting (Ok true) = PutsPrefix old new (waited ++ answer_text page) waiting
+PutsPage page old new waited waiting (Ok false) = (page ≢ disk_fault) × PutsPrefix old new (waited ++ answer_text out_of_memory) waiting
+PutsPage page old new waited waiting (Err e) =
+    (waiting ≡ []) × (shown : Page) × MayBePut page shown × (lost : List ℕ) × PutsPrefix old new (waited ++ answer_text shown) lost
 
--- what was put of a line's answer, by how the batch ends with it, or that it continues
-abbrev pub PutsStep : Step → Option (List ℕ) → Option (List ℕ) → Count → Option BatchEnd → Type 0
-PutsStep step old new sink None = (step.stops ≡ false) × Adds old new (answer_text step.page)
-PutsStep step old new sink (Some Done) = (step.stops ≡ true) × Adds old new (answer_text step.page)
-PutsStep step old new sink (Some (Long number)) = ⊥
-PutsStep step old new sink (Some Failed) = HasRisen sink × (count : ℕ) × Adds old new (take count (answer_text step.page))
+-- what was put of the answers that waited and a line's, by how the batch ends with it, or that it continues
+abbrev pub PutsStep : Step → Option (List ℕ) → Option (List ℕ) → List ℕ → List ℕ → Count → Option BatchEnd → Type 0
+PutsStep step old new waited waiting sink None = (step.stops ≡ false) × PutsPrefix old new (waited ++ answer_text step.page) waiting
+PutsStep step old new waited waiting sink (Some Done) = (step.stops ≡ true) × PutsPrefix old new (waited ++ answer_text step.page) waiting
+PutsStep step old new waited waiting sink (Some (Long number)) = ⊥
+PutsStep step old new waited waiting sink (Some Failed) =
+    HasRisen sink × (waiting ≡ []) × (lost : List ℕ) × PutsPrefix old new (waited ++ answer_text step.page) lost
+
+-- The answers that waited at the end were put, and the batch ends as it would; or the put failed, and it ends so.
+abbrev pub PutsRest : Option (List ℕ) → Option (List ℕ) → List ℕ → Count → BatchEnd → BatchEnd → Type 0
+PutsRest old new waiting sink end result =
+    (Adds old new waiting × IsQuiet sink × (result ≡ end)) ⊎ (HasRisen sink × (lost : List ℕ) × PutsPrefix old new waiting lost × (result ≡ Failed))
 
 -- a line was asked, from a desk to a desk, and answered
-pub record AnswersOneLine {D : Type 0} (faults : D → ℕ) (may_give : ℤ → Type 0) (limit : ℕ) (before after : DeskState D) (line : List ℕ) (old new : Option (List ℕ)) (sink : Count)
-    (end : Option BatchEnd) : Type 0 where
+pub record AnswersOneLine {D : Type 0} (faults : D → ℕ) (may_give : ℤ → Type 0) (limit : ℕ) (before after : DeskState D) (line : List ℕ) (old new : Option (List ℕ))
+    (waited waiting : List ℕ) (sink : Count) (end : Option BatchEnd) : Type 0 where
   pub step : Step
   pub line_is : step.line ≡ line
   pub history_is : step.history ≡ after.history
@@ -99,4 +107,4 @@ pub record AnswersOneLine {D : Type 0} (faults : D → ℕ) (may_give : ℤ → 
   pub acknowledged : IsReply step.page → last_place after.history ≤ certain after.doubt after.history
   pub surer : certain before.doubt before.history ≤ certain after.doubt after.history
   pub untouched : AsksNothing line → after ≡ before
-  pub puts : PutsStep step old new sink end
+  pub puts : PutsStep step old new waited waiting sink end

@@ -1,5 +1,5 @@
 -- What a line of a batch is answered with, and what lines are answered with one after another.
-use Rattle.std.specs.Prelude.{◌≡◌, ◌⊎◌, ℕ, ◌+◌, ◌≤◌, ◌==◌, nat_lt, All, Bool, true, false, if◌then◌else◌, List, [], ◌∷◌, ◌++◌, flat_map, length, take, Option, None, Some, ℤ}
+use Rattle.std.specs.Prelude.{◌≡◌, ◌⊎◌, ℕ, ◌+◌, ◌≤◌, ◌==◌, nat_lt, All, Bool, true, false, if◌then◌else◌, List, [], ◌∷◌, ◌++◌, flat_map, length, Option, None, Some, ℤ}
 use Rattle.farm_history.specs.declared.ask.Ask.{Ask}
 use Rattle.farm_history.specs.declared.ask.Ask.TheVariants.{Do, Look}
 use Rattle.farm_history.specs.Commands.{is_stop}
@@ -167,10 +167,7 @@ answer_text page = body_text page ++ line_feed ∷ []
 abbrev pub answers_text : List Step → List ℕ
 answers_text steps = flat_map (λ step. answer_text step.page) steps
 
--- bytes are the answers before the last one, whole, and a prefix of the last one
-pub record IsCutAtLast (steps : List Step) (bytes : List ℕ) : Type 0 where
-  pub front : List Step
-  pub last : Step
-  pub split : steps ≡ front ++ last ∷ []
-  pub count : ℕ
-  pub bytes_are : bytes ≡ answers_text front ++ take count (answer_text last.page)
+-- bytes are a prefix of the answers
+pub record IsPrefixOfAnswers (steps : List Step) (bytes : List ℕ) : Type 0 where
+  pub lost : List ℕ
+  pub split : answers_text steps ≡ bytes ++ lost

@@ -1,7 +1,7 @@
-//! Batches: lines of requests, each answered before the next one is read.
+//! Batches: lines of requests, each answered before more is taken.
 //!
-//! A batch asks the lines of a source one after another, as caller 0, and puts each answer whole before it reads on. It ends at the
-//! end of the source, after a Stop that was accepted and answered, at a line too many, or if a port fails.
+//! A batch asks the lines of a source one after another, as caller 0, and puts all answers before it takes more. It ends at the end of
+//! the source, after a Stop that was accepted and answered, at a line too many, or if a port fails.
 #![tactic(auto)]
 
 mod answers;
@@ -9,8 +9,9 @@ mod batch;
 mod laws;
 mod limits;
 mod number_laws;
+mod waiting;
 
 pub use batch::{BatchEnd, answer_lines};
 pub use laws::batch_laws;
-pub use limits::{BATCH_CALLER, MOST_LINES};
+pub use limits::{BATCH_CALLER, MOST_LINES, MOST_PUT_BYTES};
 pub use number_laws::defined_numbers;

@@ -4,7 +4,7 @@ use Rattle.farm_base.specs.Counts.{Count, HasRisen, IsQuiet}
 use Rattle.farm_base.specs.Known.{Adds, Stream, Takes, WhereKnown}
 use Rattle.farm_batch.specs.declared.batch.BatchEnd.{BatchEnd}
 use Rattle.farm_batch.specs.declared.batch.BatchEnd.TheVariants.{Done, Long, Failed}
-use Rattle.farm_batch.specs.LineAnswers.{IsCutAtLast, Step, answers_text}
+use Rattle.farm_batch.specs.LineAnswers.{IsPrefixOfAnswers, Step, answers_text}
 use Rattle.farm_batch.specs.Batches.{AskedAll, Asks, Batch, EndsAs, GoesOn, IsTooMuch, lines_of}
 use Rattle.farm_batch.specs.Outcomes.{OutcomesAreOne, Outcome, WereAnswered, outcome}
 use Rattle.farm_desk.specs.States.{DeskState}
@@ -45,13 +45,13 @@ function_of may_give found (Some f) (Some t) taken in_hand steps source sink end
 
 -- the answers of a batch in which no port failed were put whole
 put_whole : (steps : List Step) (old new : Option (List ℕ)) (sink : Count) (end : BatchEnd) → end ≢ Failed →
-    Adds old new (answers_text steps) ⊎ ((end ≡ Failed) × HasRisen sink × (bytes : List ℕ) × IsCutAtLast steps bytes × Adds old new bytes) →
+    Adds old new (answers_text steps) ⊎ ((end ≡ Failed) × HasRisen sink × (bytes : List ℕ) × IsPrefixOfAnswers steps bytes × Adds old new bytes) →
     Adds old new (answers_text steps)
 put_whole steps old new sink end fine put = elim put [ inl whole ↦ whole | inr failed ↦ absurd (fine failed.0) ]
 
 -- what a batch put before it failed
 put_before_fault : (steps : List Step) (old new : Option (List ℕ)) (sink : Count) (end : BatchEnd) →
-    Adds old new (answers_text steps) ⊎ ((end ≡ Failed) × HasRisen sink × (bytes : List ℕ) × IsCutAtLast steps bytes × Adds old new bytes) →
+    Adds old new (answers_text steps) ⊎ ((end ≡ Failed) × HasRisen sink × (bytes : List ℕ) × IsPrefixOfAnswers steps bytes × Adds old new bytes) →
     PutAnswers old new sink steps
 put_before_fault steps old new sink end put = elim put [ inl whole ↦ inl whole | inr failed ↦ inr (failed.1, failed.2, failed.3, failed.4) ]
 

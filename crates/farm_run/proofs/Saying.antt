@@ -3,15 +3,15 @@ use Rattle.std.proofs.Common.{◌⊎◌, inl, inr, ℕ, ◌≤◌, List, [], ◌
 use Rattle.farm_base.specs.Counts.{Count, HasRisen}
 use Rattle.farm_base.specs.Known.{Adds}
 use Rattle.farm_base.proofs.Additions.{additions_add_up}
-use Rattle.farm_batch.specs.LineAnswers.{IsCutAtLast, Step, answers_text}
+use Rattle.farm_batch.specs.LineAnswers.{IsPrefixOfAnswers, Step, answers_text}
 use Rattle.farm_run.specs.BatchRuns.{SaysAfter}
 use Rattle.run_reports.specs.Reports.{Says}
 use Rattle.run_reports.proofs.Printing.{output_with, rose_before, rose_later}
 
--- what a batch put: the answers, or the answers cut at the last if a put failed
+-- what a batch put: the answers, or a prefix of them if a put failed
 abbrev pub PutAnswers : Option (List ℕ) → Option (List ℕ) → Count → List Step → Type 0
 PutAnswers old new sink steps =
-    Adds old new (answers_text steps) ⊎ (HasRisen sink × (bytes : List ℕ) × IsCutAtLast steps bytes × Adds old new bytes)
+    Adds old new (answers_text steps) ⊎ (HasRisen sink × (bytes : List ℕ) × IsPrefixOfAnswers steps bytes × Adds old new bytes)
 
 -- the answers and then a text
 pub said_after : (old middle new : Option (List ℕ)) (before between now : ℕ) (steps : List Step) (others : List (List ℕ)) (last : List ℕ) →

@@ -4,7 +4,7 @@ use Rattle.farm_base.specs.Counts.{Count, HasRisen, IsQuiet, count_of}
 use Rattle.farm_base.specs.Known.{Adds, Fronts, Stream, Takes, WhereKnown}
 use Rattle.farm_batch.specs.declared.batch.BatchEnd.{BatchEnd}
 use Rattle.farm_batch.specs.declared.batch.BatchEnd.TheVariants.{Done, Long, Failed}
-use Rattle.farm_batch.specs.LineAnswers.{AreAcknowledged, IsCutAtLast, Step, answers_text, faults_in, history_after}
+use Rattle.farm_batch.specs.LineAnswers.{AreAcknowledged, IsPrefixOfAnswers, Step, answers_text, faults_in, history_after}
 use Rattle.farm_batch.specs.Batches.{AskedAll, Asks, GoesOn, IsTooMuch, lines_of}
 use Rattle.farm_batch.specs.Outcomes.{Outcome, WereAnswered, outcome}
 use Rattle.journaled_book.specs.Histories.{Recovers, certain}
@@ -20,12 +20,12 @@ use Rattle.run_reports.specs.Texts.{disk_fault_line, no_memory_line, port_fault_
 use Rattle.farm_run.specs.Runs.{given}
 use Rattle.farm_run.specs.Texts.{too_long_text}
 
--- The answers of lines were put, whole but for the last one if a put failed, and then a prefix of each of these texts; if no put
+-- The answers of lines were put, a prefix of them if a put failed, and then a prefix of each of these texts; if no put
 -- failed, the answers and then the last text, both whole.
 pub record SaysAfter (output : Output) (steps : List Step) (middle : List (List ℕ)) (last : List ℕ) : Type 0 where
   pub answers : List ℕ
   pub texts : List ℕ
-  pub answers_are : (answers ≡ answers_text steps) ⊎ (HasRisen output.count × IsCutAtLast steps answers)
+  pub answers_are : (answers ≡ answers_text steps) ⊎ (HasRisen output.count × IsPrefixOfAnswers steps answers)
   pub texts_are : Fronts (middle ++ last ∷ []) texts
   pub front : Adds output.old output.new (answers ++ texts)
   pub whole : ¬ (HasRisen output.count) → Adds output.old output.new (answers_text steps ++ last)

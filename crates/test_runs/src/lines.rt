@@ -15,6 +15,8 @@ enum Call<'a> {
     Read(Cut, Option<&'a [u8]>),
     // Whether there is more.
     More(Result<bool, Failed>),
+    // Whether the next line is in hand whole.
+    Holds(bool),
 }
 
 // How the next line is cut, and the line that the reader has then.
@@ -36,6 +38,7 @@ fn check_call<R: Print>(
     match call {
         Call::Read(cut, line) => checks.same_at(name, next_line(reader, input), (cut, line)),
         Call::More(want) => checks.same_at(name, reader.has_more(input), want),
+        Call::Holds(want) => checks.same_at(name, reader.holds_line(), want),
     }
 }
 
@@ -142,6 +145,23 @@ fn no_take_runs_ahead_of_a_line(rt: HostRuntime) -> Result<(), Fail> {
     let mut checks = Checks::new(&rt);
     let pieces: [&[u8]; 2] = [b"a\n", b"b"];
     check_lines(&mut checks, rt.alloc(), &pieces, &[2], BEFORE_A_FAULT)?;
+    Ok(checks.end()?)
+}
+
+const IN_HAND: &[(&str, Call<'static>)] = &[
+    ("before the first take", Call::Holds(false)),
+    ("the first line", Call::Read(Cut::Line, Some(b"a"))),
+    ("the second line is in hand", Call::Holds(true)),
+    ("the second line", Call::Read(Cut::Line, Some(b""))),
+    ("a part of a line", Call::Holds(false)),
+    ("the last line", Call::Read(Cut::Last, Some(b"b"))),
+    ("at the end", Call::Holds(false)),
+];
+
+#[test]
+fn a_line_is_in_hand_with_its_line_feed(rt: HostRuntime) -> Result<(), Fail> {
+    let mut checks = Checks::new(&rt);
+    check_lines(&mut checks, rt.alloc(), &[b"a\n\nb"], &[], IN_HAND)?;
     Ok(checks.end()?)
 }
 

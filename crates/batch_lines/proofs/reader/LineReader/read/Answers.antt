@@ -5,6 +5,7 @@ use Rattle.batch_lines.specs.declared.reader.Moved.TheVariants as moves
 use Rattle.farm_base.specs.Counts.{Rose}
 use Rattle.batch_lines.specs.Reader.{AtEnd}
 use Rattle.batch_lines.proofs.Steps.{GoesOn, Stands, cut_comes, fault_comes, last_comes, nothing_comes, stands_first, stands_refilled}
+use Rattle.batch_lines.proofs.WholeLines.{held_ends}
 use Rattle.batch_lines.proofs.reader.LineReader.read.Goals as goal
 use Rattle.batch_lines.proofs.reader.LineReader.read.Goals.{then-self-eq0, else-self-eq0}
 
@@ -16,6 +17,10 @@ loop-moved-init g c =
           (stands_first c.args.self.now _ stream (ap (λ reading. reading.in_hand) c.self.view_is)
           (ap (λ reading. reading.passed) c.self.view_is) (record { line_is = refl; length_is = refl }))
           c.cut-moved.ensures.moves;
+      in_hand = λ holds. (
+        held_ends _ _ _ _ (ap (λ reading. reading.in_hand) c.self.view_is) (ap (λ reading. reading.passed) c.self.view_is) c.cut-moved.ensures.moves holds,
+        refl,
+      );
       quiet = refl;
     }
 
@@ -44,6 +49,7 @@ loop-moved-preserved g c =
     rw all at c.loop-moved.invariant.comes in
     record {
       comes = cut_comes _ _ _ _ _ _ (stands_refilled _ _ _ _ _ _ on.stands on.empty refilled.taken refilled.held refilled.passed) c.cut-moved-in-Ok.ensures.moves;
+      in_hand = λ holds. let ended = c.loop-moved.invariant.in_hand holds in cc;
       quiet = refilled.counts.quiet ∙ c.loop-moved.invariant.quiet;
     }
 
