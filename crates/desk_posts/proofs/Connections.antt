@@ -14,10 +14,11 @@ use Rattle.desk_posts.specs.Calls.{AnswersOne, HearsNext}
 use Rattle.desk_posts.specs.Courses.{Act, Cuts, Exchanged, IsEnded, PutsAll, StayedOpen, StaysOpen, Took, at_end, bytes_of, exchanges_of, not_taken}
 use Rattle.desk_posts.specs.Exchanges.{Exchange, IsExchange, pages_of, size_of, span_of}
 use Rattle.desk_posts.specs.Limits.{most_requests}
-use Rattle.desk_posts.specs.Visits.{Exchanges, Serves}
+use Rattle.desk_posts.specs.Visits.{Exchanges, Sees, Serves, seen_after}
 use Rattle.desk_posts.proofs.Acts.{bytes_of-append, bytes_of_takes, cuts_more, exchanges_of-append, exchanges_of_takes}
 use Rattle.desk_posts.proofs.Following.{exchanges_add_up, no_exchange}
 use Rattle.desk_posts.proofs.Longer.{exchanges_on}
+use Rattle.desk_posts.proofs.Seeing.{follow_spans, seen_with}
 use Rattle.desk_access.proofs.Spans.{follow_within}
 
 -- what was taken from a connection, the requests that were cut from it, and what they did to an access
@@ -28,6 +29,7 @@ pub record Runs (may_follow : History → History → Type 0) (may_give : ℤ �
   pub cut : Cuts [] acts in_hand
   pub judged : All (λ (exchange : Exchange). IsExchange may_give limit old.caller new.seen exchange.heard exchange) exchanges
   pub exchanged : Exchanges may_follow old new exchanges
+  pub all_seen : last_place new.seen ≡ seen_after (last_place old.seen) (map span_of exchanges)
 
 -- these acts end with an exchange
 pub record EndInExchange (acts : List Act) : Type 0 where
@@ -60,6 +62,7 @@ opens may_follow laws may_give limit conn state fresh = record {
     cut = refl;
     judged = All-nil (λ (exchange : Exchange). IsExchange may_give limit state.caller state.seen exchange.heard exchange);
     exchanged = no_exchange may_follow laws state;
+    all_seen = refl;
   };
   stayed = All-nil (StaysOpen state.opened state.seen);
   put = fresh.held;
@@ -112,6 +115,7 @@ heard_more may_follow may_give limit from to before after old new acts exchanges
   cut = cuts_more [] acts before (map Took hears.pieces) after runs.cut hears.cut;
   judged = runs.judged;
   exchanged = runs.exchanged;
+  all_seen = runs.all_seen;
 }
 
 -- a request was answered
@@ -140,6 +144,7 @@ answered_more may_follow laws may_give limit stream in_hand old middle new acts 
           (All-cons (λ (each : Exchange). IsExchange may_give limit old.caller new.seen each.heard each) exchange [] this
           (All-nil (λ (each : Exchange). IsExchange may_give limit old.caller new.seen each.heard each)));
       exchanged = exchanges_add_up may_follow laws old middle new exchanges (exchange ∷ []) runs.exchanged one.exchanged;
+      all_seen = sym one.after_is ∙ sym (seen_with (last_place old.seen) exchanges exchange);
     }
 
 -- a connection was served once it has ended
@@ -157,6 +162,10 @@ serves may_follow may_give limit conn in_hand old new acts exchanges runs ended 
     ended = ended;
   };
   exchanged = subst (λ (all : List Exchange). Exchanges may_follow old new all) (sym runs.exchanges_are) runs.exchanged;
+  sees = subst (λ (all : List Exchange). Sees may_follow old new (map span_of all)) (sym runs.exchanges_are) (record {
+    follow = follow_spans may_follow new.seen (last_place old.seen) exchanges (last_place new.seen) runs.exchanged.follow;
+    all_seen = runs.all_seen;
+  });
 }
 
 -- a connection stayed open after the exchanges of acts

@@ -6,6 +6,7 @@ pub mod Rooms
 pub mod Refusals
 pub mod Answering
 pub mod Acts
+pub mod Seeing
 pub mod Connections
 pub mod Meeting
 pub mod Standing

@@ -87,12 +87,8 @@ none_first n entries none =
     (sym (list_any-append (λ (entry : Entry). is_stop entry.cmd) (take n entries) (drop n entries)) ∙ ap has_stop (take-append-drop n entries) ∙ none)
 
 -- and none among the first ones after some place
-none_between : (opened n : ℕ) (entries : List Entry) → has_stop (drop opened entries) ≡ false → has_stop (drop opened (take n entries)) ≡ false
+pub none_between : (opened n : ℕ) (entries : List Entry) → has_stop (drop opened entries) ≡ false → has_stop (drop opened (take n entries)) ≡ false
 none_between zero n entries none = none_first n entries none
 none_between (suc opened) zero entries none = refl
 none_between (suc opened) (suc n) [] none = refl
 none_between (suc opened) (suc n) (entry ∷ entries) none = none_between opened n entries none
-
--- if no Stop is seen on a history, no exchange sees one
-pub none_seen : (opened : ℕ) (history : History) (exchange : Exchange) → has_stop (drop opened history.entries) ≡ false → sees_stop opened history exchange ≡ false
-none_seen opened history exchange none = none_between opened exchange.after history.entries none

@@ -1,6 +1,5 @@
 -- Connections and conversations on a history that continues theirs.
-use Rattle.std.proofs.Common.{◌≡◌, ◌∙◌, inl, inr, ℕ, false, List, [], ◌∷◌, ◌++◌, Option, sym, ap, subst, arith, ℤ}
-use Rattle.std.proofs.lemmas.Grind.{flat_map-append}
+use Rattle.std.proofs.Common.{◌≡◌, ◌∙◌, inl, inr, ℕ, List, [], ◌∷◌, ◌++◌, Option, sym, ap, subst, arith, ℤ}
 use Rattle.std.proofs.lemmas.List.Elements.{All-cons, All-head, All-nil, All-tail}
 use Rattle.std.specs.List.{All}
 use Rattle.farm_base.specs.Counts.{Count}
@@ -8,14 +7,16 @@ use Rattle.farm_history.specs.History.{History, last_place}
 use Rattle.farm_history.specs.declared.entry.Entry.{Entry}
 use Rattle.farm_listeners.specs.Listeners.{Connection, Event}
 use Rattle.desk_access.specs.Access.{AreFollowers, CallerState, Continues}
-use Rattle.desk_posts.specs.Conversations.{EndsAs, IsConversation, Served, StopsAtOnce, all_exchanges}
+use Rattle.desk_access.specs.Spans.{Span}
+use Rattle.desk_posts.specs.Conversations.{EndsAs, IsConversation, Served, Step, StopsAtOnce, all_exchanges, served_of, spans_of}
 use Rattle.desk_posts.specs.Courses.{Act, EndsWith, Exchanged, IsEnded, IsServed, StayedOpen, at_end, answered, exchanges_of, not_put, not_taken}
-use Rattle.desk_posts.specs.Exchanges.{Exchange, sees_stop, span_of}
+use Rattle.desk_posts.specs.Exchanges.{Exchange, span_of}
 use Rattle.desk_posts.specs.Laws.{StandsOn}
 use Rattle.desk_posts.specs.declared.posts.PostEnd.{PostEnd}
 use Rattle.desk_posts.proofs.Acts.{exchanges_of-append}
-use Rattle.desk_access.proofs.Lists.{all_by_both, all_first, all_last}
+use Rattle.desk_access.proofs.Lists.{all_first, all_last}
 use Rattle.desk_posts.proofs.Longer.{exchanges_on, stays_open_on, stop_on}
+use Rattle.desk_posts.proofs.Seeing.{sees_none_on, spans_of-append}
 use Rattle.desk_access.proofs.Spans.{IsWithin, entered_on, follow_on, follow_within}
 
 -- a connection that stayed open did so on a history that continues this one
@@ -83,16 +84,20 @@ each_on may_give limit caller opened first next (visit ∷ served) continues wit
     (all_last (IsWithin span_of (last_place first)) (exchanges_of visit.acts) (all_exchanges served) within)
     (All-tail (λ (other : Served). IsServed may_give limit caller opened first other.conn other.acts) visit served each))
 
--- no connection but the last one saw a Stop
-stops_on : (opened : ℕ) (first next : History) (served : List Served) → Continues first next →
-    All (IsWithin span_of (last_place first)) (all_exchanges served) → StopsAtOnce opened first served → StopsAtOnce opened next served
-stops_on opened first next served continues within at_once = λ before last are.
-    let split = subst (λ (all : List Exchange). All (IsWithin span_of (last_place first)) all)
-    (ap all_exchanges are ∙ flat_map-append (λ (visit : Served). exchanges_of visit.acts) before (last ∷ [])) within in
-    all_by_both (IsWithin span_of (last_place first)) (λ (exchange : Exchange). sees_stop opened first exchange ≡ false)
-    (λ (exchange : Exchange). sees_stop opened next exchange ≡ false) (all_exchanges before)
-    (λ exchange there none. stop_on opened first next exchange continues there ∙ none)
-    (all_first (IsWithin span_of (last_place first)) (all_exchanges before) (all_exchanges (last ∷ [])) split) (at_once before last are)
+-- a post that ended with the first Stop that its caller saw did so on a longer history too
+stops_on : (opened : ℕ) (first next : History) (steps : List Step) → Continues first next →
+    All (IsWithin (λ (span : Span). span) (last_place first)) (spans_of steps) → StopsAtOnce opened first steps → StopsAtOnce opened next steps
+stops_on opened first next steps continues within at_once = record {
+  before_last_step = λ before last are.
+      let split = subst (λ (all : List Span). All (IsWithin (λ (span : Span). span) (last_place first)) all)
+      (ap spans_of are ∙ spans_of-append before (last ∷ [])) within in
+      sees_none_on opened first next (spans_of before) continues
+      (all_first (IsWithin (λ (span : Span). span) (last_place first)) (spans_of before) (spans_of (last ∷ [])) split) (at_once.before_last_step before last are);
+  before_last_span = λ before last are.
+      let split = subst (λ (all : List Span). All (IsWithin (λ (span : Span). span) (last_place first)) all) are within in
+      sees_none_on opened first next before continues
+      (all_first (IsWithin (λ (span : Span). span) (last_place first)) before (last ∷ []) split) (at_once.before_last_span before last are);
+}
 
 -- the conversation of a post stands on a history that may follow what its caller has seen
 pub conversation_stands : (may_follow : History → History → Type 0) → AreFollowers may_follow → (may_give : ℤ → Type 0) (limit port : ℕ)
@@ -100,19 +105,23 @@ pub conversation_stands : (may_follow : History → History → Type 0) → AreF
     may_follow new.seen next → IsConversation may_follow may_give limit port events_before events_after count old new end →
     StandsOn may_follow may_give limit port events_before events_after count old new end next
 conversation_stands may_follow laws may_give limit port events_before events_after count old new end next follows is =
-    let exchanges = all_exchanges is.served in
+    let exchanges = all_exchanges (served_of is.steps) in
     let continues = laws.continues new.seen next follows in
     let follow = is.exchanged.follow in
     let within = follow_within span_of may_follow new.seen (last_place old.seen) exchanges (last_place new.seen) follow in
+    let spans_within = follow_within (λ (span : Span). span) may_follow new.seen (last_place old.seen) (spans_of is.steps) (last_place new.seen) is.sees.follow in
     record {
-      served = is.served;
+      steps = is.steps;
       visited = is.visited;
-      each = each_on may_give limit old.caller old.opened new.seen next is.served continues within is.each;
+      each = each_on may_give limit old.caller old.opened new.seen next (served_of is.steps) continues within is.each;
       follow = follow_on span_of may_follow new.seen next (last_place old.seen) exchanges (last_place new.seen) continues (omega arith) follow;
       own = is.exchanged.own ∙ ap (λ (entries : List Entry). old.own ++ entries) (sym (entered_on span_of new.seen next exchanges continues within));
       faulted = is.exchanged.faulted;
       acknowledged = is.exchanged.acknowledged;
       stays = is.exchanged.stays;
-      stops_at_once = stops_on old.opened new.seen next is.served continues within is.stops_at_once;
+      spans_follow = follow_on (λ (span : Span). span) may_follow new.seen next (last_place old.seen) (spans_of is.steps) (last_place new.seen) continues
+          (omega arith) is.sees.follow;
+      all_seen = is.sees.all_seen;
+      stops_at_once = stops_on old.opened new.seen next is.steps continues spans_within is.stops_at_once;
       ends = subst (λ (seen : History). EndsAs old.opened seen count end) (sym continues) is.ends;
     }

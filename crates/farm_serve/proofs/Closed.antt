@@ -1,14 +1,13 @@
 -- Posts that served a desk, once its turn is closed.
-use Rattle.std.proofs.Common.{◌≡◌, ◌∙◌, ℕ, ◌+◌, List, [], ◌∷◌, ◌++◌, length, map, Option, None, Some, ℤ, refl, sym, ap, ap₂, subst, arith}
-use Rattle.std.specs.Prelude.{All, IsSome, sum_by}
+use Rattle.std.proofs.Common.{◌≡◌, ◌∙◌, ℕ, List, ◌++◌, length, map, Option, ℤ, sym, ap, ap₂, subst}
+use Rattle.std.specs.Prelude.{IsSome}
 use Rattle.std.proofs.lemmas.List.{map-append}
-use Rattle.std.proofs.lemmas.List.Elements.{All-append, All-map}
-use Rattle.std.proofs.lemmas.List.Sums.{sum_by-append, sum_by-cons}
+use Rattle.std.proofs.lemmas.List.Elements.{All-append}
 use Rattle.farm_history.specs.History.{last_place}
 use Rattle.farm_history.specs.declared.entry.Entry.{Entry}
 use Rattle.farm_listeners.specs.Listeners.{Event}
 use Rattle.farm_ports.specs.declared.links.LinkCall.{LinkCall}
-use Rattle.farm_turn.specs.Views.{PassView, TurnView, numbers_of}
+use Rattle.farm_turn.specs.Views.{PassView, TurnView}
 use Rattle.journaled_book.specs.Histories.{front_of}
 use Rattle.farm_desk.specs.States.{Continues, DeskState, FoundState, found_of}
 use Rattle.desk_access.specs.Access.{CallerState}
@@ -19,21 +18,13 @@ use Rattle.desk_turns.specs.Closing.{AccountsFor, AreCallers, IsAccessOf, IsUnus
 use Rattle.desk_turns.specs.Turns.{TurnState, turn_caller}
 use Rattle.modbus_poll.specs.Polls.{PollerState}
 use Rattle.boxed_disk.specs.declared.boxed.BoxedDisk.{BoxedDisk}
-use Rattle.farm_serve.specs.Callers.{AreReady, DeskCaller, numbers_by, numbers_in, outsides_of, pass_of, passes_of, without_callers}
-use Rattle.farm_serve.specs.Running.{ConversesAs, EachHasRun, HasLine, RunsLine}
+use Rattle.shared_posts.specs.Callers.{AreReady, DeskCaller, outsides_of, passes_of, without_callers}
+use Rattle.farm_serve.specs.Running.{ConversesAs, HasLine, RunsLine}
+use Rattle.shared_posts.specs.Running.{EachHasRun}
 use Rattle.farm_serve.specs.Sharing.{EachStands, LineStands, PostStands, ServesAll}
-use Rattle.farm_serve.specs.declared.post.Post.{Post}
-use Rattle.farm_serve.proofs.Ran.{accesses_of, all_stand, of_the_turn, passes_are}
+use Rattle.shared_posts.specs.declared.post.Post.{Post}
+use Rattle.shared_posts.proofs.Ran.{accesses_of, all_stand, passes_are}
 use Rattle.farm_serve.proofs.Standing.{desk_stands, each_stands, line_stands}
-
--- the passes of posts that ran are of the turn
-pub passes_of_turn : {X W D : Type 0} (does : ℕ → X → CallerState → X → CallerState → Option PostEnd → Type 0) (turn : TurnView (DeskState (BoxedDisk D)))
-    (before after : List (Post X W (DeskCaller D))) → EachHasRun does turn 0 before after → All (λ pass. pass.turn ≡ turn.turn) (passes_of after)
-passes_of_turn {X} {W} {D} does turn before after runs =
-    let accesses = accesses_of does turn 0 before after runs in
-    subst (All (λ (pass : PassView Entry (FoundState (BoxedDisk D))). pass.turn ≡ turn.turn)) (passes_are does turn 0 before after runs)
-    (All-map (λ (pass : PassView Entry (FoundState (BoxedDisk D))). pass.turn ≡ turn.turn) (λ (access : TurnState (BoxedDisk D)). access.pass) accesses
-    (of_the_turn turn accesses (all_stand does turn 0 before after runs)))
 
 -- a desk that tells what it was made with, as one that was just made did, has a history that continues that one's
 desk_continues : {D : Type 0} (opening left : DeskState D) → IsUnused opening → found_of left ≡ found_of opening → Continues opening.history left.history
@@ -101,22 +92,3 @@ module _ {D L M V : Type 0} (events : L → Option (List Event)) (faults : L →
             (all_last (λ (caller : CallerState). Continues caller.seen left.history) desk_callers line_callers callers.seen));
         callers = callers;
       }
-
--- how many numbers these passes have
-abbrev numbers_of_all : {D : Type 0} → List (PassView Entry (FoundState (BoxedDisk D))) → ℕ
-numbers_of_all {D} passes = sum_by (λ (pass : PassView Entry (FoundState (BoxedDisk D))). numbers_of pass.known) passes
-
--- the pass of a caller has its numbers
-numbers_of_one : {D : Type 0} (caller : Option (DeskCaller D)) → numbers_of_all (pass_of caller) ≡ numbers_by caller
-numbers_of_one None = refl
-numbers_of_one {D} (Some caller) =
-    omega (arith, sum_by-cons (λ (pass : PassView Entry (FoundState (BoxedDisk D))). numbers_of pass.known) caller.pass [])
-
--- the passes of posts have all their numbers
-pub numbers_of_passes : {X W D : Type 0} (posts : List (Post X W (DeskCaller D))) →
-    sum_by (λ (pass : PassView Entry (FoundState (BoxedDisk D))). numbers_of pass.known) (passes_of posts) ≡ numbers_in posts
-numbers_of_passes [] = refl
-numbers_of_passes {X} {W} {D} (post ∷ posts) =
-    sum_by-append (λ (pass : PassView Entry (FoundState (BoxedDisk D))). numbers_of pass.known) (pass_of post.caller) (passes_of posts)
-    ∙ ap₂ (λ (n m : ℕ). n + m) (numbers_of_one post.caller) (numbers_of_passes posts)
-    ∙ sym (sum_by-cons (λ (post : Post X W (DeskCaller D)). numbers_by post.caller) post posts)

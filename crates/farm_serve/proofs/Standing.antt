@@ -21,12 +21,13 @@ use Rattle.line_posts.proofs.Continuing.{line_run_on}
 use Rattle.modbus_poll.specs.Polls.{PollerState, fresh}
 use Rattle.desk_turns.specs.Turns.{IsNewPass, turn_caller}
 use Rattle.boxed_disk.specs.declared.boxed.BoxedDisk.{BoxedDisk}
-use Rattle.farm_serve.specs.Callers.{AreReady, DeskCaller, IsNewCaller, IsReady, outsides_of, without_callers}
-use Rattle.farm_serve.specs.Running.{ConversesAs, EachHasRun, HasLine, HasRun, RunsLine, begun, line_of}
+use Rattle.shared_posts.specs.Callers.{AreReady, DeskCaller, IsNewCaller, IsReady, outsides_of, without_callers}
+use Rattle.farm_serve.specs.Running.{ConversesAs, HasLine, RunsLine, line_of}
+use Rattle.shared_posts.specs.Running.{EachHasRun, HasRun, begun}
 use Rattle.farm_serve.specs.Sharing.{EachStands, IsFirst, LineStands, PostStands}
-use Rattle.farm_serve.specs.declared.post.Post.{Post}
-use Rattle.farm_serve.proofs.Giving.{first_or}
-use Rattle.farm_serve.proofs.Ran.{accesses_of}
+use Rattle.shared_posts.specs.declared.post.Post.{Post}
+use Rattle.shared_posts.proofs.Giving.{first_or}
+use Rattle.shared_posts.proofs.Ran.{accesses_of}
 
 -- all but the first
 abbrev others : {X : Type 0} → List X → List X

@@ -4,7 +4,7 @@ use Rattle.std.specs.List.{list_any}
 use Rattle.farm_base.specs.Counts.{HasRisen, count_of}
 use Rattle.desk_posts.specs.declared.posts.PostEnd.{PostEnd}
 use Rattle.desk_posts.specs.declared.posts.PostEnd.TheVariants as ends
-use Rattle.farm_serve.specs.declared.post.Post.{Post}
+use Rattle.shared_posts.specs.declared.post.Post.{Post}
 
 -- whether a post ended since a call on its listener failed
 abbrev pub has_failed : Option PostEnd → Bool

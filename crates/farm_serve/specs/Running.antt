@@ -1,11 +1,9 @@
--- What posts did side by side, each on what its own caller had seen.
-use Rattle.std.specs.Prelude.{◌≡◌, ℕ, ◌+◌, ◌<◌, false, List, [], ◌∷◌, length, slice_index_or, Option, Some, ℤ}
+-- What desk posts and gauge lines did, each on what its own caller had seen.
+use Rattle.std.specs.Prelude.{◌≡◌, ℕ, ◌+◌, ◌<◌, List, length, slice_index_or, Option, Some, ℤ}
 use Rattle.farm_base.specs.Counts.{count_of}
 use Rattle.farm_listeners.specs.Listeners.{Event}
 use Rattle.farm_ports.specs.declared.links.LinkCall.{LinkCall}
-use Rattle.farm_turn.specs.Sharing.{KeepsNumbers}
-use Rattle.farm_turn.specs.Views.{TurnView}
-use Rattle.farm_desk.specs.States.{Continues, DeskState}
+use Rattle.farm_desk.specs.States.{Continues}
 use Rattle.desk_access.specs.Access.{CallerState}
 use Rattle.desk_posts.specs.Conversations.{IsConversation}
 use Rattle.desk_posts.specs.declared.posts.PostEnd.{PostEnd}
@@ -13,35 +11,6 @@ use Rattle.line_posts.specs.Runs.{IsLineRun}
 use Rattle.line_posts.specs.States.{LineState, line_state}
 use Rattle.modbus_poll.specs.Polls.{PollerState, fresh}
 use Rattle.gauge_maps.specs.declared.map.LineMap.{LineMap}
-use Rattle.desk_turns.specs.Closing.{IsAccessOf}
-use Rattle.desk_turns.specs.Turns.{TurnState, turn_caller}
-use Rattle.boxed_disk.specs.declared.boxed.BoxedDisk.{BoxedDisk}
-use Rattle.farm_serve.specs.Callers.{DeskCaller}
-use Rattle.farm_serve.specs.declared.post.Post.{Post}
-
--- the access of a caller that has taken no turn
-abbrev pub begun : {D : Type 0} → TurnView (DeskState (BoxedDisk D)) → DeskCaller D → TurnState (BoxedDisk D)
-begun turn caller = record { turn = turn; pass = caller.pass; caller = caller.number; faulted = 0; stopped = false }
-
--- A post ran: its caller made requests from how its access began to how it ended, and the post has its pass again. What the post did is said
--- of the object and of the caller, each before and after, and of how it ended.
-pub record HasRun {X W D : Type 0} (does : X → CallerState → X → CallerState → Option PostEnd → Type 0) (turn : TurnView (DeskState (BoxedDisk D)))
-    (old new : Post X W (DeskCaller D)) : Type 0 where
-  pub before : DeskCaller D
-  pub before_is : old.caller ≡ Some before
-  pub access : TurnState (BoxedDisk D)
-  pub stands : IsAccessOf turn access
-  pub same_caller : access.caller ≡ before.number
-  pub numbers : KeepsNumbers before.pass.known access.pass.known
-  pub after_is : new.caller ≡ Some (record { pass = access.pass; number = access.caller })
-  pub ran : does old.outside (turn_caller (begun turn before)) new.outside (turn_caller access) new.end
-
--- each of these posts ran, by its index from this one on
-unfoldable pub EachHasRun : {X W D : Type 0} → (ℕ → X → CallerState → X → CallerState → Option PostEnd → Type 0) → TurnView (DeskState (BoxedDisk D)) → ℕ →
-    List (Post X W (DeskCaller D)) → List (Post X W (DeskCaller D)) → Type 0
-EachHasRun does turn index [] posts = posts ≡ []
-EachHasRun does turn index (old ∷ before) [] = ⊥
-EachHasRun does turn index (old ∷ before) (new ∷ posts) = HasRun (does index) turn old new × EachHasRun does turn (index + 1) before posts
 
 -- A desk post had a conversation on its port, and ended.
 pub record Converses {L : Type 0} (events : L → Option (List Event)) (faults : L → ℕ) (may_give : ℤ → Type 0) (limit port : ℕ)

@@ -13,9 +13,9 @@ use Rattle.desk_posts.specs.declared.posts.PostEnd.{PostEnd}
 use Rattle.line_posts.specs.Laws.{line_with_seen}
 use Rattle.line_posts.specs.Runs.{IsLineRun}
 use Rattle.desk_turns.specs.Closing.{AreCallers}
-use Rattle.farm_serve.specs.Callers.{outsides_of}
+use Rattle.shared_posts.specs.Callers.{outsides_of}
 use Rattle.farm_serve.specs.Running.{IsLineAt, line_of}
-use Rattle.farm_serve.specs.declared.post.Post.{Post}
+use Rattle.shared_posts.specs.declared.post.Post.{Post}
 
 -- how the access of a caller stands before its first request, at a desk that was just made with this history
 pub record IsFirst (found : History) (number : ℕ) (state : CallerState) : Type 0 where

@@ -3,8 +3,9 @@
 ghost use Rattle.std.specs.Prelude.{◌≡◌, ℕ, ◌+◌, ◌<◌, ◌≤◌, length, IsSome};
 ghost use Rattle.farm_history.specs.History.{last_place};
 ghost use Rattle.line_posts.specs.Limits.{most_rounds};
-ghost use Rattle.farm_serve.specs.Callers.{AreReady, IsReady};
-ghost use Rattle.farm_serve.specs.Running.{ConversesAs, EachHasRun, HasLine, HasRun, RunsLine};
+ghost use Rattle.shared_posts.specs.Callers.{AreReady, IsReady};
+ghost use Rattle.farm_serve.specs.Running.{ConversesAs, HasLine, RunsLine};
+ghost use Rattle.shared_posts.specs.Running.{EachHasRun, HasRun};
 
 use crate::desk_side::{DeskPost, run_desk_post};
 use crate::line_side::{LinePost, run_line_post};

@@ -2,10 +2,10 @@
 
 ghost use Rattle.std.specs.Prelude.{◌≡◌, ℕ, IsSome};
 ghost use Rattle.farm_history.specs.History.{last_place};
-ghost use Rattle.farm_serve.specs.Callers.{IsReady};
-ghost use Rattle.farm_serve.specs.Running.{Converses, HasRun};
+ghost use Rattle.shared_posts.specs.Callers.{IsReady};
+ghost use Rattle.farm_serve.specs.Running.{Converses};
+ghost use Rattle.shared_posts.specs.Running.{HasRun};
 
-use crate::post::{Caller, DeskCaller, Post};
 use boxed_disk::BoxedDisk;
 use desk_posts::{PostRoom, run_post};
 use desk_turns::TurnAccess;
@@ -14,6 +14,7 @@ use farm_disk::Disk;
 use farm_listeners::Listener;
 use farm_ports::Clock;
 use farm_turn::Turn;
+use shared_posts::{Caller, DeskCaller, Post};
 use std::alloc::Global;
 use std::sync::Wait;
 

@@ -3,8 +3,8 @@
 ghost use Rattle.std.specs.Prelude.{◌≡◌};
 ghost use Rattle.farm_serve.specs.Ends.{any_failed, has_failed};
 
-use crate::post::Post;
 use desk_posts::PostEnd;
+use shared_posts::Post;
 
 // Whether a post ended since a call on its listener failed.
 fn has_failed<X, W, C>(post: &Post<X, W, C>) -> bool

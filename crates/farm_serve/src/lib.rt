@@ -5,14 +5,10 @@
 #![tactic(auto)]
 
 mod all_posts;
-mod callers;
-mod closing;
-mod collecting;
 mod desk_side;
 mod ends;
 mod line_side;
 mod lines;
-mod post;
 mod rooms;
 mod serving;
 mod side_by_side;
@@ -20,5 +16,5 @@ mod side_by_side;
 pub use desk_side::DeskPost;
 pub use ends::any_failed;
 pub use line_side::LinePost;
-pub use post::{Caller, DeskCaller, DeskPass, Post};
 pub use serving::serve;
+pub use shared_posts::{Caller, DeskCaller, DeskPass, Post};

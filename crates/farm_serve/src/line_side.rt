@@ -3,10 +3,10 @@
 ghost use Rattle.std.specs.Prelude.{◌≡◌, ℕ, ◌+◌, ◌<◌, ◌≤◌};
 ghost use Rattle.farm_history.specs.History.{last_place};
 ghost use Rattle.line_posts.specs.Limits.{most_rounds};
-ghost use Rattle.farm_serve.specs.Callers.{IsReady};
-ghost use Rattle.farm_serve.specs.Running.{HasLine, HasRun, RunsLine};
+ghost use Rattle.shared_posts.specs.Callers.{IsReady};
+ghost use Rattle.farm_serve.specs.Running.{HasLine, RunsLine};
+ghost use Rattle.shared_posts.specs.Running.{HasRun};
 
-use crate::post::{Caller, DeskCaller, Post};
 use boxed_disk::BoxedDisk;
 use desk_turns::TurnAccess;
 use farm_desk::Desk;
@@ -14,6 +14,7 @@ use farm_disk::Disk;
 use farm_ports::{Clock, Link};
 use farm_turn::Turn;
 use line_posts::{GaugeLine, run_line};
+use shared_posts::{Caller, DeskCaller, Post};
 use std::sync::Wait;
 
 /// A gauge line, over a link.

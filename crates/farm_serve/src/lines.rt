@@ -3,7 +3,7 @@
 ghost use Rattle.std.specs.Prelude.{◌≡◌, ◌≤◌, All, IsTrue, IfOk, OnOk, length};
 ghost use Rattle.gauge_maps.specs.Maps.{is_line_map};
 ghost use Rattle.modbus_poll.specs.Polls.{fresh};
-ghost use Rattle.farm_serve.specs.Callers.{HaveWork, outsides_of};
+ghost use Rattle.shared_posts.specs.Callers.{HaveWork, outsides_of};
 ghost use Rattle.farm_serve.specs.Running.{HasLine};
 
 use crate::line_side::LinePost;

@@ -1,7 +1,7 @@
 //! What desk posts work with, had before any of them begins.
 
 ghost use Rattle.std.specs.Prelude.{◌≡◌, All, IsSome, OnOk, map};
-ghost use Rattle.farm_serve.specs.Callers.{outsides_of};
+ghost use Rattle.shared_posts.specs.Callers.{outsides_of};
 
 use crate::desk_side::DeskPost;
 use desk_posts::PostRoom;

@@ -4,17 +4,14 @@ ghost use Rattle.std.specs.Prelude.{◌≡◌, ◌+◌, ◌≤◌, [], length, v
 ghost use Rattle.farm_desk.specs.States.{IsDurable, IsJustMade};
 ghost use Rattle.farm_history.specs.History.{last_place};
 ghost use Rattle.line_posts.specs.Limits.{most_rounds};
-ghost use Rattle.farm_serve.specs.Callers.{HaveWork, IsOpened, outsides_of};
+ghost use Rattle.shared_posts.specs.Callers.{HaveWork, IsOpened, outsides_of};
 ghost use Rattle.farm_serve.specs.Running.{HasLine};
 ghost use Rattle.farm_serve.specs.Sharing.{ServesAll, ServesFrom};
 
 use crate::all_posts::run_all;
-use crate::callers::give_callers;
-use crate::closing::close_posts;
 use crate::desk_side::DeskPost;
 use crate::line_side::LinePost;
 use crate::lines::{lines_of, make_lines};
-use crate::post::DeskPass;
 use crate::rooms::make_rooms;
 use boxed_disk::BoxedDisk;
 use farm_desk::Desk;
@@ -22,6 +19,7 @@ use farm_disk::Disk;
 use farm_listeners::Listener;
 use farm_ports::{Clock, Link};
 use farm_turn::Turn;
+use shared_posts::{DeskPass, close_posts, give_callers};
 use std::alloc::Global;
 use std::sync::Wait;
 use std::thread::Threads;

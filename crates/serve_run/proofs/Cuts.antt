@@ -3,8 +3,8 @@ use Rattle.std.proofs.Common.{◌≡◌, ◌∙◌, ⊎_elim, ℕ, List, ◌++�
 use Rattle.std.proofs.Math.Seq.{drop-append_seam}
 use Rattle.std.proofs.lemmas.Bool.{cases_lt}
 use Rattle.std.proofs.lemmas.List.{drop_all, length-take-le, map-append, take-append-drop, take-append-le, take_all}
-use Rattle.farm_serve.specs.Callers.{outsides_of}
-use Rattle.farm_serve.specs.declared.post.Post.{Post}
+use Rattle.shared_posts.specs.Callers.{outsides_of}
+use Rattle.shared_posts.specs.declared.post.Post.{Post}
 
 module _ {X : Type 0} (most count : ℕ) (xs part : List X) (is : count ≡ min (length xs) most) (same : length part ≡ length (take count xs)) where
   -- the first ones are as many as there are, or as the most

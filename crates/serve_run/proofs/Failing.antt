@@ -10,7 +10,7 @@ use Rattle.desk_posts.specs.declared.posts.PostEnd.{PostEnd}
 use Rattle.desk_posts.specs.declared.posts.PostEnd.TheVariants as ends
 use Rattle.farm_serve.specs.Ends.{AnyRose, any_failed, has_failed}
 use Rattle.farm_serve.specs.Sharing.{EachStands, PostStands}
-use Rattle.farm_serve.specs.declared.post.Post.{Post}
+use Rattle.shared_posts.specs.declared.post.Post.{Post}
 
 -- a post that ended so has counted it; else a later one did
 one_rose : (opened : ℕ) (seen : History) (count : Count) (end : PostEnd) (later : Bool) (A : Type 0) → (later ≡ true → A) → EndsAs opened seen count end →

@@ -14,10 +14,10 @@ use Rattle.farm_history.specs.Verdicts.{IsLegal}
 use Rattle.farm_listeners.specs.Listeners.{Event}
 use Rattle.farm_ports.specs.declared.links.LinkCall.{LinkCall}
 use Rattle.desk_access.specs.Access.{CallerState}
-use Rattle.farm_serve.specs.Callers.{outsides_of}
+use Rattle.shared_posts.specs.Callers.{outsides_of}
 use Rattle.farm_serve.specs.Ends.{AnyRose, any_failed}
 use Rattle.farm_serve.specs.Sharing.{EachStands, LineStands, PostStands, ServesAll}
-use Rattle.farm_serve.specs.declared.post.Post.{Post}
+use Rattle.shared_posts.specs.declared.post.Post.{Post}
 use Rattle.boxed_disk.specs.declared.boxed.BoxedDisk.{BoxedDisk}
 use Rattle.book_texts.specs.Summaries.{summary_text}
 use Rattle.run_reports.specs.declared.limits.TheConstants.{BOOK_LIMIT}

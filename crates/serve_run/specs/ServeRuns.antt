@@ -11,10 +11,10 @@ use Rattle.farm_ports.specs.declared.links.LinkCall.{LinkCall}
 use Rattle.journaled_book.specs.Histories.{Recovers, certain}
 use Rattle.desk_access.specs.Access.{CallerState, Continues, entered_since}
 use Rattle.desk_turns.specs.Closing.{entries_by}
-use Rattle.farm_serve.specs.Callers.{outsides_of}
+use Rattle.shared_posts.specs.Callers.{outsides_of}
 use Rattle.farm_serve.specs.Ends.{AnyRose, any_failed}
 use Rattle.farm_serve.specs.Sharing.{EachStands, LineStands, PostStands}
-use Rattle.farm_serve.specs.declared.post.Post.{Post}
+use Rattle.shared_posts.specs.declared.post.Post.{Post}
 use Rattle.book_texts.specs.Summaries.{IsSummary, summary_text}
 use Rattle.run_reports.specs.Disks.{IsLater}
 use Rattle.run_reports.specs.DisksLeft.{LeavesHistory}

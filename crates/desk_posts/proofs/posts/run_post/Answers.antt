@@ -1,9 +1,10 @@
 -- Answers to the open goals of `run_post`.
 use Rattle.std.proofs.Common.{rules, ◌≡◌, ◌∙◌, ℕ, List, [], ◌∷◌, ◌++◌, sym, ap, subst, arith}
 use Rattle.farm_base.specs.Counts.{Rose, count_of}
+use Rattle.farm_history.specs.History.{last_place}
 use Rattle.farm_listeners.specs.Listeners.{AddsAccepted, AddsEvents, Came, connection_of}
 use Rattle.farm_listeners.specs.declared.listeners.Accepted.{Accepted}
-use Rattle.desk_posts.specs.Conversations.{Served}
+use Rattle.desk_posts.specs.Conversations.{Attended, Looked, Step}
 use Rattle.desk_posts.specs.declared.posts.PostEnd.TheVariants as how
 use Rattle.desk_posts.proofs.Conversing.{Serving, converses, goes_on, listens, looks_on, refuses, serves_one, stops}
 use Rattle.desk_posts.proofs.posts.run_post.Goals as goal
@@ -34,7 +35,7 @@ returns-in-Ok-End-clause-conversation g c =
     let running = c.loop.invariant.2 in
     converses g.A.DeskAccess.may_follow (g.C.Clock.may_give c.args.clock.now) g.A.DeskAccess.limit c.args.port (g.L.Listener.events c.args.listener.now)
     (g.L.Listener.events c.loop.listener) (g.L.Listener.events c.accept.new.self) (count_of g.L.Listener.faults c.args.listener.now c.accept.new.self)
-    (g.A.DeskAccess.state c.args.access.now) (g.A.DeskAccess.state c.loop.access) how.Ended running.served running.serving
+    (g.A.DeskAccess.state c.args.access.now) (g.A.DeskAccess.state c.loop.access) how.Ended running.steps running.serving
     (subst (λ (accepted : Accepted g.row.L-Conn.Denot). AddsAccepted (g.L.Listener.events c.loop.listener) (g.L.Listener.events c.accept.new.self) accepted)
     c.in-Ok-End.field-0-is c.in-Ok-End.ensures.event)
     (running.no_stop, c.in-Ok-End.ensures.counts.quiet ∙ c.loop.invariant.3)
@@ -52,7 +53,7 @@ returns-in-Err-accept-clause-conversation g c =
     let running = c.loop.invariant.2 in
     converses g.A.DeskAccess.may_follow (g.C.Clock.may_give c.args.clock.now) g.A.DeskAccess.limit c.args.port (g.L.Listener.events c.args.listener.now)
     (g.L.Listener.events c.loop.listener) (g.L.Listener.events c.accept.new.self) (count_of g.L.Listener.faults c.args.listener.now c.accept.new.self)
-    (g.A.DeskAccess.state c.args.access.now) (g.A.DeskAccess.state c.loop.access) how.ListenerFailed running.served running.serving
+    (g.A.DeskAccess.state c.args.access.now) (g.A.DeskAccess.state c.loop.access) how.ListenerFailed running.steps running.serving
     c.in-Err-accept.ensures.event
     (running.no_stop, subst (λ (before : ℕ). Rose before (g.L.Listener.faults c.accept.new.self)) c.loop.invariant.3 c.in-Err-accept.ensures.counts.failed)
 
@@ -77,18 +78,18 @@ returns-then-stopped-clause-conversation g c =
     let first = events c.args.listener.now in
     let old = state c.args.access.now in
     let running = c.loop.invariant.2 in
-    let after : (served : List Served) × Serving follow give limit c.args.port first (events c.match-accept-2.listener) old (state c.match-accept-2.access) served
+    let after : (steps : List Step) × Serving follow give limit c.args.port first (events c.match-accept-2.listener) old (state c.match-accept-2.access) steps
     × (faults c.match-accept-2.listener ≡ faults c.args.listener.now) =
     elim c.match-accept-2.branch [
       | in-Ok-Conn w ↦
           (let conn = connection_of g.L.Conn.Port.stream g.L.Conn.Port.held g.L.Conn.Port.faults w.serve_connection.new.conn in
           let came : AddsEvents (events c.loop.listener) (events c.accept.new.self) (Came ∷ []) = search rules in
           let quiet : faults c.accept.new.self ≡ faults c.loop.listener = search rules in (
-            running.served ++ record { conn = conn; acts = w.serve_connection.ensures.served.acts } ∷ [],
+            running.steps ++ Attended (record { conn = conn; acts = w.serve_connection.ensures.served.acts }) ∷ [],
             subst (λ (access : g.row.A.Denot). Serving follow give limit c.args.port first (events c.match-accept-2.listener) old (state access)
-                (running.served ++ record { conn = conn; acts = w.serve_connection.ensures.served.acts } ∷ [])) (sym w.access-is)
+                (running.steps ++ Attended (record { conn = conn; acts = w.serve_connection.ensures.served.acts }) ∷ [])) (sym w.access-is)
                 (subst (λ (listener : g.row.L.Denot). Serving follow give limit c.args.port first (events listener) old (state w.serve_connection.new.access)
-                (running.served ++ record { conn = conn; acts = w.serve_connection.ensures.served.acts } ∷ [])) (sym w.listener-is)
+                (running.steps ++ Attended (record { conn = conn; acts = w.serve_connection.ensures.served.acts }) ∷ [])) (sym w.listener-is)
                 (serves_one follow laws give limit c.args.port first (events c.loop.listener) (events c.accept.new.self) (events w.done.new.self) old
                 (state c.loop.access) (state w.serve_connection.new.access) conn running came w.serve_connection.ensures.served w.done.ensures.event)),
             ap faults w.listener-is ∙ w.done.ensures.faults ∙ quiet ∙ c.loop.invariant.3,
@@ -96,10 +97,12 @@ returns-then-stopped-clause-conversation g c =
       | in-Ok-Idle w ↦
           (let idle : AddsEvents (events c.loop.listener) (events c.accept.new.self) [] = search rules in
           let quiet : faults c.accept.new.self ≡ faults c.loop.listener = search rules in (
-            running.served,
-            subst (λ (access : g.row.A.Denot). Serving follow give limit c.args.port first (events c.match-accept-2.listener) old (state access) running.served)
+            running.steps ++ Looked (last_place (state w.look.new.self).seen) ∷ [],
+            subst (λ (access : g.row.A.Denot). Serving follow give limit c.args.port first (events c.match-accept-2.listener) old (state access)
+                (running.steps ++ Looked (last_place (state w.look.new.self).seen) ∷ []))
                 (sym w.access-is)
-                (subst (λ (listener : g.row.L.Denot). Serving follow give limit c.args.port first (events listener) old (state w.look.new.self) running.served)
+                (subst (λ (listener : g.row.L.Denot). Serving follow give limit c.args.port first (events listener) old (state w.look.new.self)
+                (running.steps ++ Looked (last_place (state w.look.new.self).seen) ∷ []))
                 (sym w.listener-is)
                 (looks_on follow laws give limit c.args.port first (events c.loop.listener) (events c.accept.new.self) old
                 (state c.loop.access) (state w.look.new.self) running idle w.look.ensures.looked)),
@@ -138,18 +141,18 @@ loop-preserved g c =
     let first = events c.args.listener.now in
     let old = state c.args.access.now in
     let running = c.loop.invariant.2 in
-    let after : (served : List Served) × Serving follow give limit c.args.port first (events c.match-accept-2.listener) old (state c.match-accept-2.access) served
+    let after : (steps : List Step) × Serving follow give limit c.args.port first (events c.match-accept-2.listener) old (state c.match-accept-2.access) steps
     × (faults c.match-accept-2.listener ≡ faults c.args.listener.now) =
     elim c.match-accept-2.branch [
       | in-Ok-Conn w ↦
           (let conn = connection_of g.L.Conn.Port.stream g.L.Conn.Port.held g.L.Conn.Port.faults w.serve_connection.new.conn in
           let came : AddsEvents (events c.loop.listener) (events c.accept.new.self) (Came ∷ []) = search rules in
           let quiet : faults c.accept.new.self ≡ faults c.loop.listener = search rules in (
-            running.served ++ record { conn = conn; acts = w.serve_connection.ensures.served.acts } ∷ [],
+            running.steps ++ Attended (record { conn = conn; acts = w.serve_connection.ensures.served.acts }) ∷ [],
             subst (λ (access : g.row.A.Denot). Serving follow give limit c.args.port first (events c.match-accept-2.listener) old (state access)
-                (running.served ++ record { conn = conn; acts = w.serve_connection.ensures.served.acts } ∷ [])) (sym w.access-is)
+                (running.steps ++ Attended (record { conn = conn; acts = w.serve_connection.ensures.served.acts }) ∷ [])) (sym w.access-is)
                 (subst (λ (listener : g.row.L.Denot). Serving follow give limit c.args.port first (events listener) old (state w.serve_connection.new.access)
-                (running.served ++ record { conn = conn; acts = w.serve_connection.ensures.served.acts } ∷ [])) (sym w.listener-is)
+                (running.steps ++ Attended (record { conn = conn; acts = w.serve_connection.ensures.served.acts }) ∷ [])) (sym w.listener-is)
                 (serves_one follow laws give limit c.args.port first (events c.loop.listener) (events c.accept.new.self) (events w.done.new.self) old
                 (state c.loop.access) (state w.serve_connection.new.access) conn running came w.serve_connection.ensures.served w.done.ensures.event)),
             ap faults w.listener-is ∙ w.done.ensures.faults ∙ quiet ∙ c.loop.invariant.3,
@@ -157,10 +160,12 @@ loop-preserved g c =
       | in-Ok-Idle w ↦
           (let idle : AddsEvents (events c.loop.listener) (events c.accept.new.self) [] = search rules in
           let quiet : faults c.accept.new.self ≡ faults c.loop.listener = search rules in (
-            running.served,
-            subst (λ (access : g.row.A.Denot). Serving follow give limit c.args.port first (events c.match-accept-2.listener) old (state access) running.served)
+            running.steps ++ Looked (last_place (state w.look.new.self).seen) ∷ [],
+            subst (λ (access : g.row.A.Denot). Serving follow give limit c.args.port first (events c.match-accept-2.listener) old (state access)
+                (running.steps ++ Looked (last_place (state w.look.new.self).seen) ∷ []))
                 (sym w.access-is)
-                (subst (λ (listener : g.row.L.Denot). Serving follow give limit c.args.port first (events listener) old (state w.look.new.self) running.served)
+                (subst (λ (listener : g.row.L.Denot). Serving follow give limit c.args.port first (events listener) old (state w.look.new.self)
+                (running.steps ++ Looked (last_place (state w.look.new.self).seen) ∷ []))
                 (sym w.listener-is)
                 (looks_on follow laws give limit c.args.port first (events c.loop.listener) (events c.accept.new.self) old
                 (state c.loop.access) (state w.look.new.self) running idle w.look.ensures.looked)),

@@ -2,11 +2,12 @@
 use denote.Param.Send.{sendable}
 use Rattle.std.proofs.Common.{ℕ, ◌+◌, slice_index_or, sym, subst, arith}
 use Rattle.std.specs.Prelude.{IsSome}
-use Rattle.farm_serve.proofs.Crossing.{caller_send}
-use Rattle.farm_serve.proofs.Giving.{ready_at}
-use Rattle.farm_serve.proofs.Ran.{each_ran}
-use Rattle.farm_serve.specs.Callers.{IsReady}
-use Rattle.farm_serve.specs.Running.{ConversesAs, HasLine, HasRun, RunsLine}
+use Rattle.shared_posts.proofs.Crossing.{caller_send}
+use Rattle.shared_posts.proofs.Giving.{ready_at}
+use Rattle.shared_posts.proofs.Ran.{each_ran}
+use Rattle.shared_posts.specs.Callers.{IsReady}
+use Rattle.farm_serve.specs.Running.{ConversesAs, HasLine, RunsLine}
+use Rattle.shared_posts.specs.Running.{HasRun}
 use Rattle.farm_serve.proofs.all_posts.run_all.Goals as goal
 
 pub run_sides-requires-send-C : goal.run_sides-requires-send-C

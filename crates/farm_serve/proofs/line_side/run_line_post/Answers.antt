@@ -4,7 +4,7 @@ use Rattle.farm_desk.specs.States.{Continues}
 use Rattle.desk_turns.specs.Turns.{turn_caller}
 use Rattle.line_posts.specs.Runs.{IsLineRun}
 use Rattle.modbus_poll.specs.Polls.{PollerState, fresh}
-use Rattle.farm_serve.proofs.Running.{has_run}
+use Rattle.shared_posts.proofs.Running.{has_run}
 use Rattle.farm_serve.specs.Running.{RunsLine, line_of}
 use Rattle.farm_serve.proofs.line_side.run_line_post.Goals as goal
 

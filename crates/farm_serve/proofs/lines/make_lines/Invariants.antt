@@ -1,6 +1,6 @@
 -- The invariants of the loops of `make_lines`.
 use Rattle.std.proofs.Common.{◌≡◌, length, take}
-use Rattle.farm_serve.specs.Callers.{HaveWork, outsides_of}
+use Rattle.shared_posts.specs.Callers.{HaveWork, outsides_of}
 use Rattle.farm_serve.specs.Running.{HasLine}
 use Rattle.farm_serve.proofs.lines.make_lines.Given as goal
 

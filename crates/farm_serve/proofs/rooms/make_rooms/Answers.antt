@@ -3,7 +3,7 @@ use Rattle.std.proofs.Common.{◌∙◌, ◌<◌, length, take, refl, sym, subst
 use Rattle.std.specs.Prelude.{All, IsSome}
 use Rattle.std.proofs.lemmas.List.{length-set, take_more_set}
 use Rattle.std.proofs.lemmas.List.Elements.{All-push}
-use Rattle.farm_serve.proofs.Taking.{outsides_set}
+use Rattle.shared_posts.proofs.Taking.{outsides_set}
 use Rattle.farm_serve.proofs.rooms.make_rooms.Goals as goal
 
 pub loop-post-preserved : goal.loop-post-preserved

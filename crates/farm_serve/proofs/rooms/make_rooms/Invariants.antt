@@ -1,7 +1,7 @@
 -- The invariants of the loops of `make_rooms`.
 use Rattle.std.proofs.Common.{◌≡◌, length, take}
 use Rattle.std.specs.Prelude.{All, IsSome}
-use Rattle.farm_serve.specs.Callers.{outsides_of}
+use Rattle.shared_posts.specs.Callers.{outsides_of}
 use Rattle.farm_serve.proofs.rooms.make_rooms.Given as goal
 
 -- so far the first posts have what they work with, and all have their objects

@@ -4,12 +4,13 @@ use Rattle.std.specs.Prelude.{IsSome}
 use Rattle.std.proofs.lemmas.List.{length-map}
 use Rattle.std.proofs.lemmas.List.Elements.{All-append}
 use Rattle.farm_turn.specs.Views.{PassView, number_count}
-use Rattle.farm_serve.specs.Callers.{GetCallers, IsLeft, passes_of, without_callers}
+use Rattle.shared_posts.specs.Callers.{GetCallers, IsLeft, passes_of, without_callers}
 use Rattle.farm_serve.specs.Running.{ConversesAs, HasLine, RunsLine}
 use Rattle.farm_serve.specs.Sharing.{ServesAll}
-use Rattle.farm_serve.proofs.Closed.{passes_of_turn, serves_all}
-use Rattle.farm_serve.proofs.Giving.{get_ready, outsides_stay}
-use Rattle.farm_serve.proofs.Ran.{have_callers, numbers_stay}
+use Rattle.farm_serve.proofs.Closed.{serves_all}
+use Rattle.shared_posts.proofs.Passes.{passes_of_turn}
+use Rattle.shared_posts.proofs.Giving.{get_ready, outsides_stay}
+use Rattle.shared_posts.proofs.Ran.{have_callers, numbers_stay}
 use Rattle.farm_serve.proofs.serving.serve_turn.Goals as goal
 
 pub run_all-requires-after_bounds : goal.run_all-requires-after_bounds
@@ -128,6 +129,6 @@ returns-clause-served g c = λ found_desks found_lines same_desks same_lines.
     (get_ready turn (HasLine turn.opening.history.site.lines) (length desks) 0 given_lines lines c.requires.lines lines_given) c.requires.opened_turn.unused
     c.close_posts.ensures.accounts in
     subst (λ left_desks. ServesAll events faults calls link_faults may_give g.row.LIMIT c.args.port c.args.rounds turn.opening c.close_posts.result
-    found_desks left_desks found_lines c.close_posts.new.lines) (sym c.close_posts.ensures.desks_kept)
+    found_desks left_desks found_lines c.close_posts.new.second) (sym c.close_posts.ensures.first_kept)
     (subst (λ left_lines. ServesAll events faults calls link_faults may_give g.row.LIMIT c.args.port c.args.rounds turn.opening c.close_posts.result
-    found_desks (without_callers c.run_all.new.desks) found_lines left_lines) (sym c.close_posts.ensures.lines_kept) all)
+    found_desks (without_callers c.run_all.new.desks) found_lines left_lines) (sym c.close_posts.ensures.second_kept) all)

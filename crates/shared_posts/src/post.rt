@@ -11,8 +11,10 @@ use farm_turn::Pass;
 /// A caller of a desk that is shared by turns: its pass, and its number.
 #[derive(Drop)]
 pub struct Caller<P> {
-    pub(crate) pass: P,
-    pub(crate) number: u32,
+    /// Its pass.
+    pub pass: P,
+    /// Its number.
+    pub number: u32,
 }
 
 /// A pass of a desk on a boxed disk.
@@ -26,10 +28,14 @@ pub type DeskCaller<D, const LIMIT: usize> = Caller<DeskPass<D, LIMIT>>;
 /// While a desk is served it has what it works with beside, and its caller; afterwards a desk post has how it ended.
 #[derive(Drop)]
 pub struct Post<X, W, C> {
-    pub(crate) outside: X,
-    pub(crate) work: Option<W>,
-    pub(crate) end: Option<PostEnd>,
-    pub(crate) caller: Option<C>,
+    /// The object.
+    pub outside: X,
+    /// What it works with beside the object.
+    pub work: Option<W>,
+    /// How a desk post ended.
+    pub end: Option<PostEnd>,
+    /// Its caller.
+    pub caller: Option<C>,
 }
 
 impl<X, W, C> Post<X, W, C> {

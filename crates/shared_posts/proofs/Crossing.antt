@@ -1,4 +1,4 @@
--- What a post has while it runs may go to another thread: its room, and its caller with its pass.
+-- The caller of a post may go to another thread, with its pass.
 use denote.Param.Send.{IsSend}
 use denote.RattleType.{RattleType}
 use Rattle.boxed_disk.specs.contracts.boxed.BoxedDisk as BoxedDisk
@@ -8,8 +8,8 @@ use Rattle.farm_disk.specs.declared.disk.Disk as Disk
 use Rattle.farm_history.specs.contracts.entry.Entry as Entry
 use Rattle.farm_turn.proofs.passes.Pass.TheSendSync as passes
 use Rattle.farm_turn.specs.contracts.passes.Pass as Pass
-use Rattle.farm_serve.proofs.post.Caller.TheSendSync as callers
-use Rattle.farm_serve.specs.contracts.post.Caller as Caller
+use Rattle.shared_posts.proofs.post.Caller.TheSendSync as callers
+use Rattle.shared_posts.specs.contracts.post.Caller as Caller
 
 -- the caller of a post, and its pass
 pub caller_send : (D LIMIT : RattleType) (g : Disk.Ghosts D.Denot) →

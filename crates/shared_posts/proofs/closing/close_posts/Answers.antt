@@ -7,11 +7,11 @@ use Rattle.farm_turn.specs.Views.{PassView, numbers_of}
 use Rattle.desk_turns.specs.Closing.{AccountsFor, IsAccessOf}
 use Rattle.desk_turns.specs.Turns.{TurnState, turn_caller}
 use Rattle.desk_turns.proofs.Opening.{new_stands}
-use Rattle.farm_serve.specs.Callers.{passes_of}
-use Rattle.farm_serve.proofs.Closed.{numbers_of_passes}
-use Rattle.farm_serve.proofs.Giving.{left_is_new}
-use Rattle.farm_serve.proofs.Idle.{without_idle}
-use Rattle.farm_serve.proofs.closing.close_posts.Goals as goal
+use Rattle.shared_posts.specs.Callers.{passes_of}
+use Rattle.shared_posts.proofs.Passes.{numbers_of_passes}
+use Rattle.shared_posts.proofs.Giving.{left_is_new}
+use Rattle.shared_posts.proofs.Idle.{without_idle}
+use Rattle.shared_posts.proofs.closing.close_posts.Goals as goal
 
 pub take_passes-requires-2 : goal.take_passes-requires-2
 take_passes-requires-2 g c = (
@@ -33,9 +33,9 @@ take_passes-requires-2 g c = (
 pub close_turn-requires : goal.close_turn-requires
 close_turn-requires g c =
     let left = c.enrol.new.pass in
-    let others = passes_of c.args.desks.now ++ passes_of c.args.lines.now in
-    let passes = c.take_passes-2.ensures.taken ∙ ap (λ front. front ++ passes_of c.args.lines.now) (c.take_passes.ensures.taken
-    ∙ ap (λ front. front ++ passes_of c.args.desks.now) (c.push_reserved.ensures.items ∙ ap (λ front. front ++ left ∷ []) c.requires.none_taken)) in
+    let others = passes_of c.args.first.now ++ passes_of c.args.second.now in
+    let passes = c.take_passes-2.ensures.taken ∙ ap (λ front. front ++ passes_of c.args.second.now) (c.take_passes.ensures.taken
+    ∙ ap (λ front. front ++ passes_of c.args.first.now) (c.push_reserved.ensures.items ∙ ap (λ front. front ++ left ∷ []) c.requires.none_taken)) in
     let sum = ap (sum_by (λ (pass : PassView _ _). numbers_of pass.known)) passes ∙ sum_by-cons (λ (pass : PassView _ _). numbers_of pass.known) left others in (
       omega arith,
       (
@@ -47,9 +47,9 @@ close_turn-requires g c =
             omega (
               arith,
               sum,
-              sum_by-append (λ (pass : PassView _ _). numbers_of pass.known) (passes_of c.args.desks.now) (passes_of c.args.lines.now),
-              numbers_of_passes c.args.desks.now,
-              numbers_of_passes c.args.lines.now,
+              sum_by-append (λ (pass : PassView _ _). numbers_of pass.known) (passes_of c.args.first.now) (passes_of c.args.second.now),
+              numbers_of_passes c.args.first.now,
+              numbers_of_passes c.args.second.now,
               c.enrol.ensures.numbers_in_all,
               c.requires.ended.all_numbers,
             ),
@@ -69,8 +69,8 @@ returns-clause-accounts g c = λ accesses maps all.
       turn_is = refl;
       stands = new_stands turn left c.enrol.result (length left.known.seen) new (ap length new.seen);
     } in
-    let passes = c.take_passes-2.ensures.taken ∙ ap (λ front. front ++ passes_of c.args.lines.now) (c.take_passes.ensures.taken
-    ∙ ap (λ front. front ++ passes_of c.args.desks.now) (c.push_reserved.ensures.items ∙ ap (λ front. front ++ left ∷ []) c.requires.none_taken)) in
+    let passes = c.take_passes-2.ensures.taken ∙ ap (λ front. front ++ passes_of c.args.second.now) (c.take_passes.ensures.taken
+    ∙ ap (λ front. front ++ passes_of c.args.first.now) (c.push_reserved.ensures.items ∙ ap (λ front. front ++ left ∷ []) c.requires.none_taken)) in
     let accounts = subst (λ passes. AccountsFor turn passes c.close_turn.result) passes c.close_turn.ensures.accounts in
     without_idle turn.opening c.close_turn.result (turn_caller idle) (map turn_caller accesses) new.own refl
     (accounts (idle ∷ accesses) (ap (λ others. left ∷ others) maps) (All-cons (IsAccessOf turn) idle accesses stands all))

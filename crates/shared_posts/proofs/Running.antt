@@ -8,9 +8,9 @@ use Rattle.desk_access.specs.Access.{CallerState}
 use Rattle.desk_posts.specs.declared.posts.PostEnd.{PostEnd}
 use Rattle.desk_turns.specs.Turns.{IsTurnAccess, StaysAtTurn, TurnState, turn_caller}
 use Rattle.boxed_disk.specs.declared.boxed.BoxedDisk.{BoxedDisk}
-use Rattle.farm_serve.specs.Callers.{DeskCaller}
-use Rattle.farm_serve.specs.Running.{HasRun, begun}
-use Rattle.farm_serve.specs.declared.post.Post.{Post}
+use Rattle.shared_posts.specs.Callers.{DeskCaller}
+use Rattle.shared_posts.specs.Running.{HasRun, begun}
+use Rattle.shared_posts.specs.declared.post.Post.{Post}
 
 -- how a caller stands, by its turn, its pass, its number and its faults
 abbrev state_of : {D : Type 0} → TurnView (DeskState (BoxedDisk D)) → PassView Entry (FoundState (BoxedDisk D)) → ℕ → ℕ → CallerState

@@ -5,8 +5,8 @@ use Rattle.farm_history.specs.declared.entry.Entry.{Entry}
 use Rattle.farm_turn.specs.Views.{PassView}
 use Rattle.farm_desk.specs.States.{FoundState}
 use Rattle.boxed_disk.specs.declared.boxed.BoxedDisk.{BoxedDisk}
-use Rattle.farm_serve.specs.Callers.{DeskCaller, HaveWork, outsides_of, pass_of, passes_of, without_callers}
-use Rattle.farm_serve.specs.declared.post.Post.{Post}
+use Rattle.shared_posts.specs.Callers.{DeskCaller, HaveWork, outsides_of, pass_of, passes_of, without_callers}
+use Rattle.shared_posts.specs.declared.post.Post.{Post}
 
 -- if posts have what they work with, and so has one more, all of them have
 pub have_more : {X W C : Type 0} (works : ℕ → Option W → Type 0) (index : ℕ) (posts : List (Post X W C)) (new : Post X W C) → HaveWork works index posts →

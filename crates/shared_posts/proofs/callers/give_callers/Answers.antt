@@ -1,7 +1,7 @@
 -- Answers to the open goals of `give_callers`.
 use Rattle.std.proofs.Common.{◌<◌, length, Some, refl, arith}
-use Rattle.farm_serve.proofs.Giving.{giving_none, giving_on}
-use Rattle.farm_serve.proofs.callers.give_callers.Goals as goal
+use Rattle.shared_posts.proofs.Giving.{giving_none, giving_on}
+use Rattle.shared_posts.proofs.callers.give_callers.Goals as goal
 
 pub loop-post-init : goal.loop-post-init
 loop-post-init g c = giving_none c.args.turn.now c.args.left.now c.args.posts.now c.requires.left

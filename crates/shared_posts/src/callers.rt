@@ -2,7 +2,7 @@
 
 ghost use Rattle.std.specs.Prelude.{◌≡◌, ◌+◌, ◌≤◌, length, Some};
 ghost use Rattle.farm_turn.specs.Views.{left_of, numbers_of};
-ghost use Rattle.farm_serve.specs.Callers.{GetCallers, IsLeft, IsNewCaller, numbers_in};
+ghost use Rattle.shared_posts.specs.Callers.{GetCallers, IsLeft, IsNewCaller, numbers_in};
 
 use crate::post::{Caller, DeskCaller, DeskPass, Post};
 use boxed_disk::BoxedDisk;
@@ -30,7 +30,7 @@ fn next_caller<D: Disk, const LIMIT: usize>(
 }
 
 /// Gives each post a caller of its own, numbered in the order of the posts from the least remaining number.
-pub(crate) fn give_callers<X: Drop, W: Drop, D: Disk, const LIMIT: usize>(
+pub fn give_callers<X: Drop, W: Drop, D: Disk, const LIMIT: usize>(
     turn: &Turn<Desk<BoxedDisk<D>, LIMIT>>,
     left: &mut DeskPass<D, LIMIT>,
     posts: &mut [Post<X, W, DeskCaller<D, LIMIT>>],

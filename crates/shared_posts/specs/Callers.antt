@@ -7,8 +7,8 @@ use Rattle.farm_desk.specs.States.{DeskState, FoundState}
 use Rattle.desk_turns.specs.Closing.{IsUnused}
 use Rattle.desk_turns.specs.Turns.{IsNewPass}
 use Rattle.boxed_disk.specs.declared.boxed.BoxedDisk.{BoxedDisk}
-use Rattle.farm_serve.specs.declared.post.Caller.{Caller}
-use Rattle.farm_serve.specs.declared.post.Post.{Post}
+use Rattle.shared_posts.specs.declared.post.Caller.{Caller}
+use Rattle.shared_posts.specs.declared.post.Post.{Post}
 
 -- a caller of a desk on a boxed disk
 abbrev pub DeskCaller : Type 0 → Type 0

@@ -1,7 +1,7 @@
 //! What is collected of posts that ran.
 
 ghost use Rattle.std.specs.Prelude.{◌≡◌, ◌+◌, ◌≤◌, ◌++◌, length, vec_capacity, vec_len};
-ghost use Rattle.farm_serve.specs.Callers.{HaveCallers, passes_of, without_callers};
+ghost use Rattle.shared_posts.specs.Callers.{HaveCallers, passes_of, without_callers};
 
 use crate::post::{Caller, DeskCaller, DeskPass, Post};
 use farm_disk::Disk;

@@ -1,9 +1,9 @@
 -- Answers to the open goals of `take_passes`.
 use Rattle.std.proofs.Common.{◌∙◌, ap, ap₂, sym, arith}
-use Rattle.farm_serve.specs.Callers.{DeskCaller}
-use Rattle.farm_serve.specs.declared.post.Post.{Post}
-use Rattle.farm_serve.proofs.Taking.{pass_more, still_there, taken_more}
-use Rattle.farm_serve.proofs.collecting.take_passes.Goals as goal
+use Rattle.shared_posts.specs.Callers.{DeskCaller}
+use Rattle.shared_posts.specs.declared.post.Post.{Post}
+use Rattle.shared_posts.proofs.Taking.{pass_more, still_there, taken_more}
+use Rattle.shared_posts.proofs.collecting.take_passes.Goals as goal
 
 pub push_reserved-requires : goal.push_reserved-requires
 push_reserved-requires g c = omega (arith, c.requires.room, c.loop-post.invariant.2, c.loop-post.invariant.3, c.loop-post-test.true)

@@ -3,7 +3,7 @@
 ghost use Rattle.std.specs.Prelude.{◌≡◌, ◌+◌, ◌≤◌, ◌++◌, [], length, vec_capacity};
 ghost use Rattle.desk_turns.specs.Closing.{AccountsFor};
 ghost use Rattle.farm_desk.specs.States.{IsDurable};
-ghost use Rattle.farm_serve.specs.Callers.{HaveEnded, passes_of, without_callers};
+ghost use Rattle.shared_posts.specs.Callers.{HaveEnded, passes_of, without_callers};
 
 use crate::collecting::take_passes;
 use crate::post::{DeskCaller, DeskPass, Post};
@@ -14,25 +14,25 @@ use farm_disk::Disk;
 use farm_turn::Turn;
 
 /// Takes the passes of two kinds of posts into a list that has room for them, and closes their turn. It answers the desk.
-pub(crate) fn close_posts<X: Drop, V: Drop, Y: Drop, W: Drop, D: Disk + Drop, const LIMIT: usize>(
+pub fn close_posts<X: Drop, V: Drop, Y: Drop, W: Drop, D: Disk + Drop, const LIMIT: usize>(
     turn: Turn<Desk<BoxedDisk<D>, LIMIT>>,
     mut left: DeskPass<D, LIMIT>,
     mut passes: Vec<DeskPass<D, LIMIT>>,
-    desks: &mut [Post<X, V, DeskCaller<D, LIMIT>>],
-    lines: &mut [Post<Y, W, DeskCaller<D, LIMIT>>],
+    first: &mut [Post<X, V, DeskCaller<D, LIMIT>>],
+    second: &mut [Post<Y, W, DeskCaller<D, LIMIT>>],
 ) -> Desk<BoxedDisk<D>, LIMIT>
-    requires ended { HaveEnded turn left desks.old lines.old }
+    requires ended { HaveEnded turn left first.old second.old }
     requires none_taken { passes.items ≡ [] }
-    requires room { length desks.old + length lines.old + 1 ≤ vec_capacity passes }
-    ensures accounts { AccountsFor turn (passes_of desks.old ++ passes_of lines.old) result }
+    requires room { length first.old + length second.old + 1 ≤ vec_capacity passes }
+    ensures accounts { AccountsFor turn (passes_of first.old ++ passes_of second.old) result }
     ensures durable { IsDurable (λ boxed. D.trace boxed.disk.value) (λ boxed. D.moment boxed.disk.value) (λ boxed. D.faults boxed.disk.value) LIMIT result }
-    ensures desks_kept { desks.new ≡ without_callers desks.old }
-    ensures lines_kept { lines.new ≡ without_callers lines.old }
+    ensures first_kept { first.new ≡ without_callers first.old }
+    ensures second_kept { second.new ≡ without_callers second.old }
 {
     // A turn is closed with all its passes: the remaining one is that of a caller that asks nothing.
     turn.enrol(&mut left);
     passes.push_reserved(left);
-    take_passes(desks, &mut passes);
-    take_passes(lines, &mut passes);
+    take_passes(first, &mut passes);
+    take_passes(second, &mut passes);
     close_turn(turn, passes)
 }

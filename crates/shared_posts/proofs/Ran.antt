@@ -13,9 +13,9 @@ use Rattle.desk_posts.specs.declared.posts.PostEnd.{PostEnd}
 use Rattle.desk_turns.specs.Closing.{IsAccessOf}
 use Rattle.desk_turns.specs.Turns.{TurnState}
 use Rattle.boxed_disk.specs.declared.boxed.BoxedDisk.{BoxedDisk}
-use Rattle.farm_serve.specs.Callers.{DeskCaller, HaveCallers, numbers_by, numbers_in, pass_of, passes_of}
-use Rattle.farm_serve.specs.Running.{EachHasRun, HasRun}
-use Rattle.farm_serve.specs.declared.post.Post.{Post}
+use Rattle.shared_posts.specs.Callers.{DeskCaller, HaveCallers, numbers_by, numbers_in, pass_of, passes_of}
+use Rattle.shared_posts.specs.Running.{EachHasRun, HasRun}
+use Rattle.shared_posts.specs.declared.post.Post.{Post}
 
 -- a pass that keeps its numbers has as many
 same_numbers : {E R : Type 0} (old new : Known E R) → KeepsNumbers old new → numbers_of new ≡ numbers_of old

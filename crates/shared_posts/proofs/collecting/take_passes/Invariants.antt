@@ -1,8 +1,8 @@
 -- The invariants of the loops of `take_passes`.
 use Rattle.std.proofs.Common.{◌≡◌, ◌+◌, ◌++◌, drop, take}
 use Rattle.std.specs.Prelude.{vec_capacity, vec_len}
-use Rattle.farm_serve.specs.Callers.{passes_of, without_callers}
-use Rattle.farm_serve.proofs.collecting.take_passes.Given as goal
+use Rattle.shared_posts.specs.Callers.{passes_of, without_callers}
+use Rattle.shared_posts.proofs.collecting.take_passes.Given as goal
 
 -- so far the passes of the first posts were taken
 abbrev pub invariant-loop-post : goal.invariant-loop-post

@@ -9,8 +9,8 @@ use Rattle.farm_turn.specs.declared.views.Known.{Known}
 use Rattle.farm_desk.specs.States.{DeskState, FoundState}
 use Rattle.desk_turns.specs.Turns.{IsNewPass}
 use Rattle.boxed_disk.specs.declared.boxed.BoxedDisk.{BoxedDisk}
-use Rattle.farm_serve.specs.Callers.{AreReady, DeskCaller, GetCallers, HaveWork, IsLeft, IsNewCaller, IsReady, numbers_by, numbers_in, outsides_of}
-use Rattle.farm_serve.specs.declared.post.Post.{Post}
+use Rattle.shared_posts.specs.Callers.{AreReady, DeskCaller, GetCallers, HaveWork, IsLeft, IsNewCaller, IsReady, numbers_by, numbers_in, outsides_of}
+use Rattle.shared_posts.specs.declared.post.Post.{Post}
 
 module _ {X W D : Type 0} (turn : TurnView (DeskState (BoxedDisk D))) where
   -- one post more gets its caller

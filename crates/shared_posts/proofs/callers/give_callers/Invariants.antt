@@ -1,6 +1,6 @@
 -- The invariants of the loops of `give_callers`.
-use Rattle.farm_serve.proofs.Giving.{IsGiving}
-use Rattle.farm_serve.proofs.callers.give_callers.Given as goal
+use Rattle.shared_posts.proofs.Giving.{IsGiving}
+use Rattle.shared_posts.proofs.callers.give_callers.Given as goal
 
 -- so far the first posts have their callers
 abbrev pub invariant-loop-post : goal.invariant-loop-post
