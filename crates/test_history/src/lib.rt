@@ -6,9 +6,15 @@
 #[cfg(test)]
 mod book;
 #[cfg(test)]
+mod both_kinds;
+#[cfg(test)]
 mod commands;
 #[cfg(test)]
+mod day_rows;
+#[cfg(test)]
 mod days;
+#[cfg(test)]
+mod drill;
 #[cfg(test)]
 mod entries;
 #[cfg(test)]
@@ -16,9 +22,13 @@ mod entry_bytes;
 #[cfg(test)]
 mod entry_rows;
 #[cfg(test)]
+mod indexed_book;
+#[cfg(test)]
 mod keys;
 #[cfg(test)]
 mod line_rows;
+#[cfg(test)]
+mod many;
 #[cfg(test)]
 mod movements;
 #[cfg(test)]
@@ -27,6 +37,8 @@ mod pieces;
 mod refusals;
 #[cfg(test)]
 mod requests;
+#[cfg(test)]
+mod same_facts;
 #[cfg(test)]
 mod stocks;
 #[cfg(test)]
