@@ -4,6 +4,7 @@ use crate::commands::Given;
 use crate::day_rows::{Asked, CANCELS, DAY, REVERSALS};
 use crate::drill::{BEFORE, Drill, first_at};
 use crate::indexed_book::IndexedBook;
+use farm_book::Book;
 use farm_history::Verdict;
 use farm_indexes::{Indexes, Note, Notes, TankState, TankStates};
 use std::test::Fail;
@@ -86,7 +87,8 @@ fn no_fact_differs_in_a_drill(rt: HostRuntime) -> Result<(), Fail> {
 fn crosses<T: Send + Sync>() {}
 
 #[test]
-fn indexes_may_go_to_another_thread(_rt: HostRuntime) -> Result<(), Fail> {
+fn books_and_their_indexes_may_go_to_another_thread(_rt: HostRuntime) -> Result<(), Fail> {
+    crosses::<Book<21>>();
     crosses::<Indexes>();
     crosses::<Notes>();
     crosses::<Note>();

@@ -41,10 +41,10 @@ impl Drill {
             number: seed,
             place: BEFORE + 1,
             marks: [
-                mark(2, 5_000),
-                mark(4, 5_000),
-                mark(6, 5_000),
-                mark(8, 5_000),
+                mark_of(2, 5_000),
+                mark_of(4, 5_000),
+                mark_of(6, 5_000),
+                mark_of(8, 5_000),
             ],
         }
     }
@@ -87,7 +87,7 @@ impl Drill {
 }
 
 // The mark of a tank whose sample is the command before its reading.
-fn mark(reading: u32, level: i64) -> Mark {
+fn mark_of(reading: u32, level: i64) -> Mark {
     Mark {
         places: (reading, reading.saturating_sub(1)),
         level,

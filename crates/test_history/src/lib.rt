@@ -1,6 +1,6 @@
-//! Tests of texts of pieces, days, tickets, movements, keys, stocks, entries, the book, requests and reports of a day: what no clause of
-//! `text_pieces`, `calendar_days`, `farm_ticket`, `farm_movement`, `key_index`, `farm_stock`, `farm_history`, `farm_book`, `farm_http` and
-//! `book_texts` says.
+//! Tests of texts of pieces, days, tickets, movements, keys, stocks, entries, indexes, the book, requests and reports of a day: what no
+//! clause of `text_pieces`, `calendar_days`, `farm_ticket`, `farm_movement`, `key_index`, `farm_stock`, `farm_history`, `farm_indexes`,
+//! `farm_book`, `farm_http` and `book_texts` says.
 #![tactic(auto)]
 
 #[cfg(test)]
