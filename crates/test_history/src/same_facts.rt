@@ -94,13 +94,9 @@ pub(crate) fn differing<F: PastFacts, G: PastFacts>(facts: &F, others: &G) -> u6
 {
     let entries = facts.past().entries;
     let end = (entries.len() as u32).saturating_add(2);
-    let tanks = differing_tanks(facts, others);
-    let places = differing_places(facts, others, end);
-    let keys = differing_keys(facts, others, entries);
-    let rest = u64::from(!is_same_of_key(facts, others, UNUSED.0, UNUSED.1))
-        + u64::from(facts.total() != others.total());
-    tanks
-        .saturating_add(places)
-        .saturating_add(keys)
-        .saturating_add(rest)
+    differing_tanks(facts, others)
+        .saturating_add(differing_places(facts, others, end))
+        .saturating_add(differing_keys(facts, others, entries))
+        .saturating_add(u64::from(!is_same_of_key(facts, others, UNUSED.0, UNUSED.1)))
+        .saturating_add(u64::from(facts.total() != others.total()))
 }
