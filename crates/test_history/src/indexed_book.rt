@@ -1,6 +1,6 @@
 //! A book, with indexes of its history beside it.
 
-ghost use Rattle.std.specs.Prelude.{◌≡◌, ◌≤◌, ◌≤ℤ◌, OnOk};
+ghost use Rattle.std.specs.Prelude.{◌≤◌, ◌≤ℤ◌};
 ghost use Rattle.farm_history.specs.History.{IsWellFormed, last_moment};
 ghost use Rattle.farm_history.specs.Verdicts.{IsNext};
 ghost use Rattle.farm_history.specs.declared.limits.TheConstants.{MOST_LIMIT};
