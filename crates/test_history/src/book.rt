@@ -55,8 +55,12 @@ pub(crate) fn answer<const LIMIT: usize>(
     }
 }
 
-// What is answered to a command under a key, at the moment of the other entries.
-fn placed(book: &mut Book<4>, key: u64, cmd: Command) -> Result<Reply, NoMemory>
+/// What is answered to a command under a key, at the moment of the other entries.
+pub(crate) fn placed<const LIMIT: usize>(
+    book: &mut Book<LIMIT>,
+    key: u64,
+    cmd: Command,
+) -> Result<Reply, NoMemory>
     requires { IsWellFormedCommand cmd }
 {
     if book.last_moment() > 1_000 {

@@ -2,7 +2,8 @@
 
 ghost use Rattle.farm_history.specs.Commands.{IsShortList, IsWellFormedCommand};
 
-use farm_history::{Command, Few};
+use farm_history::{Command, Few, Gauged, Plan};
+use farm_ticket::Way;
 
 /// The numbers of a list.
 #[derive(Clone, Copy)]
@@ -69,15 +70,15 @@ fn gauge(tank: u16, level: i64, water: i64, temperature: i64, ambient: i64) -> C
     }
 }
 
-// A dip of tank 101.
-fn dip(outage: bool, tapes: Few, water: Few, temperatures: Few) -> Command
+// A dip of a tank.
+fn dip(tank: u16, outage: bool, tapes: Few, water: Few, temperatures: Few) -> Command
     requires tapes { IsShortList tapes }
     requires water { IsShortList water }
     requires temperatures { IsShortList temperatures }
     ensures { IsWellFormedCommand result }
 {
     Command::Dip {
-        tank: 101,
+        tank,
         outage,
         tapes,
         water,
@@ -86,15 +87,11 @@ fn dip(outage: bool, tapes: Few, water: Few, temperatures: Few) -> Command
     }
 }
 
-// A sample of tank 101.
-fn sample(density: i64, sw: i64) -> Command
+// A sample of a tank.
+fn sample(tank: u16, density: i64, sw: i64) -> Command
     ensures { IsWellFormedCommand result }
 {
-    Command::Sample {
-        tank: 101,
-        density,
-        sw,
-    }
+    Command::Sample { tank, density, sw }
 }
 
 /// A command of a row.
@@ -108,6 +105,91 @@ pub enum Given {
     Dip(bool, Numbers, Numbers, Numbers),
     /// A Stop.
     Stop,
+    /// A dip of a tank, by two equal tapes, and its temperature: whether the tapes are outages, and what each of them is.
+    Tapes(u16, bool, i64, i64),
+    /// A sample of a tank: its density, and no sediment and water.
+    Density(u16, i64),
+    /// A receipt, which is inward, or a delivery is opened: its tank, its party, and what is named for the tank.
+    Open(Way, u16, u16, Places),
+    /// A transfer from a tank to another is opened: what is named for each.
+    Transfer(u16, u16, Places, Places),
+    /// The movement of a place is closed: what is named for its tank.
+    Close(u32, Places),
+    /// The transfer of a place is closed: what is named for each tank.
+    CloseBoth(u32, Places, Places),
+    /// The movement of a place is given up.
+    Cancel(u32),
+    /// The ticket of a place is reversed.
+    Reverse(u32),
+    /// A tank is settled: what is named for it.
+    Settle(u16, Places),
+}
+
+/// The places of a reading and a sample.
+pub type Places = (u32, u32);
+
+// What is named at these places.
+fn gauged(places: Places) -> Gauged {
+    Gauged {
+        reading: places.0,
+        sample: places.1,
+    }
+}
+
+// A receipt or a delivery is opened.
+fn opening(way: Way, tank: u16, party: u16, places: Places) -> Command
+    ensures { IsWellFormedCommand result }
+{
+    Command::Opening(Plan::Outside {
+        way,
+        tank,
+        party,
+        gauged: gauged(places),
+    })
+}
+
+// A transfer is opened.
+fn transfer(from: u16, to: u16, from_places: Places, to_places: Places) -> Command
+    ensures { IsWellFormedCommand result }
+{
+    Command::Opening(Plan::Transfer {
+        from,
+        to,
+        from_gauged: gauged(from_places),
+        to_gauged: gauged(to_places),
+    })
+}
+
+// A movement is closed.
+fn closing(movement: u32, places: Places, second: Option<Gauged>) -> Command
+    ensures { IsWellFormedCommand result }
+{
+    Command::Closing {
+        movement,
+        first: gauged(places),
+        second,
+    }
+}
+
+// The command of a row that is a movement's, or a Stop.
+fn of_movement(given: Given) -> Command
+    ensures { IsWellFormedCommand result }
+{
+    match given {
+        Given::Open(way, tank, party, places) => opening(way, tank, party, places),
+        Given::Transfer(from, to, from_places, to_places) => {
+            transfer(from, to, from_places, to_places)
+        }
+        Given::Close(movement, places) => closing(movement, places, None),
+        Given::CloseBoth(movement, from, to) => closing(movement, from, Some(gauged(to))),
+        Given::Cancel(movement) => Command::Cancel { movement },
+        Given::Reverse(ticket) => Command::Reverse { ticket },
+        Given::Settle(tank, places) => Command::Settle {
+            tank,
+            gauged: gauged(places),
+        },
+        _ => Command::Stop,
+    }
 }
 
 /// The command of a row.
@@ -118,10 +200,14 @@ pub(crate) fn command_of(given: Given) -> Command
         Given::Gauge(tank, level, water, temperature, ambient) => {
             gauge(tank, level, water, temperature, ambient)
         }
-        Given::Sample(density, sw) => sample(density, sw),
+        Given::Sample(density, sw) => sample(101, density, sw),
         Given::Dip(outage, tapes, water, temperatures) => {
-            dip(outage, few(tapes), few(water), few(temperatures))
+            dip(101, outage, few(tapes), few(water), few(temperatures))
         }
-        Given::Stop => Command::Stop,
+        Given::Tapes(tank, outage, tape, temperature) => {
+            dip(tank, outage, two(tape, tape), none(), one(temperature))
+        }
+        Given::Density(tank, density) => sample(tank, density, 0),
+        _ => of_movement(given),
     }
 }
