@@ -2,7 +2,7 @@
 use Rattle.std.proofs.Common.{sym, subst}
 use Rattle.farm_history.specs.History.{History}
 use Rattle.farm_indexes.specs.Following.{IsOrderly}
-use Rattle.test_history.proofs.indexed_book.IndexedBook.differing.Goals as goal
+use Rattle.test_book.proofs.indexed_book.IndexedBook.differing.Goals as goal
 
 pub new-requires-clause-orderly : goal.new-requires-clause-orderly
 new-requires-clause-orderly g c =
