@@ -202,6 +202,8 @@ pub struct CaseDisk<'a> {
     pub before: &'a [Value],
     /// What a crash leaves of it; what reads give if it isn't given.
     pub image: Option<Image<'a>>,
+    /// What is written over that: a list of offsets, each with digits.
+    pub patch: &'a [Value],
     /// How many bytes it keeps of that, from its start; all if it isn't given.
     pub cut: Option<u64>,
     /// What reads of it have to give after the case's run; it isn't compared if this isn't given.
@@ -211,13 +213,16 @@ pub struct CaseDisk<'a> {
 impl<'a> CaseDisk<'a> {
     // What the key `disk` has.
     fn read(keys: &Keys<'a>) -> Result<Self, CaseFault> {
-        let optional = ["bytes", "journal", "before", "image", "cut", "after"];
+        let optional = [
+            "bytes", "journal", "before", "image", "patch", "cut", "after",
+        ];
         let disk = keys.below("disk", &[], &optional)?;
         Ok(CaseDisk {
             bytes: text_at(&disk, "bytes")?,
             journal: disk.text("journal")?,
             before: disk.list("before")?,
             image: Image::read(&disk)?,
+            patch: disk.list("patch")?,
             cut: disk.natural("cut")?,
             after: text_at(&disk, "after")?,
         })

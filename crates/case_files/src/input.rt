@@ -1,4 +1,4 @@
-//! The input of a case, in the pieces in which it comes.
+//! The pieces in which what is sent to a case comes.
 
 ghost use Rattle.std.specs.Prelude.{◌≡◌, ◌<◌, [], flat_map, IfOk, Some};
 
@@ -20,8 +20,12 @@ pub fn source_of(
     Script::new(alloc, pieces, fails)
 }
 
-// The bytes in pieces of a number of bytes; the last may be shorter.
-fn pieces_of(alloc: Global, bytes: &[u8], size: usize) -> Result<Vec<Vec<u8>>, AllocError>
+/// The bytes in pieces of a number of bytes; the last may be shorter.
+pub(crate) fn pieces_of(
+    alloc: Global,
+    bytes: &[u8],
+    size: usize,
+) -> Result<Vec<Vec<u8>>, AllocError>
     requires size { 0 < size }
     ensures joined { IfOk result (λ pieces. flat_map (λ piece. piece.items) pieces.items ≡ bytes.now) }
 {

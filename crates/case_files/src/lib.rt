@@ -14,6 +14,7 @@ mod input;
 mod keys;
 mod links;
 mod listeners;
+mod patches;
 mod ports;
 mod text;
 
@@ -26,5 +27,6 @@ pub use input::source_of;
 pub use keys::{Keys, list_of, numbers_of, texts_of, wrong_type};
 pub use links::{RunLink, calls_of, links_of};
 pub use listeners::{Connection, RunListener, listeners_of, written_of};
+pub use patches::{Patch, patches_of};
 pub use ports::{Ports, ports_of};
 pub use text::{Text, given_bytes, text_at, text_bytes};

@@ -1,6 +1,7 @@
 //! The listeners of a run, in memory, and what is expected of them.
 
 use crate::fault::CaseFault;
+use crate::input::pieces_of;
 use crate::keys::{Keys, numbers_of};
 use crate::text::{Text, text_at, text_bytes};
 use farm_listeners::{Talk, Visit, Visits};
@@ -39,6 +40,8 @@ impl<'a> RunListener<'a> {
 pub struct Connection<'a> {
     /// What each take gives at most: a list of texts.
     pub pieces: &'a [Value],
+    /// The number of bytes of each piece in which each of these texts comes; one piece if it isn't given.
+    pub piece_bytes: Option<u64>,
     /// The takes that fail, by their numbers from 1.
     pub bad_takes: &'a [Value],
     /// The puts that fail, by their numbers from 1.
@@ -53,10 +56,11 @@ impl<'a> Connection<'a> {
         if value.as_str() == Some(IDLE) {
             return Ok(None);
         }
-        let optional = ["pieces", "bad_takes", "bad_puts", "written"];
+        let optional = ["pieces", "piece_bytes", "bad_takes", "bad_puts", "written"];
         let keys = Keys::of_value(alloc, "visits", value, &[], &optional)?;
         Ok(Some(Connection {
             pieces: keys.list("pieces")?,
+            piece_bytes: keys.natural("piece_bytes")?,
             bad_takes: keys.list("bad_takes")?,
             bad_puts: keys.list("bad_puts")?,
             written: text_at(&keys, "written")?,
@@ -65,7 +69,7 @@ impl<'a> Connection<'a> {
 
     // The connection, in memory.
     fn talk<F: Folder>(&self, alloc: Global, data: &mut F) -> Result<Talk, CaseFault> {
-        let pieces = pieces_of(alloc, data, self.pieces)?;
+        let pieces = sent_pieces(alloc, data, self.pieces, self.piece_bytes)?;
         let bad_takes = numbers_of(alloc, "bad_takes", self.bad_takes)?;
         let bad_puts = numbers_of(alloc, "bad_puts", self.bad_puts)?;
         Ok(Talk::new(alloc, pieces, bad_takes, bad_puts)?)
@@ -108,16 +112,20 @@ fn visit_of<F: Folder>(alloc: Global, data: &mut F, value: &Value) -> Result<Vis
     }
 }
 
-// The pieces of a connection.
-fn pieces_of<F: Folder>(
+// The pieces of a connection: each of its texts in one piece, or in pieces of a number of bytes.
+fn sent_pieces<F: Folder>(
     alloc: Global,
     data: &mut F,
     values: &[Value],
+    piece_bytes: Option<u64>,
 ) -> Result<Vec<Vec<u8>>, CaseFault> {
     let mut pieces = Vec::new(alloc);
     for value in values {
-        let piece = Text::of(alloc, "pieces", value)?;
-        pieces.push(text_bytes(alloc, data, piece)?)?;
+        let text = text_bytes(alloc, data, Text::of(alloc, "pieces", value)?)?;
+        match piece_bytes {
+            Some(size) => pieces.append(&mut pieces_of(alloc, &text, (size as usize).max(1))?)?,
+            None => pieces.push(text)?,
+        }
     }
     Ok(pieces)
 }

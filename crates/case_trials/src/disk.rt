@@ -1,13 +1,16 @@
-//! The disk of a case: what the runs before it, a crash and a cut leave.
+//! The disk of a case: what the runs before it, a crash, patches and a cut leave.
 
 ghost use Rattle.std.specs.Prelude.{◌≡◌, ℕ, IfOk, Some, take};
 ghost use Rattle.farm_base.specs.Known.{WhereKnown};
 ghost use Rattle.farm_disk.specs.Images.{IsCrashImage, state_at};
+ghost use Rattle.case_trials.specs.Patches.{written_over};
 
 use crate::fault::TrialFault;
 use crate::stage::Stage;
 use crate::trial::Trial;
-use case_files::{Case, CaseDisk, CaseFault, Image, Keys, Run, given_bytes, numbers_of};
+use case_files::{
+    Case, CaseDisk, CaseFault, Image, Keys, Patch, Run, given_bytes, numbers_of, patches_of,
+};
 use farm_disk::{Disk, Fill, MemDisk};
 use farm_ports::Folder;
 use std::alloc::Global;
@@ -26,8 +29,9 @@ pub(crate) fn disk_of<R: Threads + Wait + Sync, F: Folder>(
 ) -> Result<MemDisk, TrialFault> {
     let disk = first_disk(stage, data, &case.disk)?;
     let disk = disk_after(stage, data, case.disk.before, disk)?;
-    let bytes = front(left(stage.alloc, disk, &case.disk.image)?, case.disk.cut)?;
-    disk_with(stage.alloc, bytes, &case.run)
+    let left = left(stage.alloc, disk, &case.disk.image)?;
+    let patched = patched(stage.alloc, left, case.disk.patch)?;
+    disk_with(stage.alloc, front(patched, case.disk.cut)?, &case.run)
 }
 
 /// The bytes that reads of a disk give.
@@ -135,6 +139,27 @@ fn fill_of(alloc: Global, word: &str) -> Result<Fill, TrialFault> {
         (_, Ok(byte)) => Ok(Fill::Byte(byte)),
         _ => Err(TrialFault::NoFill(String::from_str(alloc, word)?)),
     }
+}
+
+// The bytes after patches, one after another.
+fn patched(alloc: Global, bytes: Vec<u8>, patches: &[Value]) -> Result<Vec<u8>, TrialFault> {
+    let mut bytes = bytes;
+    for patch in &patches_of(alloc, patches)? {
+        bytes = with_patch(alloc, &bytes, patch)?;
+    }
+    Ok(bytes)
+}
+
+// The bytes with a patch written over them, which may reach past their end.
+fn with_patch(alloc: Global, bytes: &[u8], patch: &Patch) -> Result<Vec<u8>, TrialFault>
+    ensures written { IfOk result (λ after. after.items ≡ written_over patch.now.offset patch.now.bytes.items bytes.now) }
+{
+    if bytes.len() < patch.offset {
+        return Err(TrialFault::PatchBeyond(bytes.len()));
+    }
+    let (before, covered) = bytes.split_at(patch.offset);
+    let rest = covered.get(patch.bytes.len()..).unwrap_or(&[]);
+    Ok([before, &patch.bytes, rest].concat(alloc)?)
 }
 
 // The first bytes, this many, or all of them.

@@ -22,6 +22,9 @@ pub enum TrialFault {
     /// The fill of the image isn't `old`, `new` or a byte.
     #[error("there is no fill {0}")]
     NoFill(String),
+    /// The disk has only this number of bytes, and a patch begins after them.
+    #[error("the disk has {0} bytes, and a patch begins after them")]
+    PatchBeyond(usize),
     /// The disk has only this number of bytes, fewer than it is to keep.
     #[error("the disk has {0} bytes, and not as many as it is to keep")]
     TooShort(usize),

@@ -1,7 +1,7 @@
 //! Trials of cases: a case run over ports, a disk, listeners and links in memory, and what came of it compared with what is expected.
 //!
 //! A case is what `case_files` reads. Before it runs, its disk is made: the bytes or the journal that it gives, the runs before it,
-//! each of which has to agree, a crash and a cut. A trial that differs prints the first line and the first byte that do.
+//! each of which has to agree, a crash, patches and a cut. A trial that differs prints the first line and the first byte that do.
 #![tactic(auto)]
 
 mod answer;

@@ -3,6 +3,8 @@
 #![tactic(auto)]
 
 #[cfg(test)]
+mod calls;
+#[cfg(test)]
 mod conversations;
 #[cfg(test)]
 mod deadbands;
@@ -12,5 +14,7 @@ mod decoding;
 mod frames;
 #[cfg(test)]
 mod gauges;
+#[cfg(test)]
+mod next_polls;
 #[cfg(test)]
 mod polling;

@@ -1,5 +1,6 @@
 //! The turns of a poller with the calls that they make on a link, and the copy of a line.
 
+use crate::calls::{Call, outline};
 use crate::gauges::{GAUGE, line, linked};
 use farm_base::NoMemory;
 use farm_ports::{LinkCall, Wire};
@@ -25,28 +26,6 @@ const READING: Polled = Polled::Value(
         ambient: 1_500,
     },
 );
-
-// A call of a link: whether it failed, and the number of the transaction that was sent or how many bytes were received.
-#[derive(Clone, Copy, Debug, PartialEq, Eq)]
-enum Call {
-    Connect(bool),
-    Sent(u8),
-    Received(usize, bool),
-    Other,
-}
-
-// What a call was.
-fn outline(call: &LinkCall) -> Call {
-    match call {
-        LinkCall::Connect { failed, .. } => Call::Connect(*failed),
-        LinkCall::Sent { bytes, .. } => match bytes.get() {
-            [0, number, ..] => Call::Sent(*number),
-            _ => Call::Other,
-        },
-        LinkCall::Received { bytes, failed } => Call::Received(bytes.get().len(), *failed),
-        LinkCall::Paused => Call::Other,
-    }
-}
 
 // Turns of a poller, each with its answer.
 type Turns = &'static [(&'static str, Polled)];
