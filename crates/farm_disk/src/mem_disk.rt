@@ -68,6 +68,9 @@ impl MemDisk {
         ensures calls { self.new.calls ≡ self.old.calls }
         ensures start { self.new.start ≡ self.old.start }
         ensures counted { self.new.counted ≡ self.old.counted }
+        ensures err { OnErr result (self.new.room.copies ≡ self.old.room.copies) }
+        ensures calls_grow { self.old.room.calls ≤ self.new.room.calls }
+        ensures bytes_grow { self.old.room.bytes ≤ self.new.room.bytes }
     {
         self.kept.reserve(self.alloc, calls, size, bytes)
     }

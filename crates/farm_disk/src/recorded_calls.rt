@@ -66,6 +66,9 @@ impl KeptDisk {
         ensures bytes { OnOk result (bytes ≤ self.new.room.bytes) }
         ensures calls { self.new.calls ≡ self.old.calls }
         ensures start { self.new.start ≡ self.old.start }
+        ensures err { OnErr result (self.new.room.copies ≡ self.old.room.copies) }
+        ensures calls_grow { self.old.room.calls ≤ self.new.room.calls }
+        ensures bytes_grow { self.old.room.bytes ≤ self.new.room.bytes }
     {
         let copies = CopyRoom::new(alloc, calls, size)?;
         self.calls.reserve(calls)?;

@@ -18,11 +18,11 @@ IsJudged is_accepted Go = IsTrue is_accepted
 IsJudged is_accepted Bad = IsFalse is_accepted
 IsJudged is_accepted Lacking = Unit {0}
 
--- with Go a taker has taken the bytes after those from before, with Bad it has taken none
+-- with Go a taker has taken the bytes after those from before, else it has taken none
 abbrev pub TakesNext : List (List ℕ) → List (List ℕ) → List ℕ → Taken → Type 0
 TakesNext old new bytes Go = new ≡ old ++ bytes ∷ []
 TakesNext old new bytes Bad = new ≡ old
-TakesNext old new bytes Lacking = Unit {0}
+TakesNext old new bytes Lacking = new ≡ old
 
 -- each of them was accepted after those before it
 abbrev pub AreAccepted : Accepts → List (List ℕ) → Type 0

@@ -1,6 +1,6 @@
 //! A connection in memory.
 
-ghost use Rattle.std.specs.Prelude.{◌≡◌, ◌↔◌, ◌⊎◌, ◌+◌, ◌-◌, ◌<◌, [], flat_map, length, min, IfOk, IsErr, IsSomeAnd, OnOk, Some};
+ghost use Rattle.std.specs.Prelude.{◌≡◌, ◌↔◌, ◌⊎◌, ◌+◌, ◌-◌, ◌<◌, ◌≤◌, [], flat_map, length, min, IfOk, IsErr, IsSomeAnd, OnOk, Some};
 ghost use Rattle.farm_base.specs.Counts.{Counts};
 ghost use Rattle.farm_ports.specs.Pieces.{end_after, ends_from};
 ghost use Rattle.farm_ports.specs.Ports.{PutGives, TakeGives};
@@ -127,6 +127,7 @@ impl Sink for Talk {
         ensures room { IsErr result → FailsNext self.old.sink.calls ⊎ (self.old.sink.room < length self.old.sink.bytes + length bytes.now) }
         ensures whole { IfOk result (λ count. count ≡ length bytes.now) }
         ensures counted { CountsCall self.old.sink.calls self.new.sink.calls }
+        ensures grows { self.old.sink.room ≤ self.new.sink.room }
         ensures source { self.new.source ≡ self.old.source }
     {
         self.sink.put(bytes)

@@ -1,6 +1,6 @@
 //! A sink in memory.
 
-ghost use Rattle.std.specs.Prelude.{◌≡◌, ◌⊎◌, ◌+◌, ◌<◌, [], length, IfOk, OnOk, IsOk, IsErr, Some, None};
+ghost use Rattle.std.specs.Prelude.{◌≡◌, ◌⊎◌, ◌+◌, ◌<◌, ◌≤◌, [], length, IfOk, OnOk, IsOk, IsErr, Some, None};
 ghost use Rattle.farm_base.specs.Counts.{Counts};
 ghost use Rattle.farm_ports.specs.Ports.{PutGives};
 
@@ -80,6 +80,7 @@ impl Sink for Gather {
         ensures room { IsErr result → FailsNext self.old.calls ⊎ (self.old.room < length self.old.bytes + length bytes.now) }
         ensures whole { IfOk result (λ count. count ≡ length bytes.now) }
         ensures counted { CountsCall self.old.calls self.new.calls }
+        ensures grows { self.old.room ≤ self.new.room }
     {
         self.calls.begin()?;
         if self.bytes.extend_from_slice(bytes).is_err() {

@@ -1,6 +1,6 @@
 //! All of a text into a sink, and up to a number of bytes out of a source.
 
-ghost use Rattle.std.specs.Prelude.{◌≡◌, ◌≢◌, ℕ, ◌<◌, ◌≤◌, List, vec_len, IfOk, OnErr, OnOk};
+ghost use Rattle.std.specs.Prelude.{◌≡◌, ◌≢◌, ℕ, ◌+◌, ◌<◌, ◌≤◌, List, length, vec_len, IfOk, OnErr, OnOk};
 ghost use Rattle.farm_base.specs.Counts.{Counts, CountsIf};
 ghost use Rattle.farm_base.specs.Known.{Takes};
 ghost use Rattle.farm_ports.specs.Ports.{PutsAll, ReadsOn, ReadsUpTo};
@@ -33,7 +33,7 @@ pub fn read_up_to<S: Source>(
     most: usize,
 ) -> Result<Vec<u8>, PortFault>
     ensures read { IfOk result (λ v. ReadsUpTo (S.stream source.old) (S.stream source.new) most v.items) }
-    ensures front { OnErr result ((bytes : List ℕ) × Takes (S.stream source.old) (S.stream source.new) bytes) }
+    ensures front { OnErr result ((bytes : List ℕ) × (length bytes ≤ most) × Takes (S.stream source.old) (S.stream source.new) bytes) }
     ensures held { S.held source.new ≡ S.held source.old }
     ensures counts { CountsIf (result ≡ Err PortFault.Failed) (S.faults source.old) (S.faults source.new) }
 {
@@ -50,7 +50,7 @@ pub fn read_up_to<S: Source>(
 fn read_on<S: Source>(source: &mut S, bytes: &mut Vec<u8>, most: usize) -> Result<usize, PortFault>
     requires { vec_len bytes.old < most }
     ensures read { IfOk result (ReadsOn (S.stream source.old) (S.stream source.new) bytes.old.items bytes.new.items most) }
-    ensures front { OnErr result ((taken : List ℕ) × Takes (S.stream source.old) (S.stream source.new) taken) }
+    ensures front { OnErr result ((taken : List ℕ) × (vec_len bytes.old + length taken ≤ most) × Takes (S.stream source.old) (S.stream source.new) taken) }
     ensures held { S.held source.new ≡ S.held source.old }
     ensures counts { CountsIf (result ≡ Err PortFault.Failed) (S.faults source.old) (S.faults source.new) }
 {

@@ -1,8 +1,8 @@
 //! A factor grid that grows row by row.
 
-ghost use Rattle.std.specs.Prelude.{◌≡◌, ◌+◌, ◌<◌, ◌∷◌, List, length, IfOk, OnOk, Some, None, Ok, true, false};
+ghost use Rattle.std.specs.Prelude.{◌≡◌, ◌≢◌, ◌+◌, ◌<◌, ◌∷◌, List, length, IfOk, OnOk, Some, None, Ok, true, false};
 ghost use Rattle.farm_vcf.specs.declared.rows.Listed.{Listed};
-ghost use Rattle.farm_vcf.specs.GrowingRows.{Finishes, begun, first_grown, grown_by, grown_on, later_grown, with_block};
+ghost use Rattle.farm_vcf.specs.GrowingRows.{Finishes, begun, first_grown, grown_by, grown_on, later_grown};
 ghost use Rattle.farm_vcf.specs.Rows.{continues, grid_of_rows, next_column};
 
 use crate::Vcf;
@@ -67,6 +67,7 @@ impl Growing {
         ensures grown { result ≡ Ok true → grown_by self.old row ≡ Some self.new }
         ensures broken { result ≡ Ok false → grown_by self.old row ≡ None }
         ensures counted { result ≡ Ok true → length self.new.factors ≡ length self.old.factors + 1 }
+        ensures as_before { result ≢ Ok true → self.new ≡ self.old }
     {
         if self.densities.len() == 1 && row.density.get() == self.density.get() {
             self.push_first(row)
@@ -90,12 +91,15 @@ impl Growing {
         ensures grown { result ≡ Ok true → first_grown self.old row ≡ Some self.new }
         ensures broken { result ≡ Ok false → first_grown self.old row ≡ None }
         ensures counted { result ≡ Ok true → length self.new.factors ≡ length self.old.factors + 1 }
+        ensures as_before { result ≢ Ok true → self.new ≡ self.old }
     {
         if row.temperature.get() <= self.temperature.get() {
             return Ok(false);
         }
-        self.temperatures.push(row.temperature)?;
-        self.factors.push(row.factor)?;
+        self.temperatures.reserve(1)?;
+        self.factors.reserve(1)?;
+        self.temperatures.push_reserved(row.temperature);
+        self.factors.push_reserved(row.factor);
         self.temperature = row.temperature;
         Ok(true)
     }
@@ -105,6 +109,7 @@ impl Growing {
         ensures grown { result ≡ Ok true → later_grown self.old row ≡ Some self.new }
         ensures broken { result ≡ Ok false → later_grown self.old row ≡ None }
         ensures counted { result ≡ Ok true → length self.new.factors ≡ length self.old.factors + 1 }
+        ensures as_before { result ≢ Ok true → self.new ≡ self.old }
     {
         if !continues(
             self.temperatures[self.column],
@@ -114,22 +119,15 @@ impl Growing {
         ) {
             return Ok(false);
         }
-        self.begin_block(row.density)?;
-        self.factors.push(row.factor)?;
+        self.densities.reserve(1)?;
+        self.factors.reserve(1)?;
+        if self.column == 0 {
+            self.densities.push_reserved(row.density);
+        }
+        self.factors.push_reserved(row.factor);
         self.density = row.density;
         self.column = next_column(self.temperatures.len(), self.column);
         Ok(true)
-    }
-
-    // Takes the density of a row, where the row begins a block.
-    fn begin_block(&mut self, density: Dens) -> Result<(), NoMemory>
-        ensures { OnOk result (self.new ≡ with_block self.old density) }
-    {
-        if self.column != 0 {
-            return Ok(());
-        }
-        self.densities.push(density)?;
-        Ok(())
     }
 }
 

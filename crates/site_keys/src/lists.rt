@@ -1,6 +1,6 @@
 //! Lists of tables, and items in rising order of their own numbers.
 
-ghost use Rattle.std.specs.Prelude.{◌≡◌, ◌≤◌, length, map, MatchResult, IfOk, IfErr, IsTrue, IsFalse, Ok, Err};
+ghost use Rattle.std.specs.Prelude.{◌≡◌, ◌≤◌, length, map, MatchResult, IfOk, IfErr, OnErr, IsTrue, IsFalse, Ok, Err};
 ghost use Rattle.farm_site.specs.Numbers.{is_among};
 ghost use Rattle.site_keys.specs.Lists.{known, list_at, own_number, index_among, placed, reference_at};
 ghost use Rattle.site_keys.specs.declared.fault.SiteReadFault.TheVariants.{NoMemory};
@@ -73,6 +73,7 @@ fn known<T: Numbered>(item: u32, items: &[T], value: i64) -> Result<u16, SiteFau
 pub fn put_by_number<T: Numbered + Drop>(items: &mut Vec<T>, item: T) -> Result<(), SiteReadFault>
     ensures placed { IfOk result (λ _. items.new.items ≡ placed T.numbered item items.old.items) }
     ensures out_of_memory { IfErr result (λ fault. fault ≡ NoMemory) }
+    ensures as_before { OnErr result (items.new.items ≡ items.old.items) }
 {
     let index = index_for(item.number(), items);
     items.insert(index, item)?;
