@@ -1,6 +1,6 @@
 //! The disk of a case: what the runs before it, a crash, patches and a cut leave.
 
-ghost use Rattle.std.specs.Prelude.{◌≡◌, ℕ, IfOk, Some, take};
+ghost use Rattle.std.specs.Prelude.{◌≡◌, ℕ, IfOk, Some, drop, take};
 ghost use Rattle.farm_base.specs.Known.{WhereKnown};
 ghost use Rattle.farm_disk.specs.Images.{IsCrashImage, state_at};
 ghost use Rattle.case_trials.specs.Patches.{written_over};
@@ -158,8 +158,17 @@ fn with_patch(alloc: Global, bytes: &[u8], patch: &Patch) -> Result<Vec<u8>, Tri
         return Err(TrialFault::PatchBeyond(bytes.len()));
     }
     let (before, covered) = bytes.split_at(patch.offset);
-    let rest = covered.get(patch.bytes.len()..).unwrap_or(&[]);
-    Ok([before, &patch.bytes, rest].concat(alloc)?)
+    let mut after = before.to_vec(alloc)?;
+    after.extend_from_slice(&patch.bytes)?;
+    after.extend_from_slice(without_first(covered, patch.bytes.len()))?;
+    Ok(after)
+}
+
+// The bytes without the first ones, this many; none if there are no more.
+fn without_first(bytes: &[u8], count: usize) -> &[u8]
+    ensures rest { result.now ≡ drop count bytes.now }
+{
+    bytes.split_at(count.min(bytes.len())).1
 }
 
 // The first bytes, this many, or all of them.

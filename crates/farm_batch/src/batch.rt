@@ -87,7 +87,7 @@ pub fn answer_lines<D: Disk, const LIMIT: usize, S: Source, K: Sink, C: Clock>(
             Ok(Cut::End) => Some(BatchEnd::Done),
             Ok(Cut::Long) => Some(BatchEnd::Long(number)),
             Ok(Cut::Failed) => Some(BatchEnd::Failed),
-            Err(Failed) => Some(BatchEnd::Failed),
+            Err(_) => Some(BatchEnd::Failed),
         };
         if let Some(end) = end {
             return Ok(put_rest(&mut waiting, output, end));
