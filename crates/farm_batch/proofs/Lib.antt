@@ -16,6 +16,7 @@ pub mod SoFar
 pub mod StatusTexts
 pub mod Ends
 pub mod Faults
+pub mod Finished
 pub mod Kept
 pub mod Taken
 pub mod WithinLimits

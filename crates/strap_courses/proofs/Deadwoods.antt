@@ -104,7 +104,7 @@ slope_rounded mode litres above whole step some =
     sign_of_product litres above (steps_to mode (unsigned_abs (litres *ℤ pos above)) (step * whole) * step) some
     ∙ ap (λ n. with_sign_of litres (steps_to mode n (step * whole) * step)) (unsigned_abs-mul litres (pos above))
 
--- between both ends a part is so many steps
+-- between both ends a part is a number of steps
 pub slope_at : (how : Row) (deadwood : Deadwood) (row : ℕ) → IsDeadwood 0 deadwood → unsigned_abs deadwood.low < 10 * row → row < rows_below (unsigned_abs deadwood.high) →
     part_at how deadwood row ≡
     with_sign_of deadwood.litres
@@ -188,7 +188,7 @@ parts_none rounding (deadwood ∷ deadwoods) positive =
     let rest = parts_none rounding deadwoods positive in
     rw (first, rest) refl
 
--- the parts of so many deadwoods are at most as many times 10^15 litres either way
+-- the parts of a number of deadwoods are at most that number times 10^15 litres either way
 pub small_parts : (rounding : List Row) (row : ℕ) (deadwoods : List Deadwood) → All (IsDeadwood 0) deadwoods → 0 < (row_at rounding row_of_deadwood_part).0 →
     (row_at rounding row_of_deadwood_part).0 ≤ 100 → 10 * row ≤ 50000 → unsigned_abs (deadwood_parts rounding (10 * row) deadwoods) ≤ 10 ^ 15 * length deadwoods
 unfolding deadwood_parts

@@ -6,7 +6,7 @@ use Rattle.farm_rounding.specs.declared.mode.Mode.{Mode}
 use Rattle.farm_rounding.specs.declared.mode.Mode.TheVariants.{HalfAway, TowardZero}
 use Rattle.farm_rounding.specs.Multiple.{steps_to}
 
--- so many wholes and less than one have one quotient
+-- a number of wholes and less than one whole have one quotient
 pub quotient_is : (wholes whole left : ℕ) → left < whole → (wholes * whole + left) / whole ≡ wholes
 quotient_is wholes whole left few =
     let low : wholes ≤ (wholes * whole + left) / whole = le-div wholes (wholes * whole + left) whole (omega arith) (omega arith) in

@@ -158,7 +158,7 @@ const STOCK: Reply = Reply::Stock {
     sample: 1,
 };
 
-// How many of so many pairs of look-ups, one of the total and one of tank 101, aren't answered with these.
+// How many of these pairs of look-ups, one of the total and one of tank 101, aren't answered with these values.
 fn differing_looks(book: &Book<200_000>, pairs: u32) -> u32 {
     let mut count: u32 = 0;
     for _ in 0..pairs {

@@ -3,7 +3,8 @@ use Rattle.std.proofs.Common.{◌≡◌, ◌≤◌, ◌+◌, true, false, Some, 
 use Rattle.batch_lines.specs.declared.reader.Cut.TheVariants as cuts
 use Rattle.farm_batch.specs.declared.batch.BatchEnd.TheVariants.{Done, Long, Failed}
 use Rattle.farm_batch.specs.declared.limits.TheConstants.{MOST_LINES}
-use Rattle.farm_batch.proofs.Ends.{batch_at_end, batch_of, ends_at_end, ends_at_fault, ends_at_last, ends_at_line, ends_at_most, ends_at_put, ends_too_long, ends_too_many, or_done, or_failed}
+use Rattle.farm_batch.proofs.Finished.{batch_at_end, batch_of}
+use Rattle.farm_batch.proofs.Ends.{ends_at_end, ends_at_fault, ends_at_last, ends_at_line, ends_at_most, ends_at_put, ends_too_long, ends_too_many, or_done, or_failed}
 use Rattle.farm_batch.proofs.Kept.{keeps_more, keeps_same}
 use Rattle.farm_batch.proofs.SoFar.{at_start, goes_on}
 use Rattle.farm_batch.proofs.batch.answer_lines.Goals as goal
