@@ -1,4 +1,5 @@
-"""The devices of line_devices.c by pymodbus, whose server takes many connections: `line_devices.py PORT LINES LEVEL`. It ends by a signal."""
+"""The devices of line_devices.c by pymodbus, whose server takes many connections: `line_devices.py HOST PORT LINES LEVEL`. It binds to
+HOST alone, and ends by a signal."""
 import asyncio
 import signal
 import sys
@@ -17,15 +18,15 @@ class Gauges(ModbusSequentialDataBlock):
         return super().getValues(address, count)
 
 
-async def main(port, lines, level):
+async def main(host, port, lines, level):
     servers = []
     for number in range(lines):
         registers = Gauges(0, [level, 1500, 0, 1, 1200] * GAUGES)
         context = ModbusServerContext(slaves=ModbusSlaveContext(ir=registers, zero_mode=True), single=True)
-        servers.append(ModbusTcpServer(context, address=("127.0.0.1", port + number), allow_reuse_address=True).serve_forever())
+        servers.append(ModbusTcpServer(context, address=(host, port + number), allow_reuse_address=True).serve_forever())
     print("ready", flush=True)
     await asyncio.gather(*servers)
 
 
 signal.alarm(300)
-asyncio.run(main(*map(int, sys.argv[1:])))
+asyncio.run(main(sys.argv[1], *map(int, sys.argv[2:])))
