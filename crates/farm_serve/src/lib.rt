@@ -4,17 +4,12 @@
 //! "Many posts".
 #![tactic(auto)]
 
-mod all_posts;
-mod desk_side;
 mod ends;
-mod line_side;
 mod lines;
 mod rooms;
 mod serving;
-mod side_by_side;
 
-pub use desk_side::DeskPost;
 pub use ends::any_failed;
-pub use line_side::LinePost;
+pub use post_runs::{DeskPost, LinePost};
 pub use serving::serve;
 pub use shared_posts::{Caller, DeskCaller, DeskPass, Post};

@@ -3,10 +3,10 @@
 ghost use Rattle.std.specs.Prelude.{◌≡◌, All, IsSome, OnOk, map};
 ghost use Rattle.shared_posts.specs.Callers.{outsides_of};
 
-use crate::desk_side::DeskPost;
 use desk_posts::PostRoom;
 use farm_base::NoMemory;
 use farm_disk::Disk;
+use post_runs::DeskPost;
 use std::alloc::Global;
 
 /// Gives each desk post room for the bytes of a connection. It takes the memory of all.

@@ -6,9 +6,9 @@ use Rattle.shared_posts.proofs.Crossing.{caller_send}
 use Rattle.shared_posts.proofs.Giving.{ready_at}
 use Rattle.shared_posts.proofs.Ran.{each_ran}
 use Rattle.shared_posts.specs.Callers.{IsReady}
-use Rattle.farm_serve.specs.Running.{ConversesAs, HasLine, RunsLine}
+use Rattle.post_runs.specs.Running.{ConversesAs, HasLine, RunsLine}
 use Rattle.shared_posts.specs.Running.{HasRun}
-use Rattle.farm_serve.proofs.all_posts.run_all.Goals as goal
+use Rattle.post_runs.proofs.all_posts.run_all.Goals as goal
 
 pub run_sides-requires-send-C : goal.run_sides-requires-send-C
 run_sides-requires-send-C g c κs within = search (caller_send, sendable) depth 40

@@ -4,7 +4,7 @@ ghost use Rattle.std.specs.Prelude.{◌≡◌, ℕ, ◌+◌, ◌<◌, ◌≤◌,
 ghost use Rattle.farm_history.specs.History.{last_place};
 ghost use Rattle.line_posts.specs.Limits.{most_rounds};
 ghost use Rattle.shared_posts.specs.Callers.{AreReady, IsReady};
-ghost use Rattle.farm_serve.specs.Running.{ConversesAs, HasLine, RunsLine};
+ghost use Rattle.post_runs.specs.Running.{ConversesAs, HasLine, RunsLine};
 ghost use Rattle.shared_posts.specs.Running.{EachHasRun, HasRun};
 
 use crate::desk_side::{DeskPost, run_desk_post};
@@ -21,7 +21,7 @@ use std::sync::Wait;
 use std::thread::Threads;
 
 /// Runs desk posts on ports from this one on and lines of the site, each by its index, until all have ended.
-pub(crate) fn run_all<
+pub fn run_all<
     R: Threads + Wait + Sync,
     D: Disk + Send,
     L: Listener<Conn: Send> + Send,

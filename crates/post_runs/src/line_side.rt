@@ -4,7 +4,7 @@ ghost use Rattle.std.specs.Prelude.{◌≡◌, ℕ, ◌+◌, ◌<◌, ◌≤◌}
 ghost use Rattle.farm_history.specs.History.{last_place};
 ghost use Rattle.line_posts.specs.Limits.{most_rounds};
 ghost use Rattle.shared_posts.specs.Callers.{IsReady};
-ghost use Rattle.farm_serve.specs.Running.{HasLine, RunsLine};
+ghost use Rattle.post_runs.specs.Running.{HasLine, RunsLine};
 ghost use Rattle.shared_posts.specs.Running.{HasRun};
 
 use boxed_disk::BoxedDisk;

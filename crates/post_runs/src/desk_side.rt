@@ -3,7 +3,7 @@
 ghost use Rattle.std.specs.Prelude.{◌≡◌, ℕ, IsSome};
 ghost use Rattle.farm_history.specs.History.{last_place};
 ghost use Rattle.shared_posts.specs.Callers.{IsReady};
-ghost use Rattle.farm_serve.specs.Running.{Converses};
+ghost use Rattle.post_runs.specs.Running.{Converses};
 ghost use Rattle.shared_posts.specs.Running.{HasRun};
 
 use boxed_disk::BoxedDisk;

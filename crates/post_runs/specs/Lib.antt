@@ -1,0 +1,2 @@
+-- The definitions of `post_runs`, by subject.
+pub mod Running
