@@ -1,13 +1,12 @@
 -- Answers to the open goals of `run_all`.
 use denote.Param.Send.{sendable}
-use Rattle.std.proofs.Common.{ℕ, ◌+◌, slice_index_or, sym, subst, arith}
+use Rattle.std.proofs.Common.{ℕ, ◌+◌, sym, subst, arith}
 use Rattle.std.specs.Prelude.{IsSome}
 use Rattle.shared_posts.proofs.Crossing.{caller_send}
 use Rattle.shared_posts.proofs.Giving.{ready_at}
-use Rattle.shared_posts.proofs.Ran.{each_ran}
 use Rattle.shared_posts.specs.Callers.{IsReady}
 use Rattle.post_runs.specs.Running.{ConversesAs, HasLine, RunsLine}
-use Rattle.shared_posts.specs.Running.{HasRun}
+use Rattle.post_runs.proofs.Changing.{changed_ran}
 use Rattle.post_runs.proofs.all_posts.run_all.Goals as goal
 
 pub run_sides-requires-send-C : goal.run_sides-requires-send-C
@@ -29,19 +28,10 @@ run_sides-requires-clause-lines g c κs within i p few is =
 
 pub returns-clause-desks : goal.returns-clause-desks
 returns-clause-desks g c =
-    let does = ConversesAs g.L.Listener.events g.L.Listener.faults (g.C.Clock.may_give c.args.clock.now) g.row.LIMIT c.args.port in
-    each_ran does c.args.turn.now 0 c.args.desks.now c.run_sides.new.desks c.run_sides.ensures.desks.as_many (λ i d few.
-    let changed = (c.run_sides.ensures.desks.each i d few).1 in
-    subst (λ (n : ℕ). HasRun (does n) c.args.turn.now (slice_index_or c.args.desks.now i d) (slice_index_or c.run_sides.new.desks i d)) (omega arith)
-    (subst (HasRun (does i) c.args.turn.now (slice_index_or c.args.desks.now i d)) changed.left
-    (subst (λ old. HasRun (does i) c.args.turn.now old changed.after_call.now) changed.argument_is changed.call)))
+    changed_ran _ _ (ConversesAs g.L.Listener.events g.L.Listener.faults (g.C.Clock.may_give c.args.clock.now) g.row.LIMIT c.args.port)
+    c.args.turn.now c.args.desks.now c.run_sides.new.desks c.run_sides.ensures.desks (λ i old new call. call)
 
 pub returns-clause-lines : goal.returns-clause-lines
 returns-clause-lines g c =
-    let does = RunsLine g.M.Link.calls g.M.Link.faults (g.C.Clock.may_give c.args.clock.now) g.row.LIMIT c.args.rounds
-    c.args.turn.now.opening.history.site.lines in
-    each_ran does c.args.turn.now 0 c.args.lines.now c.run_sides.new.lines c.run_sides.ensures.lines.as_many (λ i d few.
-    let changed = (c.run_sides.ensures.lines.each i d few).1 in
-    subst (λ (n : ℕ). HasRun (does n) c.args.turn.now (slice_index_or c.args.lines.now i d) (slice_index_or c.run_sides.new.lines i d)) (omega arith)
-    (subst (HasRun (does i) c.args.turn.now (slice_index_or c.args.lines.now i d)) changed.left
-    (subst (λ old. HasRun (does i) c.args.turn.now old changed.after_call.now) changed.argument_is changed.call)))
+    changed_ran _ _ (RunsLine g.M.Link.calls g.M.Link.faults (g.C.Clock.may_give c.args.clock.now) g.row.LIMIT c.args.rounds
+    c.args.turn.now.opening.history.site.lines) c.args.turn.now c.args.lines.now c.run_sides.new.lines c.run_sides.ensures.lines (λ i old new call. call)

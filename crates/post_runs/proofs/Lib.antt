@@ -1,0 +1,2 @@
+-- The lemmas of `post_runs`, by topic.
+pub mod Changing
