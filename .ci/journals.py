@@ -1,4 +1,4 @@
-"""Journals of the built program, and the lines of commands: what `kills` stands on."""
+"""Journals of the built program, and the lines of commands: what `kills`, `lines`, `desk` and `hostile` stand on."""
 import itertools
 import json
 import os
@@ -84,6 +84,11 @@ def run(words, text=b""):
     """The status that a program ends with, and what it prints."""
     done = subprocess.run(words, input=text, stdout=subprocess.PIPE)
     return done.returncode, done.stdout
+
+
+def redirected(words, how):
+    """A program with standard streams as a shell redirects them: `<&-` is without input."""
+    return ["sh", "-c", f'exec "$@" {how}', "sh", *words]
 
 
 def traced(words, text, folder, flags):
