@@ -19,7 +19,7 @@ use Rattle.desk_turns.specs.Turns.{TurnState, turn_caller}
 use Rattle.modbus_poll.specs.Polls.{PollerState}
 use Rattle.boxed_disk.specs.declared.boxed.BoxedDisk.{BoxedDisk}
 use Rattle.shared_posts.specs.Callers.{AreReady, DeskCaller, outsides_of, passes_of, without_callers}
-use Rattle.post_runs.specs.Running.{ConversesAs, HasLine, RunsLine}
+use Rattle.post_turns.specs.Running.{ConversesAs, HasLine, RunsLine}
 use Rattle.shared_posts.specs.Running.{EachHasRun}
 use Rattle.farm_serve.specs.Sharing.{EachStands, LineStands, PostStands, ServesAll}
 use Rattle.shared_posts.specs.declared.post.Post.{Post}

@@ -22,7 +22,7 @@ use Rattle.modbus_poll.specs.Polls.{PollerState, fresh}
 use Rattle.desk_turns.specs.Turns.{IsNewPass, turn_caller}
 use Rattle.boxed_disk.specs.declared.boxed.BoxedDisk.{BoxedDisk}
 use Rattle.shared_posts.specs.Callers.{AreReady, DeskCaller, IsNewCaller, IsReady, outsides_of, without_callers}
-use Rattle.post_runs.specs.Running.{ConversesAs, HasLine, RunsLine, line_of}
+use Rattle.post_turns.specs.Running.{ConversesAs, HasLine, RunsLine, line_of}
 use Rattle.shared_posts.specs.Running.{EachHasRun, HasRun, begun}
 use Rattle.farm_serve.specs.Sharing.{EachStands, IsFirst, LineStands, PostStands}
 use Rattle.shared_posts.specs.declared.post.Post.{Post}

@@ -14,7 +14,7 @@ use Rattle.line_posts.specs.Laws.{line_with_seen}
 use Rattle.line_posts.specs.Runs.{IsLineRun}
 use Rattle.desk_turns.specs.Closing.{AreCallers}
 use Rattle.shared_posts.specs.Callers.{outsides_of}
-use Rattle.post_runs.specs.Running.{IsLineAt, line_of}
+use Rattle.post_turns.specs.Running.{IsLineAt, line_of}
 use Rattle.shared_posts.specs.declared.post.Post.{Post}
 
 -- how the access of a caller stands before its first request, at a desk that was just made with this history

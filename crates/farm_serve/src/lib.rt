@@ -10,6 +10,6 @@ mod rooms;
 mod serving;
 
 pub use ends::any_failed;
-pub use post_runs::{DeskPost, LinePost};
+pub use post_turns::{DeskPost, LinePost};
 pub use serving::serve;
 pub use shared_posts::{Caller, DeskCaller, DeskPass, Post};

@@ -4,14 +4,14 @@ ghost use Rattle.std.specs.Prelude.{◌≡◌, ◌≤◌, All, IsTrue, IfOk, OnO
 ghost use Rattle.gauge_maps.specs.Maps.{is_line_map};
 ghost use Rattle.modbus_poll.specs.Polls.{fresh};
 ghost use Rattle.shared_posts.specs.Callers.{HaveWork, outsides_of};
-ghost use Rattle.post_runs.specs.Running.{HasLine};
+ghost use Rattle.post_turns.specs.Running.{HasLine};
 
 use farm_base::NoMemory;
 use farm_desk::Desk;
 use farm_disk::Disk;
 use line_posts::GaugeLine;
 use modbus_poll::LineMap;
-use post_runs::LinePost;
+use post_turns::LinePost;
 use std::alloc::Global;
 
 /// The gauge lines of the site of a desk.

@@ -6,7 +6,7 @@ ghost use Rattle.shared_posts.specs.Callers.{outsides_of};
 use desk_posts::PostRoom;
 use farm_base::NoMemory;
 use farm_disk::Disk;
-use post_runs::DeskPost;
+use post_turns::DeskPost;
 use std::alloc::Global;
 
 /// Gives each desk post room for the bytes of a connection. It takes the memory of all.

@@ -5,7 +5,7 @@ ghost use Rattle.farm_desk.specs.States.{IsDurable, IsJustMade};
 ghost use Rattle.farm_history.specs.History.{last_place};
 ghost use Rattle.line_posts.specs.Limits.{most_rounds};
 ghost use Rattle.shared_posts.specs.Callers.{HaveWork, IsOpened, outsides_of};
-ghost use Rattle.post_runs.specs.Running.{HasLine};
+ghost use Rattle.post_turns.specs.Running.{HasLine};
 ghost use Rattle.farm_serve.specs.Sharing.{ServesAll, ServesFrom};
 
 use crate::lines::{lines_of, make_lines};
@@ -16,7 +16,8 @@ use farm_disk::Disk;
 use farm_listeners::Listener;
 use farm_ports::{Clock, Link};
 use farm_turn::Turn;
-use post_runs::{DeskPost, LinePost, run_all};
+use post_runs::run_all;
+use post_turns::{DeskPost, LinePost};
 use shared_posts::{DeskPass, close_posts, give_callers};
 use std::alloc::Global;
 use std::sync::Wait;

@@ -4,11 +4,9 @@ ghost use Rattle.std.specs.Prelude.{◌≡◌, ℕ, ◌+◌, ◌<◌, ◌≤◌,
 ghost use Rattle.farm_history.specs.History.{last_place};
 ghost use Rattle.line_posts.specs.Limits.{most_rounds};
 ghost use Rattle.shared_posts.specs.Callers.{AreReady, IsReady};
-ghost use Rattle.post_runs.specs.Running.{ConversesAs, HasLine, RunsLine};
+ghost use Rattle.post_turns.specs.Running.{ConversesAs, HasLine, RunsLine};
 ghost use Rattle.shared_posts.specs.Running.{EachHasRun, HasRun};
 
-use crate::desk_side::{DeskPost, run_desk_post};
-use crate::line_side::{LinePost, run_line_post};
 use crate::side_by_side::run_sides;
 use boxed_disk::BoxedDisk;
 use farm_desk::Desk;
@@ -16,6 +14,7 @@ use farm_disk::Disk;
 use farm_listeners::Listener;
 use farm_ports::{Clock, Link};
 use farm_turn::Turn;
+use post_turns::{DeskPost, LinePost, run_desk_post, run_line_post};
 use std::alloc::Global;
 use std::sync::Wait;
 use std::thread::Threads;

@@ -2,7 +2,7 @@
 use Rattle.std.proofs.Common.{◌≡◌, ◌∙◌, ℕ, ◌+◌, ◌<◌, length, take, Some, refl, sym, ap, subst, arith}
 use Rattle.std.proofs.lemmas.List.{get_or_default, length-set, length-take-le, take_all, take_more_set}
 use Rattle.shared_posts.specs.Callers.{HaveWork}
-use Rattle.post_runs.specs.Running.{HasLine}
+use Rattle.post_turns.specs.Running.{HasLine}
 use Rattle.shared_posts.proofs.Taking.{have_more, outsides_set}
 use Rattle.farm_serve.proofs.lines.make_lines.Goals as goal
 

@@ -1,7 +1,7 @@
 -- The invariants of the loops of `make_lines`.
 use Rattle.std.proofs.Common.{◌≡◌, length, take}
 use Rattle.shared_posts.specs.Callers.{HaveWork, outsides_of}
-use Rattle.post_runs.specs.Running.{HasLine}
+use Rattle.post_turns.specs.Running.{HasLine}
 use Rattle.farm_serve.proofs.lines.make_lines.Given as goal
 
 -- so far the first posts have their lines, and all have their objects

@@ -7,7 +7,7 @@ use Rattle.farm_history.specs.History.{last_place}
 use Rattle.gauge_maps.specs.declared.map.LineMap.{LineMap}
 use Rattle.desk_turns.specs.Closing.{IsUnused}
 use Rattle.shared_posts.specs.Callers.{HaveWork}
-use Rattle.post_runs.specs.Running.{HasLine}
+use Rattle.post_turns.specs.Running.{HasLine}
 use Rattle.farm_serve.specs.Sharing.{ServesAll}
 use Rattle.farm_serve.proofs.serving.serve.Goals as goal
 

@@ -5,7 +5,7 @@ use Rattle.std.proofs.lemmas.List.{length-map}
 use Rattle.std.proofs.lemmas.List.Elements.{All-append}
 use Rattle.farm_turn.specs.Views.{PassView, number_count}
 use Rattle.shared_posts.specs.Callers.{GetCallers, IsLeft, passes_of, without_callers}
-use Rattle.post_runs.specs.Running.{ConversesAs, HasLine, RunsLine}
+use Rattle.post_turns.specs.Running.{ConversesAs, HasLine, RunsLine}
 use Rattle.farm_serve.specs.Sharing.{ServesAll}
 use Rattle.farm_serve.proofs.Closed.{serves_all}
 use Rattle.shared_posts.proofs.Passes.{passes_of_turn}

@@ -5,7 +5,7 @@ use Rattle.std.specs.Prelude.{IsSome}
 use Rattle.shared_posts.proofs.Crossing.{caller_send}
 use Rattle.shared_posts.proofs.Giving.{ready_at}
 use Rattle.shared_posts.specs.Callers.{IsReady}
-use Rattle.post_runs.specs.Running.{ConversesAs, HasLine, RunsLine}
+use Rattle.post_turns.specs.Running.{ConversesAs, HasLine, RunsLine}
 use Rattle.post_runs.proofs.Changing.{changed_ran}
 use Rattle.post_runs.proofs.all_posts.run_all.Goals as goal
 

@@ -1,8 +1,8 @@
 -- Answers to the open goals of `run_desk_post`.
 use Rattle.std.proofs.Common.{◌∙◌, Some, refl, sym}
 use Rattle.shared_posts.proofs.Running.{has_run}
-use Rattle.post_runs.specs.Running.{Converses}
-use Rattle.post_runs.proofs.desk_side.run_desk_post.Goals as goal
+use Rattle.post_turns.specs.Running.{Converses}
+use Rattle.post_turns.proofs.desk_post.run_desk_post.Goals as goal
 
 pub returns : goal.returns
 returns g c =

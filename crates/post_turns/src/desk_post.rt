@@ -3,7 +3,7 @@
 ghost use Rattle.std.specs.Prelude.{◌≡◌, ℕ, IsSome};
 ghost use Rattle.farm_history.specs.History.{last_place};
 ghost use Rattle.shared_posts.specs.Callers.{IsReady};
-ghost use Rattle.post_runs.specs.Running.{Converses};
+ghost use Rattle.post_turns.specs.Running.{Converses};
 ghost use Rattle.shared_posts.specs.Running.{HasRun};
 
 use boxed_disk::BoxedDisk;
@@ -22,7 +22,7 @@ use std::sync::Wait;
 pub type DeskPost<L, D, const LIMIT: usize> = Post<L, PostRoom, DeskCaller<D, LIMIT>>;
 
 /// Runs a desk post on a port, as its caller, by turns.
-pub(crate) fn run_desk_post<R: Wait, D: Disk, L: Listener, C: Clock, const LIMIT: usize>(
+pub fn run_desk_post<R: Wait, D: Disk, L: Listener, C: Clock, const LIMIT: usize>(
     rt: &R,
     alloc: Global,
     turn: &Turn<Desk<BoxedDisk<D>, LIMIT>>,

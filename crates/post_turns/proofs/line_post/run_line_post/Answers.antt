@@ -5,8 +5,8 @@ use Rattle.desk_turns.specs.Turns.{turn_caller}
 use Rattle.line_posts.specs.Runs.{IsLineRun}
 use Rattle.modbus_poll.specs.Polls.{PollerState, fresh}
 use Rattle.shared_posts.proofs.Running.{has_run}
-use Rattle.post_runs.specs.Running.{RunsLine, line_of}
-use Rattle.post_runs.proofs.line_side.run_line_post.Goals as goal
+use Rattle.post_turns.specs.Running.{RunsLine, line_of}
+use Rattle.post_turns.proofs.line_post.run_line_post.Goals as goal
 
 -- the poller, or another one
 abbrev poller_or : PollerState → Option PollerState → PollerState

@@ -4,7 +4,7 @@ ghost use Rattle.std.specs.Prelude.{◌≡◌, ℕ, ◌+◌, ◌<◌, ◌≤◌}
 ghost use Rattle.farm_history.specs.History.{last_place};
 ghost use Rattle.line_posts.specs.Limits.{most_rounds};
 ghost use Rattle.shared_posts.specs.Callers.{IsReady};
-ghost use Rattle.post_runs.specs.Running.{HasLine, RunsLine};
+ghost use Rattle.post_turns.specs.Running.{HasLine, RunsLine};
 ghost use Rattle.shared_posts.specs.Running.{HasRun};
 
 use boxed_disk::BoxedDisk;
@@ -21,7 +21,7 @@ use std::sync::Wait;
 pub type LinePost<M, D, const LIMIT: usize> = Post<M, GaugeLine, DeskCaller<D, LIMIT>>;
 
 /// Polls a line of the site, by its index from 0, for these rounds, as its caller, by turns.
-pub(crate) fn run_line_post<R: Wait, D: Disk, M: Link, C: Clock, const LIMIT: usize>(
+pub fn run_line_post<R: Wait, D: Disk, M: Link, C: Clock, const LIMIT: usize>(
     rt: &R,
     turn: &Turn<Desk<BoxedDisk<D>, LIMIT>>,
     post: &mut LinePost<M, D, LIMIT>,

@@ -1,2 +1,0 @@
--- The definitions of `post_runs`, by subject.
-pub mod Running

@@ -1,0 +1,2 @@
+-- The definitions of `post_turns`, by subject.
+pub mod Running
