@@ -4,3 +4,4 @@ pub mod TankStates
 pub mod Notes
 pub mod Following
 pub mod Indexing
+pub mod Figured

@@ -6,6 +6,7 @@
 #![tactic(auto)]
 
 mod facts;
+mod figured;
 mod indexed;
 mod indexes;
 mod notes;
@@ -13,6 +14,7 @@ mod past_facts;
 mod tank_states;
 
 pub use facts::PastFacts;
+pub use figured::Figured;
 pub use indexed::Indexed;
 pub use indexes::Indexes;
 pub use notes::{Note, Notes};
