@@ -5,6 +5,7 @@ ghost use Rattle.farm_stock.specs.Books.{plus};
 ghost use Rattle.farm_stock.specs.Postings.{amount_of, at_tank};
 ghost use Rattle.farm_book.specs.Kept.{IsSound};
 ghost use Rattle.farm_book.specs.Replies.{IsGainReply, IsStockReply, IsTicketReply, IsTotalReply, IssuesAt, SettlesAt};
+ghost use Rattle.farm_indexes.specs.Figured.{AreFiguresOf};
 ghost use Rattle.history_lookups.specs.Pasts.{IsReadable};
 ghost use Rattle.farm_history.specs.Commands.{is_settle, issues_ticket};
 ghost use Rattle.farm_history.specs.Conservation.{Moves};
@@ -21,7 +22,7 @@ use crate::judging::verdict_of;
 use crate::tables::table_facts;
 use farm_base::NoMemory;
 use farm_history::{Entry, Query, Reply, Rule, Verdict, history_laws};
-use farm_indexes::{Indexed, Indexes, PastFacts};
+use farm_indexes::{Figured, Indexed, Indexes, PastFacts};
 use farm_site::Site;
 use history_lookups::Past;
 use std::alloc::Global;
@@ -112,15 +113,30 @@ impl<const LIMIT: usize> Book<LIMIT> {
         ensures total { Moves (postings_at self.new.history (last_place self.new.history)) (total_of self.old.history) (total_of self.new.history) }
         ensures spare { self.new.spare + 1 ≡ self.old.spare }
     {
-        let place = self.entries.len() as u32 + 1;
+        let figured = Figured::of(&self.past(), &entry.cmd);
+        self.commit_figured(entry, &figured)
+    }
+
+    // The same on the figures that the entry names.
+    pub(crate) fn commit_figured(&mut self, entry: Entry, figured: &Figured) -> Reply
+        requires next { IsNext LIMIT self.old.history entry }
+        requires room { 1 ≤ self.old.spare }
+        requires figures { AreFiguresOf self.old.history entry.cmd figured.now }
+        ensures entered { self.new.history ≡ with_entry self.old.history entry }
+        ensures reply { result ≡ reply_at self.new.history (last_place self.new.history) }
+        ensures ticket { IsTrue (issues_ticket entry.cmd) → IsTicketReply self.new.history (last_place self.new.history) result }
+        ensures gain { IsTrue (is_settle entry.cmd) → IsGainReply self.new.history (last_place self.new.history) result }
+        ensures placed { IsFalse (issues_ticket entry.cmd) → IsFalse (is_settle entry.cmd) → result ≡ Reply.Placed (last_place self.new.history) }
+        ensures spare { self.new.spare + 1 ≡ self.old.spare }
+    {
         let past = Past {
             site: &self.site,
             entries: &self.entries,
         };
-        self.indexes.enter(&past, &entry);
+        let reply = self.indexes.enter(&past, &entry, figured);
         self.entries.push_reserved(entry);
         self.room -= 1;
-        self.reply_at(place)
+        reply
     }
 
     /// The reply for the entry at a place.

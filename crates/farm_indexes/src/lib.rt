@@ -9,7 +9,9 @@ mod facts;
 mod figured;
 mod indexed;
 mod indexes;
+mod issuing;
 mod notes;
+mod open_moves;
 mod past_facts;
 mod tank_states;
 
@@ -18,4 +20,5 @@ pub use figured::Figured;
 pub use indexed::Indexed;
 pub use indexes::Indexes;
 pub use notes::{Note, Notes};
+pub use open_moves::{OpenMoves, TankMove};
 pub use tank_states::{TankState, TankStates};
