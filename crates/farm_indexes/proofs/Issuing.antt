@@ -101,7 +101,7 @@ opened_closed history place movement first second plan figured opened are =
     are.first ∙ ap (λ found. first_figures history (named_for first second found)) opened in
     let others : figured.second ≡ second_figures history (named_at_closing first second plan) =
     are.second ∙ ap (λ found. second_figures history (named_for first second found)) opened in
-    ap₂ (closed_on place number (movement_of history movement plan)) figures others
+    ap₂ (λ here there. closed_on place number (movement_of history movement plan) here there) figures others
     ∙ plan_closed history place number movement first second plan
     ∙ ap (λ found. option_and_then (closed place number) (option_and_then (plan_to_close history movement first second) found)) (sym opened)
 

@@ -1,8 +1,10 @@
 -- The movements that are kept for a site's tanks: before the first entry, after an entry more, and that of an open movement.
-use Rattle.std.proofs.Common.{◌≡◌, ◌⊎◌, inl, inr, ℕ, ◌+◌, ◌≤◌, ◌==◌, ◌||◌, Bool, true, false, IsTrue, if◌then◌else◌, List, [], ◌∷◌, ◌++◌, map, Option, Some, None, option_and_then, refl, ap, ap₂, sym, ◌∙◌, subst, arith}
+use Rattle.std.proofs.Common.{◌≡◌, ℕ, ◌+◌, ◌<◌, ◌≤◌, ◌==◌, ◌||◌, Bool, true, false, IsTrue, if◌then◌else◌, List, [], ◌∷◌, ◌++◌, drop, get_or, length, map, set, take, Option, Some, None, option_and_then, refl, ap, ap₂, sym, ◌∙◌, subst, append-nil, arith}
 use Rattle.std.specs.Prelude.{IfSome}
 use Rattle.std.specs.List.{list_any}
 use Rattle.std.proofs.lemmas.Bool.{both_ways, eqb-true}
+use Rattle.std.proofs.lemmas.List.{drop_all, get_or_default, take_all}
+use Rattle.std.proofs.lemmas.List.Edits.{map_over_more}
 use Rattle.std.proofs.lemmas.Option.{same_Some}
 use Rattle.farm_movement.specs.Movements.{OpenMove}
 use Rattle.farm_site.specs.Described.{Described, tank_numbered}
@@ -30,9 +32,13 @@ use Rattle.farm_indexes.proofs.States.{opens_elsewhere}
 use Rattle.farm_indexes.proofs.Used.{IsOpenAt, opened_stays, open_within}
 use Rattle.history_lookups.specs.Bounds.{IsOpenedInRange}
 
+-- a movement that is kept for a tank
+abbrev pub kept_for : ℕ → Option OpenMove → TankMove
+kept_for tank movement = record { tank = tank; movement = movement }
+
 -- what is kept for a tank after a command that opens a movement on some tanks
 abbrev pub kept_after : Command → Option OpenMove → TankMove → TankMove
-kept_after command movement kept = if opens_on kept.tank command then record { tank = kept.tank; movement = movement } else kept
+kept_after command movement kept = if opens_on kept.tank command then kept_for kept.tank movement else kept
 
 -- it is still kept for the same tanks
 tanks_stay : (command : Command) (movement : Option OpenMove) (moves : List TankMove) →
@@ -40,11 +46,7 @@ tanks_stay : (command : Command) (movement : Option OpenMove) (moves : List Tank
 tanks_stay command movement [] = refl
 tanks_stay command movement (kept ∷ moves) = ap₂ (λ tank tanks. tank ∷ tanks) (by (opens_on kept.tank command)) (tanks_stay command movement moves)
   where
-    tank_of : TankMove → ℕ
-    tank_of one = one.tank
-
-    by : (b : Bool) → tank_of (if b then record { tank = kept.tank; movement = movement } else kept) ≡ kept.tank
-    unfolding tank_of
+    by : (opens : Bool) → (if opens then kept_for kept.tank movement else kept).tank ≡ kept.tank
     by true = refl
     by false = refl
 
@@ -55,9 +57,6 @@ found_other command movement tank [] other = refl
 found_other command movement tank (kept ∷ moves) other =
     by (opens_on kept.tank command) (kept.tank == tank) refl refl (found_other command movement tank moves other)
   where
-    later : List TankMove
-    later = map (kept_after command movement) moves
-
     by : (opens same : Bool) → opens_on kept.tank command ≡ opens → (kept.tank == tank) ≡ same →
         move_in tank (map (kept_after command movement) moves) ≡ move_in tank moves →
         move_in tank (map (kept_after command movement) (kept ∷ moves)) ≡ move_in tank (kept ∷ moves)
@@ -76,9 +75,6 @@ found_named command movement tank [] named among = cc
 found_named command movement tank (kept ∷ moves) named among =
     by (kept.tank == tank) refl among (found_named command movement tank moves named)
   where
-    among_later : Bool
-    among_later = list_any (λ number. number == tank) (map (λ (one : TankMove). one.tank) moves)
-
     elsewhere : (opens : Bool) → opens_on kept.tank command ≡ opens → (kept.tank == tank) ≡ false →
         move_in tank (map (kept_after command movement) moves) ≡ movement →
         move_in tank (map (kept_after command movement) (kept ∷ moves)) ≡ movement
@@ -100,21 +96,22 @@ range_after : (command : Command) (movement : Option OpenMove) (tank : ℕ) (mov
     IfSome (move_in tank moves) IsOpenedInRange → IfSome (move_in tank (map (kept_after command movement) moves)) IsOpenedInRange
 range_after command movement tank [] new was = was
 range_after command movement tank (kept ∷ moves) new was =
-    by (opens_on kept.tank command) (kept.tank == tank) was (range_after command movement tank moves new)
+    by (opens_on kept.tank command) (kept.tank == tank) refl refl was (range_after command movement tank moves new)
   where
-    InRange : Option OpenMove → Type 0
-    InRange found = IfSome found IsOpenedInRange
-
-    made : Bool → TankMove
-    made opens = if opens then record { tank = kept.tank; movement = movement } else kept
-
-    by : (opens same : Bool) → IfSome (if same then kept.movement else move_in tank moves) IsOpenedInRange →
+    by : (opens same : Bool) → opens_on kept.tank command ≡ opens → (kept.tank == tank) ≡ same →
+        IfSome (move_in tank (kept ∷ moves)) IsOpenedInRange →
         (IfSome (move_in tank moves) IsOpenedInRange → IfSome (move_in tank (map (kept_after command movement) moves)) IsOpenedInRange) →
-        IfSome (if same then (if opens then movement else kept.movement) else move_in tank (map (kept_after command movement) moves)) IsOpenedInRange
-    by true true was rest = new
-    by true false was rest = rest was
-    by false true was rest = was
-    by false false was rest = rest was
+        IfSome (move_in tank (map (kept_after command movement) (kept ∷ moves))) IsOpenedInRange
+    by true true opens same was rest = rw (opens, same) new
+    by true false opens same was rest =
+        let later : IfSome (move_in tank moves) IsOpenedInRange = (rw same at was) in
+        rw (opens, same) (rest later)
+    by false true opens same was rest =
+        let here : IfSome kept.movement IsOpenedInRange = (rw same at was) in
+        rw (opens, same) here
+    by false false opens same was rest =
+        let later : IfSome (move_in tank moves) IsOpenedInRange = (rw same at was) in
+        rw (opens, same) (rest later)
 
 -- a number that is among those of tanks is that of one
 numbered : (tank : ℕ) (tanks : List Tank) → list_any (λ number. number == tank) (map (λ (one : Tank). one.number) tanks) ≡ false →
@@ -168,9 +165,6 @@ held_kept : (history : History) (entry : Entry) (movement : Option OpenMove) (mo
 held_kept history entry movement moves follows were new tank place plan held opened =
     by (opens_on tank entry.cmd) refl (sym (held_more history entry tank follows) ∙ held)
   where
-    limit : ℕ
-    limit = follows.limit
-
     by : (b : Bool) → opens_on tank entry.cmd ≡ b →
         (if b then Some (last_place history + 1) else unless_ended entry.cmd (holding_movement history tank)) ≡ Some place →
         move_in tank (map (kept_after entry.cmd movement) moves) ≡ movement_of (with_entry history entry) place plan
@@ -214,7 +208,7 @@ none_opened command movement (kept ∷ moves) none =
     ap₂ (λ one more. one ∷ more) (by (opens_on kept.tank command) refl) (none_opened command movement moves none)
   where
     by : (opens : Bool) → opens_on kept.tank command ≡ opens →
-        (if opens then record { tank = kept.tank; movement = movement } else kept) ≡ kept
+        (if opens then kept_for kept.tank movement else kept) ≡ kept
     by true opens = let is = opens_on_is kept.tank command opens in absurd (none is.plan is.opened)
     by false other = refl
 
@@ -257,3 +251,23 @@ pub move_found : (limit : ℕ) (history : History) (tank place : ℕ) (plan : Pl
 move_found limit history tank place plan moves legal are is_open named =
     let known = (open_if_and_only_if_held limit history tank place plan legal named).0 is_open in
     are.held tank place plan known.1 known.0 ∙ ap (option_and_then (movement_of history place)) (sym is_open)
+
+-- one tank further on, the movement is kept for each tank so far that the command opens it on
+pub taken_more : (command : Command) (movement : Option OpenMove) (moves now written : List TankMove) (index : ℕ) (default : TankMove) →
+    index < length moves → length now ≡ length moves →
+    now ≡ map (kept_after command movement) (take index moves) ++ drop index moves →
+    written ≡ set now index (kept_after command movement (get_or now index default)) →
+    written ≡ map (kept_after command movement) (take (index + 1) moves) ++ drop (index + 1) moves
+taken_more command movement moves now written index default within long so_far is =
+    let within_now : index < length now = omega arith in
+    is
+    ∙ map_over_more (kept_after command movement) moves now index (get_or now index default) within so_far
+    (get_or_default now index default (get_or now index default) within_now)
+
+-- at the end it is kept for each
+pub taken_all : (command : Command) (movement : Option OpenMove) (moves now : List TankMove) (index : ℕ) → length moves ≤ index →
+    now ≡ map (kept_after command movement) (take index moves) ++ drop index moves → now ≡ map (kept_after command movement) moves
+taken_all command movement moves now index beyond so_far =
+    so_far
+    ∙ ap₂ (λ front back. map (kept_after command movement) front ++ back) (take_all index moves beyond) (drop_all index moves beyond)
+    ∙ append-nil (map (kept_after command movement) moves)

@@ -216,48 +216,44 @@ taken_all history entry states now index beyond so_far =
     ∙ ap₂ (λ front back. map (state_after history entry) front ++ back) (take_all index states beyond) (drop_all index states beyond)
     ∙ append-nil (map (state_after history entry) states)
 
+-- the state of a tank after an entry with this command
+abbrev after_command : History → TankState → Command → TankState
+after_command history state command = record {
+  tank = state.tank;
+  held_by = held_after (last_place history + 1) state.tank command state.held_by;
+  reading = last_after (is_gauging_of state.tank command) (last_place history + 1) state.reading;
+  sample = last_after (is_sample_of state.tank command) (last_place history + 1) state.sample;
+  used = or_else (used_by history state.tank command) state.used;
+  settled = last_after (settles state.tank command) (last_place history + 1) state.settled;
+}
+
+-- a command that ends no movement leaves what holds a tank
+held_still : (held : Option ℕ) (command : Command) → ((movement : ℕ) → ends movement command ≡ false) → unless_ended command held ≡ held
+held_still None command none = refl
+held_still (Some movement) command none = rw (none movement) refl
+
 -- a state that a command doesn't concern stays
+stays_after : (history : History) (state : TankState) (command : Command) → concerns state.tank command ≡ false →
+    after_command history state command ≡ state
+stays_after history state (Gauge number level water temperature ambient) other =
+    rw (other, held_still state.held_by (Gauge number level water temperature ambient) (λ movement. refl)) refl
+stays_after history state (Dip number outage tapes water temperatures ambient) other =
+    rw (other, held_still state.held_by (Dip number outage tapes water temperatures ambient) (λ movement. refl)) refl
+stays_after history state (Sample number density sw) other =
+    rw (other, held_still state.held_by (Sample number density sw) (λ movement. refl)) refl
+stays_after history state (Opening plan) other = rw (other, held_still state.held_by (Opening plan) (λ movement. refl)) refl
+stays_after history state (Closing movement first second) other = cc
+stays_after history state (Cancel movement) other = cc
+stays_after history state (Reverse ticket) other = rw (held_still state.held_by (Reverse ticket) (λ movement. refl)) refl
+stays_after history state (Settle number gauged) other =
+    rw (other, held_still state.held_by (Settle number gauged) (λ movement. refl)) refl
+stays_after history state Stop other = rw (held_still state.held_by Stop (λ movement. refl)) refl
+
+-- so it is after an entry
 pub unconcerned : (history : History) (entry : Entry) (state : TankState) → concerns state.tank entry.cmd ≡ false →
     state_after history entry state ≡ state
 unfolding state_after
-unconcerned history entry state other = by entry.cmd other
-  where
-    -- the state after an entry with this command
-    after : Command → TankState
-    after command = record {
-      tank = state.tank;
-      held_by = held_after (last_place history + 1) state.tank command state.held_by;
-      reading = last_after (is_gauging_of state.tank command) (last_place history + 1) state.reading;
-      sample = last_after (is_sample_of state.tank command) (last_place history + 1) state.sample;
-      used = or_else (used_by history state.tank command) state.used;
-      settled = last_after (settles state.tank command) (last_place history + 1) state.settled;
-    }
-
-    unheld_still : (held : Option ℕ) (command : Command) → ((movement : ℕ) → ends movement command ≡ false) → unless_ended command held ≡ held
-    unheld_still None command none = refl
-    unheld_still (Some movement) command none = rw (none movement) refl
-
-    by : (command : Command) → concerns state.tank command ≡ false → after command ≡ state
-    unfolding after
-    by (Gauge number level water temperature ambient) other =
-        let free = unheld_still state.held_by (Gauge number level water temperature ambient) (λ movement. refl) in
-        rw (other, free) refl
-    by (Dip number outage tapes water temperatures ambient) other =
-        let free = unheld_still state.held_by (Dip number outage tapes water temperatures ambient) (λ movement. refl) in
-        rw (other, free) refl
-    by (Sample number density sw) other =
-        let free = unheld_still state.held_by (Sample number density sw) (λ movement. refl) in
-        rw (other, free) refl
-    by (Opening plan) other =
-        let free = unheld_still state.held_by (Opening plan) (λ movement. refl) in
-        rw (other, free) refl
-    by (Closing movement first second) other = cc
-    by (Cancel movement) other = cc
-    by (Reverse ticket) other = rw (unheld_still state.held_by (Reverse ticket) (λ movement. refl)) refl
-    by (Settle number gauged) other =
-        let free = unheld_still state.held_by (Settle number gauged) (λ movement. refl) in
-        rw (other, free) refl
-    by Stop other = rw (unheld_still state.held_by Stop (λ movement. refl)) refl
+unconcerned history entry state other = stays_after history state entry.cmd other
 
 -- a state that stays is the one that would have been written
 pub kept_more : (history : History) (entry : Entry) (states now : List TankState) (index : ℕ) (default : TankState) →
