@@ -3,7 +3,7 @@ pub mod Books
 pub mod FiguresStay
 pub mod FirstPlaces
 pub mod Held
-pub mod Issuing
+pub mod Issued
 pub mod Keys
 pub mod LastPlaces
 pub mod MovesMore

@@ -44,7 +44,8 @@ one_side : (place number movement party : ℕ) (leg : Option Leg) (figures : Opt
     let made : Leg → OpenMove = λ leg. record { place = movement; party = party; first = leg; second = None } in
     closed_on place number (option_map made leg) figures None
     ≡ option_and_then (closed place number)
-    (option_and_then (λ movement. option_map (λ both. (movement, both.0, both.1)) (option_map (λ figures. (figures, None)) figures)) (option_map made leg))
+    (option_and_then (λ movement. option_map (λ (both : Quantities × Option Quantities). (movement, both.0, both.1)) (option_map (λ figures. (figures, None)) figures))
+    (option_map made leg))
 one_side place number movement party None figures = refl
 one_side place number movement party (Some leg) None = refl
 one_side place number movement party (Some leg) (Some figures) = refl
@@ -66,7 +67,7 @@ two_sides : (place number movement : ℕ) (leg other : Option Leg) (figures othe
     option_and_then (λ leg. option_map (λ other. record { place = movement; party = 0; first = leg; second = Some other }) other) leg in
     closed_on place number made figures others
     ≡ option_and_then (closed place number)
-    (option_and_then (λ movement. option_map (λ both. (movement, both.0, both.1))
+    (option_and_then (λ movement. option_map (λ (both : Quantities × Option Quantities). (movement, both.0, both.1))
     (option_and_then (λ figures. option_map (λ others. (figures, Some others)) others) figures)) made)
 two_sides place number movement None other figures others = refl
 two_sides place number movement (Some leg) None figures others = refl
