@@ -22,7 +22,7 @@ use Rattle.farm_history.specs.Figures.{figures_at, named, named_at_closing, name
 use Rattle.farm_history.specs.History.{History, last_place, with_entry}
 use Rattle.farm_history.specs.MovementRules.{no_movement}
 use Rattle.farm_history.specs.Movements.{opened_at}
-use Rattle.farm_history.specs.Postings.{posted_by, postings_issued}
+use Rattle.farm_history.specs.Postings.{posted_by, postings_issued, postings_of_ticket}
 use Rattle.farm_history.specs.Stocks.{gain_at}
 use Rattle.farm_history.specs.Tickets.{ToClose, closed, figures_at_closing, issued_by, issued_by_closing, leg_at, movement_of, next_number, plan_to_close, ticket_at, to_close}
 use Rattle.farm_history.proofs.Accepted.{kept}
@@ -34,9 +34,10 @@ use Rattle.farm_indexes.specs.OpenMoves.{movement_at}
 use Rattle.farm_indexes.specs.declared.figured.Figured.{Figured}
 use Rattle.farm_indexes.proofs.OpenAt.{opened_if_open}
 use Rattle.farm_indexes.proofs.Used.{IsOpenAt, named_open}
-use Rattle.history_lookups.specs.Bounds.{IsOpenedInRange, IsSmallTicket}
+use Rattle.history_lookups.specs.Bounds.{AreSmallPostings, IsOpenedInRange, IsSmallTicket}
 use Rattle.history_lookups.specs.Pasts.{IsReadable}
 use Rattle.history_lookups.proofs.Closings.{closed_small}
+use Rattle.history_lookups.proofs.TicketPostings.{ticket_small}
 use Rattle.history_lookups.proofs.TwoTanks.{IsOfTwoTanks, opened_apart}
 
 -- a movement with one side, on figures of one tank
@@ -169,6 +170,13 @@ closing_posted history posted command movement first second ticket is issued =
     let here : ticket ≡ issued_by_closing history (last_place history + 1) (Closing movement first second) =
     issued ∙ ap (issued_by history (last_place history + 1)) is in
     ap postings_issued here ∙ ap (posted_by history posted) (sym is)
+
+-- what a small ticket posts is small
+pub small_posted : (found : Option Ticket) (ticket : Ticket) (posted : List Posting) → found ≡ Some ticket → IfSome found IsSmallTicket →
+    posted ≡ postings_of_ticket ticket → AreSmallPostings posted
+small_posted found ticket posted is small posts =
+    let there = subst (λ (one : Option Ticket). IfSome one IsSmallTicket) is small in
+    subst AreSmallPostings (sym posts) (ticket_small ticket there)
 
 -- the ticket of the entry that came is the one that it issued
 ticket_grown : (history : History) (entry : Entry) →

@@ -1,6 +1,5 @@
 -- Answers to the open goals of `keep`.
 use Rattle.std.proofs.Common.{◌≡◌, ◌∙◌, ap, get_or, set, sym}
-use Rattle.farm_indexes.specs.OpenMoves.{no_move}
 use Rattle.farm_indexes.proofs.MovesMore.{kept_elsewhere, kept_here, taken_all, taken_more}
 use Rattle.farm_indexes.proofs.open_moves.keep.Goals as goal
 use Rattle.farm_indexes.proofs.open_moves.keep.Goals.{then-opens_on, else-opens_on}
@@ -11,8 +10,8 @@ loop-kept-preserved c =
     let movement = c.args.movement.now in
     let moves = c.loop-kept.moves in
     let index = c.loop-kept.kept-index in
-    let here = get_or moves index (no_move 0) in
-    let more = taken_more command movement c.args.moves.now moves c.if-opens_on.moves index (no_move 0) c.loop-kept-test.true
+    let here = get_or moves index c.kept-item.result in
+    let more = taken_more command movement c.args.moves.now moves c.if-opens_on.moves index c.kept-item.result c.loop-kept-test.true
     c.loop-kept.auto.moves c.loop-kept.invariant in
     elim c.if-opens_on.branch [
       | then-opens_on w ↦
