@@ -13,6 +13,7 @@ ghost use Rattle.farm_history.specs.Desk.{looked_up, reply_at};
 ghost use Rattle.farm_history.specs.History.{IsMoment, IsWellFormed, empty_history, last_moment, last_place, tank_after, with_entry};
 ghost use Rattle.farm_history.specs.Postings.{postings_at};
 ghost use Rattle.farm_history.specs.Rules.{has_same_key};
+ghost use Rattle.farm_history.specs.Sites.{AreRising};
 ghost use Rattle.farm_history.specs.Stocks.{book_of, total_of};
 ghost use Rattle.farm_history.specs.Verdicts.{IsLegal, IsNext, IsVerdict, verdict};
 ghost use Rattle.farm_history.specs.declared.limits.TheConstants.{MOST_LIMIT, STOPS_BEYOND_LIMIT};
@@ -102,7 +103,6 @@ impl<const LIMIT: usize> Book<LIMIT> {
     }
 
     /// Takes an accepted entry in at the end, and answers the reply for it. It can't fail, and takes no memory.
-    #[tactic(auto, unfolding(farm_history::specs::Desk::reply_at))]
     pub fn commit(&mut self, entry: Entry) -> Reply
         requires next { IsNext LIMIT self.old.history entry }
         requires room { 1 ≤ self.old.spare }
@@ -120,16 +120,15 @@ impl<const LIMIT: usize> Book<LIMIT> {
         self.commit_figured(entry, &figured)
     }
 
-    // The same on the figures that the entry names.
+    // Takes an accepted entry in at the end, on the figures that it names, and answers the reply for it.
     pub(crate) fn commit_figured(&mut self, entry: Entry, figured: &Figured) -> Reply
         requires next { IsNext LIMIT self.old.history entry }
         requires room { 1 ≤ self.old.spare }
         requires figures { AreFiguresOf self.old.history entry.cmd figured.now }
         ensures entered { self.new.history ≡ with_entry self.old.history entry }
         ensures reply { result ≡ reply_at self.new.history (last_place self.new.history) }
-        ensures ticket { IsTrue (issues_ticket entry.cmd) → IsTicketReply self.new.history (last_place self.new.history) result }
-        ensures gain { IsTrue (is_settle entry.cmd) → IsGainReply self.new.history (last_place self.new.history) result }
-        ensures placed { IsFalse (issues_ticket entry.cmd) → IsFalse (is_settle entry.cmd) → result ≡ Reply.Placed (last_place self.new.history) }
+        ensures sound { IsSound LIMIT self.new.history }
+        ensures rising { AreRising self.old.history.site }
         ensures spare { self.new.spare + 1 ≡ self.old.spare }
     {
         let past = Past {

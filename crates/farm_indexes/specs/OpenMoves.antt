@@ -1,9 +1,11 @@
 -- The movements that are open, with the figures that they were opened on.
 use Rattle.std.specs.Prelude.{◌≡◌, ℕ, ◌==◌, IfSome, if◌then◌else◌, List, [], ◌∷◌, map, Option, Some, None, option_and_then}
 use Rattle.farm_fixed.specs.declared.records.Quantities.{Quantities}
+use Rattle.farm_history.specs.declared.command.Command.{Command}
 use Rattle.farm_history.specs.declared.plan.Gauged.{Gauged}
 use Rattle.farm_history.specs.declared.plan.Plan.{Plan}
 use Rattle.farm_history.specs.declared.plan.Plan.TheVariants.{Outside, Transfer}
+use Rattle.farm_history.specs.Commands.{opens_on}
 use Rattle.farm_history.specs.History.{History}
 use Rattle.farm_history.specs.Movements.{holding_movement, open_movement, opened_at}
 use Rattle.farm_history.specs.Tickets.{movement_of}
@@ -35,6 +37,14 @@ pub record AreMovesOf (history : History) (moves : List TankMove) : Type 0 where
   pub held : (tank place : ℕ) (plan : Plan) → holding_movement history tank ≡ Some place → opened_at history place ≡ Some plan →
       move_in tank moves ≡ movement_of history place plan
   pub in_range : (tank : ℕ) → IfSome (move_in tank moves) IsOpenedInRange
+
+-- a movement that is kept for a tank
+abbrev pub kept_for : ℕ → Option OpenMove → TankMove
+kept_for tank movement = record { tank = tank; movement = movement }
+
+-- what is kept for a tank after a command that opens a movement on some tanks
+abbrev pub kept_after : Command → Option OpenMove → TankMove → TankMove
+kept_after command movement kept = if opens_on kept.tank command then kept_for kept.tank movement else kept
 
 -- a side of a movement at its opening, on these figures
 abbrev pub leg_on : Way → ℕ → Gauged → Quantities → Leg

@@ -5,7 +5,7 @@ ghost use Rattle.farm_chain.specs.Volumes.{AreInRange};
 ghost use Rattle.farm_history.specs.History.{History, empty_history, with_entry};
 ghost use Rattle.farm_indexes.specs.Figured.{AreFiguresOf};
 ghost use Rattle.farm_indexes.specs.Following.{MayFollow};
-ghost use Rattle.farm_indexes.specs.OpenMoves.{AreMovesOf, leg_on, move_in, no_move, opened_on};
+ghost use Rattle.farm_indexes.specs.OpenMoves.{AreMovesOf, kept_after, leg_on, move_in, no_move, opened_on};
 ghost use Rattle.farm_site.specs.Sites.{described};
 ghost use Rattle.farm_site.specs.declared.items.Tank.{Tank};
 ghost use Rattle.history_lookups.specs.Bounds.{IsOpenedInRange};
@@ -70,13 +70,21 @@ impl OpenMoves {
         requires moves { AreMovesOf past.now self.old }
         ensures moves { AreMovesOf (with_entry past.now entry.now) self.new }
     {
-        if let Command::Opening(plan) = &entry.cmd {
-            let movement = opened_on(past.entries.len() as u32 + 1, plan, figured);
-            for kept in self.moves.iter_mut() {
-                if opens_on(kept.tank, &entry.cmd) {
-                    kept.movement = movement;
-                }
-            }
+        let Command::Opening(plan) = &entry.cmd else {
+            return;
+        };
+        let movement = opened_on(past.entries.len() as u32 + 1, plan, figured);
+        keep(&mut self.moves, &entry.cmd, &movement);
+    }
+}
+
+// Keeps a movement for each tank on which a command opens it.
+fn keep(moves: &mut [TankMove], command: &Command, movement: &Option<OpenMove>)
+    ensures moves { moves.new ≡ map (kept_after command.now movement.now) moves.old }
+{
+    for kept in moves.iter_mut() {
+        if opens_on(kept.tank, command) {
+            kept.movement = *movement;
         }
     }
 }
