@@ -19,7 +19,7 @@ ghost use Rattle.farm_history.specs.Verdicts.{IsLegal, IsNext, IsVerdict, verdic
 ghost use Rattle.farm_history.specs.declared.limits.TheConstants.{MOST_LIMIT, STOPS_BEYOND_LIMIT};
 ghost use Rattle.farm_site.specs.Sites.{described};
 
-use crate::judging::verdict_of;
+use crate::judging::judged;
 use crate::tables::table_facts;
 use farm_base::NoMemory;
 use farm_history::{Entry, Query, Reply, Rule, Verdict, history_laws};
@@ -79,7 +79,10 @@ impl<const LIMIT: usize> Book<LIMIT> {
         ensures repeated { (place : ℕ) → result ≡ Verdict.Repeat place → (1 ≤ place) × (place ≤ last_place self.now.history) }
     {
         history_laws();
-        verdict_of(LIMIT, &self.facts(), entry)
+        match judged(LIMIT, &self.facts(), entry) {
+            Ok(_) => Verdict::Accept,
+            Err(verdict) => verdict,
+        }
     }
 
     /// Makes room for one entry more. It fails only where there was no room and no memory for it.
