@@ -91,7 +91,6 @@ unfolding reply_at
 replied_ticket limit history place sound at = by (ticket_at history place) refl
   where
     by : (found : Option Ticket) → ticket_at history place ≡ found → IsTicketReply history place (reply_at history place)
-    unfolding reply_at
     by None none = absurd (none_there limit history place sound none at)
     by (Some ticket) is =
         subst (λ (found : Option Ticket). IsTicketReply history place (reply_of found (gain_at history place) place)) (sym is)
@@ -105,7 +104,6 @@ replied_gain limit history place sound at = by (ticket_at history place) (gain_a
   where
     by : (found : Option Ticket) (gain : Option Amount) → ticket_at history place ≡ found → gain_at history place ≡ gain →
         IsGainReply history place (reply_at history place)
-    unfolding reply_at
     by (Some ticket) gain is gained = absurd (issues_no_gain history place (issues_there history place ticket is) at)
     by None None none no_gain = absurd (no_settle_there limit history place sound no_gain at)
     by None (Some gain) none is =
@@ -120,7 +118,6 @@ replied_place history place unissued unsettled = by (ticket_at history place) (g
   where
     by : (found : Option Ticket) (gain : Option Amount) → ticket_at history place ≡ found → gain_at history place ≡ gain →
         reply_at history place ≡ replies.Placed place
-    unfolding reply_at
     by (Some ticket) gain is gained = absurd (unissued (issues_there history place ticket is))
     by None (Some gain) none is = absurd (unsettled (settles_there history place gain is))
     by None None none no_gain = ap₂ (λ ticket gain. reply_of ticket gain place) none no_gain

@@ -231,7 +231,7 @@ impl<const LIMIT: usize> Book<LIMIT> {
     }
 
     // The facts of the history.
-    fn facts(&self) -> Indexed<'_>
+    pub(crate) fn facts(&self) -> Indexed<'_>
         ensures history { result ≡ self.now.history }
         ensures sound { IsSound LIMIT self.now.history }
         ensures readable { IsReadable self.now.history }

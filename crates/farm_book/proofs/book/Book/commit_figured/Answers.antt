@@ -33,3 +33,9 @@ enter-reply-requires-clause-readable g c =
     let site = c.self.inside.site in
     let readable = sound_readable g.row.LIMIT (history_of site c.self.inside.entries.items) c.self.invariant.sound in
     subst (λ entries. IsReadable (history_of site entries)) (sym c.deref.ensures.value) readable
+
+pub returns-clause-sound : goal.returns-clause-sound
+returns-clause-sound g c =
+    let before : History = history_of c.self.inside.site c.self.inside.entries.items in
+    let next = subst (λ (kept : Kept). IsNext g.row.LIMIT kept.history c.args.entry) (sym c.self.view_is) c.requires.next in
+    rw c.push_reserved.ensures.items (sound_more g.row.LIMIT before c.args.entry c.self.invariant.sound next)
