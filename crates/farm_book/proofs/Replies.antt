@@ -1,5 +1,5 @@
 -- What is answered for the entry at a place: its ticket, its gain, or the place alone.
-use Rattle.std.proofs.Common.{◌≡◌, ◌∙◌, ◌⊎◌, inl, inr, ℕ, true, Some, None, refl, ap, sym}
+use Rattle.std.proofs.Common.{◌≡◌, ◌∙◌, ◌⊎◌, inl, inr, ℕ, true, Option, Some, None, refl, ap, ap₂, subst, sym}
 use Rattle.std.specs.Prelude.{IsTrue}
 use Rattle.farm_fixed.specs.declared.records.Amount.{Amount}
 use Rattle.farm_ticket.specs.Tickets.{Ticket}
@@ -7,8 +7,10 @@ use Rattle.farm_history.specs.declared.command.Command.{Command}
 use Rattle.farm_history.specs.declared.command.Command.TheVariants.{Settle}
 use Rattle.farm_history.specs.declared.entry.Entry.{Entry}
 use Rattle.farm_history.specs.declared.plan.Gauged.{Gauged}
+use Rattle.farm_history.specs.declared.reply.Reply.{Reply}
 use Rattle.farm_history.specs.declared.reply.Reply.TheVariants as replies
 use Rattle.farm_history.specs.Commands.{is_settle, issues_ticket}
+use Rattle.farm_history.specs.Desk.{reply_at, reply_of}
 use Rattle.farm_history.specs.History.{History, before}
 use Rattle.farm_history.specs.Issued.{IsClosingTicket, IsReversingTicket}
 use Rattle.farm_history.specs.Stocks.{gain_at}
@@ -81,3 +83,41 @@ issues_no_gain history place issued = λ settled.
     let same : issued.entry ≡ settled.entry = cc in
     let issues : issues_ticket settled.entry.cmd ≡ true = sym (ap (λ (entry : Entry). issues_ticket entry.cmd) same) ∙ issued.issues in
     one_reply settled.entry.cmd settled.settles issues
+
+-- where a ticket was issued, the reply is that ticket
+pub replied_ticket : (limit : ℕ) (history : History) (place : ℕ) → IsSound limit history → IssuesAt history place →
+    IsTicketReply history place (reply_at history place)
+unfolding reply_at
+replied_ticket limit history place sound at = by (ticket_at history place) refl
+  where
+    by : (found : Option Ticket) → ticket_at history place ≡ found → IsTicketReply history place (reply_at history place)
+    by None none = absurd (none_there limit history place sound none at)
+    by (Some ticket) is =
+        subst (λ (found : Option Ticket). IsTicketReply history place (reply_of found (gain_at history place) place)) (sym is)
+        (ticket_given history place ticket is)
+
+-- where a Settle stands, it is its place and its gain
+pub replied_gain : (limit : ℕ) (history : History) (place : ℕ) → IsSound limit history → SettlesAt history place →
+    IsGainReply history place (reply_at history place)
+unfolding reply_at
+replied_gain limit history place sound at = by (ticket_at history place) (gain_at history place) refl refl
+  where
+    by : (found : Option Ticket) (gain : Option Amount) → ticket_at history place ≡ found → gain_at history place ≡ gain →
+        IsGainReply history place (reply_at history place)
+    by (Some ticket) gain is gained = absurd (issues_no_gain history place (issues_there history place ticket is) at)
+    by None None none no_gain = absurd (no_settle_there limit history place sound no_gain at)
+    by None (Some gain) none is =
+        subst (λ (reply : Reply). IsGainReply history place reply) (sym (ap₂ (λ ticket gain. reply_of ticket gain place) none is))
+        (gain_given history place gain is)
+
+-- where neither is, it is the place alone
+pub replied_place : (history : History) (place : ℕ) → ¬ (IssuesAt history place) → ¬ (SettlesAt history place) →
+    reply_at history place ≡ replies.Placed place
+unfolding reply_at
+replied_place history place unissued unsettled = by (ticket_at history place) (gain_at history place) refl refl
+  where
+    by : (found : Option Ticket) (gain : Option Amount) → ticket_at history place ≡ found → gain_at history place ≡ gain →
+        reply_at history place ≡ replies.Placed place
+    by (Some ticket) gain is gained = absurd (unissued (issues_there history place ticket is))
+    by None (Some gain) none is = absurd (unsettled (settles_there history place gain is))
+    by None None none no_gain = ap₂ (λ ticket gain. reply_of ticket gain place) none no_gain

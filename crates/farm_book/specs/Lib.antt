@@ -1,5 +1,5 @@
 -- The definitions of `farm_book`, by subject.
 pub mod Kept
-pub mod Refusals
+pub mod Judging
 pub mod Replies
 pub mod Entering

@@ -5,6 +5,7 @@ ghost use Rattle.farm_stock.specs.Books.{plus};
 ghost use Rattle.farm_stock.specs.Postings.{amount_of, at_tank};
 ghost use Rattle.farm_book.specs.Kept.{IsSound};
 ghost use Rattle.farm_book.specs.Replies.{IsGainReply, IsStockReply, IsTicketReply, IsTotalReply, IssuesAt, SettlesAt};
+ghost use Rattle.farm_indexes.specs.Figured.{AreFiguresOf};
 ghost use Rattle.history_lookups.specs.Pasts.{IsReadable};
 ghost use Rattle.farm_history.specs.Commands.{is_settle, issues_ticket};
 ghost use Rattle.farm_history.specs.Conservation.{Moves};
@@ -12,16 +13,17 @@ ghost use Rattle.farm_history.specs.Desk.{looked_up, reply_at};
 ghost use Rattle.farm_history.specs.History.{IsMoment, IsWellFormed, empty_history, last_moment, last_place, tank_after, with_entry};
 ghost use Rattle.farm_history.specs.Postings.{postings_at};
 ghost use Rattle.farm_history.specs.Rules.{has_same_key};
+ghost use Rattle.farm_history.specs.Sites.{AreRising};
 ghost use Rattle.farm_history.specs.Stocks.{book_of, total_of};
 ghost use Rattle.farm_history.specs.Verdicts.{IsLegal, IsNext, IsVerdict, verdict};
 ghost use Rattle.farm_history.specs.declared.limits.TheConstants.{MOST_LIMIT, STOPS_BEYOND_LIMIT};
 ghost use Rattle.farm_site.specs.Sites.{described};
 
-use crate::judging::verdict_of;
+use crate::judging::judged;
 use crate::tables::table_facts;
 use farm_base::NoMemory;
 use farm_history::{Entry, Query, Reply, Rule, Verdict, history_laws};
-use farm_indexes::{Indexed, Indexes, PastFacts};
+use farm_indexes::{Figured, Indexed, Indexes, PastFacts};
 use farm_site::Site;
 use history_lookups::Past;
 use std::alloc::Global;
@@ -77,7 +79,10 @@ impl<const LIMIT: usize> Book<LIMIT> {
         ensures repeated { (place : ℕ) → result ≡ Verdict.Repeat place → (1 ≤ place) × (place ≤ last_place self.now.history) }
     {
         history_laws();
-        verdict_of(LIMIT, &self.facts(), entry)
+        match judged(LIMIT, &self.facts(), entry) {
+            Ok(_) => Verdict::Accept,
+            Err(verdict) => verdict,
+        }
     }
 
     /// Makes room for one entry more. It fails only where there was no room and no memory for it.
@@ -98,7 +103,6 @@ impl<const LIMIT: usize> Book<LIMIT> {
     }
 
     /// Takes an accepted entry in at the end, and answers the reply for it. It can't fail, and takes no memory.
-    #[tactic(auto, unfolding(farm_history::specs::Desk::reply_at))]
     pub fn commit(&mut self, entry: Entry) -> Reply
         requires next { IsNext LIMIT self.old.history entry }
         requires room { 1 ≤ self.old.spare }
@@ -112,15 +116,29 @@ impl<const LIMIT: usize> Book<LIMIT> {
         ensures total { Moves (postings_at self.new.history (last_place self.new.history)) (total_of self.old.history) (total_of self.new.history) }
         ensures spare { self.new.spare + 1 ≡ self.old.spare }
     {
-        let place = self.entries.len() as u32 + 1;
+        let figured = Figured::of(&self.past(), &entry.cmd);
+        self.commit_figured(entry, &figured)
+    }
+
+    // Takes an accepted entry in at the end, on the figures that it names, and answers the reply for it.
+    pub(crate) fn commit_figured(&mut self, entry: Entry, figured: &Figured) -> Reply
+        requires next { IsNext LIMIT self.old.history entry }
+        requires room { 1 ≤ self.old.spare }
+        requires figures { AreFiguresOf self.old.history entry.cmd figured.now }
+        ensures entered { self.new.history ≡ with_entry self.old.history entry }
+        ensures reply { result ≡ reply_at self.new.history (last_place self.new.history) }
+        ensures sound { IsSound LIMIT self.new.history }
+        ensures rising { AreRising self.old.history.site }
+        ensures spare { self.new.spare + 1 ≡ self.old.spare }
+    {
         let past = Past {
             site: &self.site,
             entries: &self.entries,
         };
-        self.indexes.enter(&past, &entry);
+        let reply = self.indexes.enter(&past, &entry, figured);
         self.entries.push_reserved(entry);
         self.room -= 1;
-        self.reply_at(place)
+        reply
     }
 
     /// The reply for the entry at a place.
@@ -213,7 +231,7 @@ impl<const LIMIT: usize> Book<LIMIT> {
     }
 
     // The facts of the history.
-    fn facts(&self) -> Indexed<'_>
+    pub(crate) fn facts(&self) -> Indexed<'_>
         ensures history { result ≡ self.now.history }
         ensures sound { IsSound LIMIT self.now.history }
         ensures readable { IsReadable self.now.history }

@@ -4,8 +4,9 @@ ghost use Rattle.std.specs.Prelude.{◌≡◌, Err, OnErr, OnOk};
 ghost use Rattle.farm_book.specs.Entering.{Enters, IsNextEncoding};
 
 use crate::Book;
+use crate::judging::judged;
 use farm_base::NoMemory;
-use farm_history::{Entry, Verdict};
+use farm_history::Entry;
 use thiserror::Error;
 
 /// Why bytes weren't entered.
@@ -44,13 +45,13 @@ impl<const LIMIT: usize> Book<LIMIT> {
         if entry.at < self.last_moment() {
             return Err(EnterFault::NotNext);
         }
-        match self.judge(&entry) {
-            Verdict::Accept => {
+        match judged(LIMIT, &self.facts(), &entry) {
+            Ok(figured) => {
                 self.reserve()?;
-                self.commit(entry);
+                self.commit_figured(entry, &figured);
                 Ok(())
             }
-            _ => Err(EnterFault::NotNext),
+            Err(_) => Err(EnterFault::NotNext),
         }
     }
 }

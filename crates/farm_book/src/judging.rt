@@ -1,7 +1,9 @@
 //! What the rules say of a further entry, after the entries of a book.
 
-ghost use Rattle.std.specs.Prelude.{◌≡◌, ◌+◌, ◌≤◌, ℕ, if◌then◌else◌, IfSome, None, Some, length};
+ghost use Rattle.std.specs.Prelude.{◌≡◌, ◌≢◌, ◌+◌, ◌≤◌, ℕ, if◌then◌else◌, IfErr, IfOk, IfSome, None, Some, length};
 ghost use Rattle.std.specs.List.{list_any};
+ghost use Rattle.farm_book.specs.Judging.{fault_of, verdict_of};
+ghost use Rattle.farm_indexes.specs.Figured.{AreFiguresOf};
 ghost use Rattle.history_lookups.specs.Pasts.{IsReadable};
 ghost use Rattle.farm_history.specs.Commands.{IsWellFormedCommand, is_same_command, tanks_given};
 ghost use Rattle.farm_history.specs.History.{tank_after};
@@ -12,31 +14,37 @@ ghost use Rattle.farm_history.specs.declared.limits.TheConstants.{MOST_LIMIT, ST
 
 use crate::field_rule::first_bad_field;
 use crate::gauging_rules::refused_gauging;
-use crate::movement_rules::{broken_by_movement, unknown_party};
+use crate::movement_rules::{judge_movement, unknown_party};
 use farm_history::{Command, Entry, Plan, Rule, STOPS_BEYOND_LIMIT, Verdict};
-use farm_indexes::PastFacts;
+use farm_indexes::{Figured, PastFacts};
 use history_lookups::Past;
 
-/// What the rules say of a further entry, where there may be `limit` entries.
+/// The figures on what an entry names for its tanks, if it is accepted where there may be `limit` entries; or what the rules say of it.
 #[tactic(auto, unfolding(farm_history::specs::Verdicts::verdict, farm_history::specs::Rules::broken_rule, farm_history::specs::Rules::key_reused, farm_history::specs::Rules::history_full))]
-pub(crate) fn verdict_of<F: PastFacts>(limit: usize, facts: &F, entry: &Entry) -> Verdict
+pub(crate) fn judged<F: PastFacts>(
+    limit: usize,
+    facts: &F,
+    entry: &Entry,
+) -> Result<Figured, Verdict>
     requires limit { limit ≤ MOST_LIMIT }
     requires readable { IsReadable (F.history facts.now) }
     requires legal { IsLegal limit (F.history facts.now) }
     requires command { IsWellFormedCommand entry.now.cmd }
-    ensures verdict { result ≡ verdict limit (F.history facts.now) entry.now }
-    ensures repeated { (place : ℕ) → result ≡ Verdict.Repeat place → (1 ≤ place) × (place ≤ length (F.history facts.now).entries) }
+    ensures verdict { verdict_of result ≡ verdict limit (F.history facts.now) entry.now }
+    ensures figures { IfOk result (AreFiguresOf (F.history facts.now) entry.now.cmd) }
+    ensures not_accepted { IfErr result (λ verdict. verdict ≢ Verdict.Accept) }
+    ensures repeated { (place : ℕ) → verdict_of result ≡ Verdict.Repeat place → (1 ≤ place) × (place ≤ length (F.history facts.now).entries) }
 {
     let past = facts.past();
     if let Some(place) = used_place(facts, entry) {
-        return verdict_on_used(limit, &past, place, entry);
+        return Err(verdict_on_used(limit, &past, place, entry));
     }
     if is_full(limit, past.entries.len(), entry.cmd.is_stop()) {
-        return Verdict::Refused(Rule::HistoryFull);
+        return Err(Verdict::Refused(Rule::HistoryFull));
     }
-    match broken_by_command(facts, &entry.cmd) {
-        Some(rule) => Verdict::Refused(rule),
-        None => Verdict::Accept,
+    match judge_command(facts, &entry.cmd) {
+        Ok(figured) => Ok(figured),
+        Err(rule) => Err(Verdict::Refused(rule)),
     }
 }
 
@@ -57,6 +65,7 @@ fn verdict_on_used(limit: usize, past: &Past<'_>, place: u32, entry: &Entry) -> 
     requires within { (1 ≤ place) × (place ≤ length past.now.entries) }
     ensures verdict { result ≡ repeated_or (first_place (is_repeat entry.now) past.now.entries) (Verdict.Refused (Rule.KeyReused place)) }
     ensures here { (repeated : ℕ) → result ≡ Verdict.Repeat repeated → repeated ≡ place }
+    ensures not_accepted { result ≢ Verdict.Accept }
 {
     let other = &past.entries[place as usize - 1];
     if is_same_command(&other.cmd, &entry.cmd) {
@@ -81,38 +90,33 @@ fn is_full(limit: usize, entries: usize, stop: bool) -> bool
     limit + STOPS_BEYOND_LIMIT <= entries || (limit <= entries && !stop)
 }
 
-// The first rule that a command breaks whose key is new and for which there is room.
+// The figures on what a command names for its tanks whose key is new and for which there is room; or the first rule that it breaks.
 #[tactic(auto, unfolding(farm_history::specs::Rules::broken_by_command, farm_history::specs::Rules::out_of_range))]
-fn broken_by_command<F: PastFacts>(facts: &F, command: &Command) -> Option<Rule>
+fn judge_command<F: PastFacts>(facts: &F, command: &Command) -> Result<Figured, Rule>
     requires command { IsWellFormedCommand command.now }
     requires readable { IsReadable (F.history facts.now) }
-    ensures broken { result ≡ broken_by_command (F.history facts.now) command.now }
+    ensures broken { fault_of result ≡ broken_by_command (F.history facts.now) command.now }
+    ensures figures { IfOk result (AreFiguresOf (F.history facts.now) command.now) }
 {
     let past = facts.past();
-    if let Some(rule) = unknown_tank(&past, command) {
-        return Some(rule);
-    }
-    if let Some(rule) = unknown_party(&past, command) {
-        return Some(rule);
-    }
+    unknown_tank(&past, command)?;
+    unknown_party(&past, command)?;
     if let Some(field) = first_bad_field(command) {
-        return Some(Rule::OutOfRange(field));
+        return Err(Rule::OutOfRange(field));
     }
-    if let Some(rule) = refused_gauging(&past, command) {
-        return Some(rule);
-    }
-    broken_by_movement(facts, command)
+    refused_gauging(&past, command)?;
+    judge_movement(facts, command)
 }
 
 // Rule 3: a tank that a command gives isn't of the site.
 #[tactic(auto, unfolding(farm_history::specs::Rules::unknown_tank))]
-fn unknown_tank(past: &Past<'_>, command: &Command) -> Option<Rule>
-    ensures rule { result ≡ unknown_tank past.now command.now }
+fn unknown_tank(past: &Past<'_>, command: &Command) -> Result<(), Rule>
+    ensures rule { fault_of result ≡ unknown_tank past.now command.now }
 {
     if gives_unknown_tank(past, command) {
-        return Some(Rule::UnknownTank);
+        return Err(Rule::UnknownTank);
     }
-    None
+    Ok(())
 }
 
 // Whether a command gives a tank that isn't of the site.

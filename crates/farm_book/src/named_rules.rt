@@ -1,52 +1,50 @@
 //! The rules on what a command names for its tanks, 13 to 15; those on the figures that follow from it stand in `figure_rules`.
 
-ghost use Rattle.std.specs.Prelude.{◌≡◌, not};
+ghost use Rattle.std.specs.Prelude.{◌≡◌, IfOk, None, not};
 ghost use Rattle.std.specs.List.{list_any};
+ghost use Rattle.farm_book.specs.Judging.{fault_of};
+ghost use Rattle.farm_indexes.specs.Figured.{AreFiguresOf};
 ghost use Rattle.history_lookups.specs.Pairs.{listed, listed_one};
 ghost use Rattle.history_lookups.specs.Pasts.{IsReadable};
 ghost use Rattle.farm_history.specs.Figures.{named_by};
 ghost use Rattle.farm_history.specs.Given.{first_given};
-ghost use Rattle.farm_history.specs.MovementRules.{has_reading, has_sample, names_each, names_too_few_or_many, stale_for, stale_reading, unknown_reading, unknown_sample};
-ghost use Rattle.farm_history.specs.Rules.{broken_by_figures, broken_by_names};
+ghost use Rattle.farm_history.specs.MovementRules.{has_reading, has_sample, names_each, names_too_few_or_many, no_movement, stale_for, stale_reading, unknown_reading, unknown_sample};
+ghost use Rattle.farm_history.specs.Rules.{broken_by_names};
 
-use crate::figure_rules::broken_by_figures;
+use crate::figure_rules::judge_figures;
 use farm_history::{Command, Gauged, Named, Plan, Rule};
-use farm_indexes::PastFacts;
+use farm_indexes::{Figured, PastFacts};
 use history_lookups::{Pairs, Past, is_gauging_of, is_sample_of};
 
-/// The first rule that is broken by what a command names for its tanks.
+/// The figures on what a command names for its tanks; or the first of the rules 13 to 19 that it breaks.
 #[tactic(auto, unfolding(farm_history::specs::Rules::broken_by_names))]
-pub(crate) fn broken_by_names<F: PastFacts>(facts: &F, command: &Command) -> Option<Rule>
+pub(crate) fn judge_names<F: PastFacts>(facts: &F, command: &Command) -> Result<Figured, Rule>
     requires readable { IsReadable (F.history facts.now) }
-    ensures broken { result ≡ broken_by_names (F.history facts.now) command.now }
+    requires open { no_movement (F.history facts.now) command.now ≡ None }
+    ensures broken { fault_of result ≡ broken_by_names (F.history facts.now) command.now }
+    ensures figures { IfOk result (AreFiguresOf (F.history facts.now) command.now) }
 {
     let past = facts.past();
     let pairs = past.named_by(command);
-    if let Some(rule) = unknown_reading(&past, command, &pairs) {
-        return Some(rule);
-    }
-    if let Some(rule) = unknown_sample(&past, command, &pairs) {
-        return Some(rule);
-    }
-    if let Some(rule) = stale_reading(facts, command, &pairs) {
-        return Some(rule);
-    }
-    broken_by_figures(&past, command, &pairs)
+    unknown_reading(&past, command, &pairs)?;
+    unknown_sample(&past, command, &pairs)?;
+    stale_reading(facts, command, &pairs)?;
+    judge_figures(facts, command, &pairs)
 }
 
 // Rule 13: a named reading isn't one of that tank, or a Closing names too few or too many.
 #[tactic(auto, unfolding(farm_history::specs::MovementRules::unknown_reading))]
-fn unknown_reading(past: &Past<'_>, command: &Command, pairs: &Pairs) -> Option<Rule>
+fn unknown_reading(past: &Past<'_>, command: &Command, pairs: &Pairs) -> Result<(), Rule>
     requires pairs { listed pairs.now ≡ named_by past.now command.now }
-    ensures rule { result ≡ unknown_reading past.now command.now }
+    ensures rule { fault_of result ≡ unknown_reading past.now command.now }
 {
     if names_too_few_or_many(past, command)
         || lacks_reading(past, &pairs.first)
         || lacks_reading(past, &pairs.second)
     {
-        return Some(Rule::UnknownReading);
+        return Err(Rule::UnknownReading);
     }
-    None
+    Ok(())
 }
 
 // Whether a command is a Closing that names another number of readings than its movement has tanks.
@@ -92,14 +90,14 @@ fn lacks_reading(past: &Past<'_>, pair: &Option<Named>) -> bool
 
 // Rule 14: a named sample isn't one of that tank.
 #[tactic(auto, unfolding(farm_history::specs::MovementRules::unknown_sample))]
-fn unknown_sample(past: &Past<'_>, command: &Command, pairs: &Pairs) -> Option<Rule>
+fn unknown_sample(past: &Past<'_>, command: &Command, pairs: &Pairs) -> Result<(), Rule>
     requires pairs { listed pairs.now ≡ named_by past.now command.now }
-    ensures rule { result ≡ unknown_sample past.now command.now }
+    ensures rule { fault_of result ≡ unknown_sample past.now command.now }
 {
     if lacks_sample(past, &pairs.first) || lacks_sample(past, &pairs.second) {
-        return Some(Rule::UnknownSample);
+        return Err(Rule::UnknownSample);
     }
-    None
+    Ok(())
 }
 
 // Whether a sample is named that isn't one of its tank.
@@ -117,15 +115,18 @@ fn lacks_sample(past: &Past<'_>, pair: &Option<Named>) -> bool
 
 // Rule 15: a named reading is stale, the first tank's first.
 #[tactic(auto, unfolding(farm_history::specs::MovementRules::stale_reading))]
-fn stale_reading<F: PastFacts>(facts: &F, command: &Command, pairs: &Pairs) -> Option<Rule>
+fn stale_reading<F: PastFacts>(facts: &F, command: &Command, pairs: &Pairs) -> Result<(), Rule>
     requires pairs { listed pairs.now ≡ named_by (F.history facts.now) command.now }
-    ensures rule { result ≡ stale_reading (F.history facts.now) command.now }
+    ensures rule { fault_of result ≡ stale_reading (F.history facts.now) command.now }
 {
-    let place = match stale_for(facts, command, &pairs.first) {
-        Some(place) => place,
-        None => stale_for(facts, command, &pairs.second)?,
+    let stale = match stale_for(facts, command, &pairs.first) {
+        Some(place) => Some(place),
+        None => stale_for(facts, command, &pairs.second),
     };
-    Some(Rule::StaleReading(place))
+    match stale {
+        Some(place) => Err(Rule::StaleReading(place)),
+        None => Ok(()),
+    }
 }
 
 // The place for which a named reading is stale.

@@ -1,9 +1,12 @@
 -- The lemmas of `farm_indexes`, by topic.
 pub mod Books
+pub mod FiguresStay
 pub mod FirstPlaces
 pub mod Held
+pub mod Issued
 pub mod Keys
 pub mod LastPlaces
+pub mod MovesMore
 pub mod NotesMore
 pub mod NotesRead
 pub mod Numbers

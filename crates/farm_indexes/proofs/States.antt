@@ -1,18 +1,19 @@
 -- The states of a site's tanks: of none before the first entry, and after an entry more.
 use Rattle.std.proofs.Common.{◌≡◌, ℕ, ◌+◌, ◌<◌, ◌≤◌, ◌==◌, ◌||◌, Bool, true, false, List, [], ◌∷◌, ◌++◌, drop, get_or, length, map, set, take, Option, Some, None, option_and_then, refl, ap, ap₂, sym, ◌∙◌, append-nil, arith}
 use Rattle.std.specs.List.{list_any}
+use Rattle.farm_base.specs.Steps.{or_else}
 use Rattle.std.proofs.lemmas.Bool.{eqb-true, or_parts}
-use Rattle.std.proofs.lemmas.List.{drop_all, get_or_default, take_all}
+use Rattle.std.proofs.lemmas.List.{drop_all, get_or_default, set-get_or, take_all}
 use Rattle.std.proofs.lemmas.List.Edits.{map_over_more}
 use Rattle.farm_history.specs.declared.command.Command.{Command}
-use Rattle.farm_history.specs.declared.command.Command.TheVariants.{Gauge, Dip, Sample, Opening, Closing, Settle}
+use Rattle.farm_history.specs.declared.command.Command.TheVariants.{Gauge, Dip, Sample, Opening, Closing, Cancel, Reverse, Settle, Stop}
 use Rattle.farm_history.specs.declared.entry.Entry.{Entry}
 use Rattle.farm_history.specs.declared.plan.Gauged.{Gauged}
 use Rattle.farm_history.specs.declared.plan.Plan.{Plan}
 use Rattle.farm_history.specs.declared.plan.Plan.TheVariants.{Outside, Transfer}
 use Rattle.farm_history.specs.declared.rule.Rule.TheVariants.{UnknownTank}
-use Rattle.farm_history.specs.Commands.{is_gauging_of, is_sample_of, names_tank, opens_on, settles, tanks_given, tanks_of_plan}
-use Rattle.farm_history.specs.History.{History, empty_history, tank_after, with_entry}
+use Rattle.farm_history.specs.Commands.{ends, is_gauging_of, is_sample_of, names_tank, opens_on, settles, tanks_given, tanks_of_plan}
+use Rattle.farm_history.specs.History.{History, empty_history, last_place, tank_after, with_entry}
 use Rattle.farm_history.specs.MovementRules.{no_movement}
 use Rattle.farm_history.specs.Movements.{holding_movement, last_settlement, open_movement, reading_for, used_by, used_reading}
 use Rattle.farm_history.specs.Rules.{is_missing, unknown_tank}
@@ -22,7 +23,7 @@ use Rattle.farm_site.specs.Described.{Described, tank_numbered}
 use Rattle.farm_site.specs.declared.items.Tank.{Tank}
 use Rattle.farm_indexes.specs.declared.tank_states.TankState.{TankState}
 use Rattle.farm_indexes.specs.Following.{MayFollow}
-use Rattle.farm_indexes.specs.TankStates.{AreStatesOf, no_state, state_after, state_in, state_of}
+use Rattle.farm_indexes.specs.TankStates.{AreStatesOf, concerns, held_after, last_after, no_state, state_after, state_in, state_of, unless_ended}
 use Rattle.farm_indexes.proofs.Held.{held_more}
 use Rattle.farm_indexes.proofs.LastPlaces.{last_such_more}
 use Rattle.farm_indexes.proofs.OpenAt.{holds_if_open, opened_if_open, unheld}
@@ -106,6 +107,13 @@ elsewhere tank (Settle number gauged) none = record {
   settling = (or_parts (number == tank) false none).0;
 }
 elsewhere tank command none = record { opens = refl; gauges = refl; samples = refl; settling = refl }
+
+-- an entry that may follow opens no movement on a tank that the site lacks
+pub opens_elsewhere : (history : History) (entry : Entry) (tank : ℕ) → MayFollow history entry → tank_numbered tank history.site.tanks ≡ None →
+    opens_on tank entry.cmd ≡ false
+opens_elsewhere history entry tank follows none =
+    let known = kept follows.limit history entry follows.next.accepted in
+    (elsewhere tank entry.cmd (gives_others history tank entry.cmd none known.tank)).opens
 
 -- a Closing names no reading for a tank that its plan doesn't name
 no_reading : (tank : ℕ) (first : Gauged) (second : Option Gauged) (plan : Plan) → names_tank tank plan ≡ false →
@@ -207,3 +215,52 @@ taken_all history entry states now index beyond so_far =
     so_far
     ∙ ap₂ (λ front back. map (state_after history entry) front ++ back) (take_all index states beyond) (drop_all index states beyond)
     ∙ append-nil (map (state_after history entry) states)
+
+-- the state of a tank after an entry with this command
+abbrev after_command : History → TankState → Command → TankState
+after_command history state command = record {
+  tank = state.tank;
+  held_by = held_after (last_place history + 1) state.tank command state.held_by;
+  reading = last_after (is_gauging_of state.tank command) (last_place history + 1) state.reading;
+  sample = last_after (is_sample_of state.tank command) (last_place history + 1) state.sample;
+  used = or_else (used_by history state.tank command) state.used;
+  settled = last_after (settles state.tank command) (last_place history + 1) state.settled;
+}
+
+-- a command that ends no movement leaves what holds a tank
+held_still : (held : Option ℕ) (command : Command) → ((movement : ℕ) → ends movement command ≡ false) → unless_ended command held ≡ held
+held_still None command none = refl
+held_still (Some movement) command none = rw (none movement) refl
+
+-- a state that a command doesn't concern stays
+stays_after : (history : History) (state : TankState) (command : Command) → concerns state.tank command ≡ false →
+    after_command history state command ≡ state
+stays_after history state (Gauge number level water temperature ambient) other =
+    rw (other, held_still state.held_by (Gauge number level water temperature ambient) (λ movement. refl)) refl
+stays_after history state (Dip number outage tapes water temperatures ambient) other =
+    rw (other, held_still state.held_by (Dip number outage tapes water temperatures ambient) (λ movement. refl)) refl
+stays_after history state (Sample number density sw) other =
+    rw (other, held_still state.held_by (Sample number density sw) (λ movement. refl)) refl
+stays_after history state (Opening plan) other = rw (other, held_still state.held_by (Opening plan) (λ movement. refl)) refl
+stays_after history state (Closing movement first second) other = cc
+stays_after history state (Cancel movement) other = cc
+stays_after history state (Reverse ticket) other = rw (held_still state.held_by (Reverse ticket) (λ movement. refl)) refl
+stays_after history state (Settle number gauged) other =
+    rw (other, held_still state.held_by (Settle number gauged) (λ movement. refl)) refl
+stays_after history state Stop other = rw (held_still state.held_by Stop (λ movement. refl)) refl
+
+-- so it is after an entry
+pub unconcerned : (history : History) (entry : Entry) (state : TankState) → concerns state.tank entry.cmd ≡ false →
+    state_after history entry state ≡ state
+unfolding state_after
+unconcerned history entry state other = stays_after history state entry.cmd other
+
+-- a state that stays is the one that would have been written
+pub kept_more : (history : History) (entry : Entry) (states now : List TankState) (index : ℕ) (default : TankState) →
+    index < length states → length now ≡ length states →
+    now ≡ map (state_after history entry) (take index states) ++ drop index states →
+    state_after history entry (get_or now index default) ≡ get_or now index default →
+    now ≡ map (state_after history entry) (take (index + 1) states) ++ drop (index + 1) states
+kept_more history entry states now index default within long so_far stays =
+    taken_more history entry states now now index default within long so_far
+    (sym (set-get_or now index default) ∙ ap (set now index) (sym stays))

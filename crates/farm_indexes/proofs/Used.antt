@@ -33,7 +33,7 @@ named_open history command movement none named = by (open_movement history movem
     by (Some plan) found none = record { plan = plan; is_open = found }
 
 -- an open movement is at a place of the history
-open_within : (history : History) (place : ℕ) → IsOpenAt history place → place ≤ last_place history
+pub open_within : (history : History) (place : ℕ) → IsOpenAt history place → place ≤ last_place history
 open_within history place at =
     let known = (open_movements_mean history place at.plan).0 at.is_open in
     let counted = known.counted in

@@ -2,5 +2,8 @@
 pub mod Keys
 pub mod TankStates
 pub mod Notes
+pub mod OpenMoves
+pub mod Issuing
 pub mod Following
 pub mod Indexing
+pub mod Figured

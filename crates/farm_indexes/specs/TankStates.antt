@@ -1,9 +1,10 @@
 -- What is kept of each tank of a site.
-use Rattle.std.specs.Prelude.{◌≡◌, ℕ, ◌+◌, ◌==◌, Bool, if◌then◌else◌, List, [], ◌∷◌, map, Option, Some, None}
+use Rattle.std.specs.Prelude.{◌≡◌, ℕ, ◌+◌, ◌==◌, Bool, true, false, if◌then◌else◌, List, [], ◌∷◌, map, Option, Some, None}
 use Rattle.farm_base.specs.Steps.{or_else}
 use Rattle.farm_history.specs.declared.command.Command.{Command}
+use Rattle.farm_history.specs.declared.command.Command.TheVariants.{Gauge, Dip, Sample, Opening, Closing, Cancel, Reverse, Settle, Stop}
 use Rattle.farm_history.specs.declared.entry.Entry.{Entry}
-use Rattle.farm_history.specs.Commands.{ends, is_gauging_of, is_sample_of, opens_on, settles}
+use Rattle.farm_history.specs.Commands.{ends, is_gauging_of, is_sample_of, names_tank, opens_on, settles}
 use Rattle.farm_history.specs.History.{History, last_place}
 use Rattle.farm_history.specs.Movements.{holding_movement, last_settlement, used_by, used_reading}
 use Rattle.farm_history.specs.Stocks.{last_reading, last_sample}
@@ -59,3 +60,15 @@ state_after history entry state = record {
   used = or_else (used_by history state.tank entry.cmd) state.used;
   settled = last_after (settles state.tank entry.cmd) (last_place history + 1) state.settled;
 }
+
+-- a command may change the state of a tank: it names the tank, or a movement
+abbrev pub concerns : ℕ → Command → Bool
+concerns tank (Gauge number level water temperature ambient) = number == tank
+concerns tank (Dip number outage tapes water temperatures ambient) = number == tank
+concerns tank (Sample number density sw) = number == tank
+concerns tank (Opening plan) = names_tank tank plan
+concerns tank (Closing movement first second) = true
+concerns tank (Cancel movement) = true
+concerns tank (Reverse ticket) = false
+concerns tank (Settle number gauged) = number == tank
+concerns tank Stop = false

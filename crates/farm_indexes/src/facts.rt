@@ -8,10 +8,13 @@ ghost use Rattle.farm_history.specs.Places.{first_place};
 ghost use Rattle.farm_history.specs.Stocks.{book_of, gain_at, last_reading, last_sample, total_of};
 ghost use Rattle.farm_history.specs.Tickets.{closing_ticket, ticket_at};
 ghost use Rattle.farm_indexes.specs.Keys.{has_key};
+ghost use Rattle.farm_indexes.specs.OpenMoves.{movement_at};
+ghost use Rattle.history_lookups.specs.Bounds.{IsOpenedInRange};
 ghost use Rattle.history_lookups.specs.Pasts.{IsReadable};
 
 use farm_fixed::Amount;
 use farm_history::Plan;
+use farm_movement::OpenMove;
 use farm_ticket::Ticket;
 use history_lookups::Past;
 
@@ -39,6 +42,12 @@ pub trait PastFacts {
     /// The plan of the movement that is open at a place. `None` if and only if no movement is open there.
     fn open_movement(&self, place: u32) -> Option<Plan>
         ensures open { result ≡ open_movement (Self.history self.now) place };
+
+    /// The movement that is open at a place, with the figures that it was opened on. `None` if no movement is open there.
+    fn movement_at(&self, place: u32) -> Option<OpenMove>
+        requires readable { IsReadable (Self.history self.now) }
+        ensures movement { result ≡ movement_at (Self.history self.now) place }
+        ensures range { IfSome result IsOpenedInRange };
 
     /// The place of the reading that the last Closing or Settle of a tank used for it. `None` if and only if there is no such entry.
     fn used_reading(&self, tank: u16) -> Option<u32>

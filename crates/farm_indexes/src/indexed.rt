@@ -9,6 +9,7 @@ use crate::PastFacts;
 use crate::indexes::Indexes;
 use farm_fixed::Amount;
 use farm_history::{Command, Plan};
+use farm_movement::OpenMove;
 use farm_ticket::Ticket;
 use history_lookups::Past;
 use std::marker::Model;
@@ -69,6 +70,11 @@ impl PastFacts for Indexed<'_> {
             return Some(plan);
         }
         None
+    }
+
+    fn movement_at(&self, place: u32) -> Option<OpenMove> {
+        let plan = self.open_movement(place)?;
+        self.indexes.moves.of_tank(first_tank(&plan))
     }
 
     fn used_reading(&self, tank: u16) -> Option<u32> {

@@ -1,17 +1,26 @@
 //! The indexes of a history.
 
-ghost use Rattle.std.specs.Prelude.{◌≡◌, ◌+◌, ◌≤◌, IfOk, OnErr, OnOk};
-ghost use Rattle.farm_history.specs.History.{History, empty_history, with_entry};
+ghost use Rattle.std.specs.Prelude.{◌≡◌, ◌+◌, ◌≤◌, IfOk, IfSome, IsTrue, OnErr, OnOk};
+ghost use Rattle.farm_history.specs.Desk.{reply_at};
+ghost use Rattle.farm_history.specs.History.{History, empty_history, last_place, with_entry};
+ghost use Rattle.farm_history.specs.MovementRules.{is_closing};
+ghost use Rattle.farm_history.specs.Tickets.{issued_by};
+ghost use Rattle.farm_indexes.specs.Figured.{AreFiguresOf};
 ghost use Rattle.farm_indexes.specs.Following.{MayFollow};
 ghost use Rattle.farm_indexes.specs.Indexing.{AreIndexesOf, room};
 ghost use Rattle.farm_site.specs.Sites.{described};
+ghost use Rattle.history_lookups.specs.Bounds.{IsSmallTicket};
 ghost use Rattle.history_lookups.specs.Pasts.{IsReadable};
 
+use crate::issuing::{issued_on, posted_on, reply_of};
 use crate::notes::Notes;
+use crate::open_moves::OpenMoves;
 use crate::tank_states::TankStates;
+use crate::{Figured, Indexed, PastFacts};
 use farm_base::NoMemory;
-use farm_history::Entry;
+use farm_history::{Entry, Reply};
 use farm_site::Site;
+use farm_ticket::Ticket;
 use history_lookups::{Ledger, Past};
 use key_index::KeyIndex;
 use std::alloc::Global;
@@ -27,6 +36,8 @@ pub struct Indexes {
     pub(crate) notes: Notes,
     // What entries say of each tank.
     pub(crate) states: TankStates,
+    // The movement that was opened last on each tank.
+    pub(crate) moves: OpenMoves,
     // The book of each tank.
     pub(crate) ledger: Ledger,
 }
@@ -37,10 +48,12 @@ impl Indexes {
         ensures indexes { IfOk result (AreIndexesOf (empty_history (described site.now))) }
     {
         let states = TankStates::new(alloc, site)?;
+        let moves = OpenMoves::new(alloc, site)?;
         Ok(Indexes {
             keys: KeyIndex::new(alloc),
             notes: Notes::new(alloc),
             states,
+            moves,
             ledger: Ledger::opened(site.tanks.get()),
         })
     }
@@ -58,21 +71,40 @@ impl Indexes {
         Ok(())
     }
 
-    /// Takes an entry in that comes next after a past. It can't fail, and takes no memory.
+    /// Takes an entry in that comes next after a past, on the figures that it names, and answers the reply for it. It can't fail, and takes
+    /// no memory.
     #[tactic(auto, unfolding(crate::specs::Indexing::room))]
-    pub fn enter(&mut self, past: &Past<'_>, entry: &Entry)
+    pub fn enter(&mut self, past: &Past<'_>, entry: &Entry, figured: &Figured) -> Reply
         requires follows { MayFollow past.now entry.now }
         requires readable { IsReadable past.now }
+        requires figures { AreFiguresOf past.now entry.now.cmd figured.now }
         requires indexes { AreIndexesOf past.now self.old }
         requires room { 1 ≤ room self.old }
         ensures indexes { AreIndexesOf (with_entry past.now entry.now) self.new }
+        ensures reply { result ≡ reply_at (with_entry past.now entry.now) (last_place past.now + 1) }
         ensures room { room self.old ≤ room self.new + 1 }
     {
         let place = past.entries.len() as u32 + 1;
-        let posted = past.posted_by(&self.ledger, &entry.cmd);
+        let ticket = self.issued(past, entry, figured);
+        let posted = posted_on(past, &self.ledger, entry, &ticket);
         self.keys.enter(entry.account, entry.key, place);
         self.notes.enter(past, entry, &posted);
         self.states.enter(past, entry);
+        self.moves.enter(past, entry, figured);
         self.ledger.post(&posted);
+        reply_of(place, ticket, self.notes.gain_at(place))
+    }
+
+    // The ticket that an entry issues which comes next after a past.
+    fn issued(&self, past: &Past<'_>, entry: &Entry, figured: &Figured) -> Option<Ticket>
+        requires follows { MayFollow past.now entry.now }
+        requires readable { IsReadable past.now }
+        requires figures { AreFiguresOf past.now entry.now.cmd figured.now }
+        requires indexes { AreIndexesOf past.now self.now }
+        ensures ticket { result ≡ issued_by past.now (last_place past.now + 1) entry.now.cmd }
+        ensures small { IsTrue (is_closing entry.now.cmd) → IfSome result IsSmallTicket }
+    {
+        let facts = Indexed::new(past.past(), self);
+        issued_on(&facts, self.notes.next_number(), entry, figured)
     }
 }

@@ -6,14 +6,19 @@
 #![tactic(auto)]
 
 mod facts;
+mod figured;
 mod indexed;
 mod indexes;
+mod issuing;
 mod notes;
+mod open_moves;
 mod past_facts;
 mod tank_states;
 
 pub use facts::PastFacts;
+pub use figured::Figured;
 pub use indexed::Indexed;
 pub use indexes::Indexes;
 pub use notes::{Note, Notes};
+pub use open_moves::{OpenMoves, TankMove};
 pub use tank_states::{TankState, TankStates};

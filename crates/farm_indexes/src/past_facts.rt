@@ -5,6 +5,7 @@ ghost use Rattle.std.specs.Prelude.{◌≡◌};
 use crate::PastFacts;
 use farm_fixed::Amount;
 use farm_history::Plan;
+use farm_movement::OpenMove;
 use farm_ticket::Ticket;
 use history_lookups::Past;
 
@@ -33,6 +34,11 @@ impl PastFacts for Past<'_> {
 
     fn open_movement(&self, place: u32) -> Option<Plan> {
         self.open_movement(place)
+    }
+
+    fn movement_at(&self, place: u32) -> Option<OpenMove> {
+        let plan = self.open_movement(place)?;
+        self.movement_of(place, &plan)
     }
 
     fn used_reading(&self, tank: u16) -> Option<u32> {

@@ -3,7 +3,7 @@
 ghost use Rattle.std.specs.Prelude.{◌≡◌, IfOk, map};
 ghost use Rattle.farm_history.specs.History.{History, empty_history, with_entry};
 ghost use Rattle.farm_indexes.specs.Following.{MayFollow};
-ghost use Rattle.farm_indexes.specs.TankStates.{AreStatesOf, held_after, last_after, no_state, state_after, state_in, state_of, unless_ended};
+ghost use Rattle.farm_indexes.specs.TankStates.{AreStatesOf, concerns, held_after, last_after, no_state, state_after, state_in, state_of, unless_ended};
 ghost use Rattle.farm_site.specs.Sites.{described};
 ghost use Rattle.farm_site.specs.declared.items.Tank.{Tank};
 ghost use Rattle.history_lookups.specs.Pasts.{IsReadable};
@@ -71,8 +71,25 @@ impl TankStates {
         ensures states { AreStatesOf (with_entry past.now entry.now) self.new }
     {
         for state in self.states.iter_mut() {
-            *state = state_after(past, entry, *state);
+            if concerns(state.tank, &entry.cmd) {
+                *state = state_after(past, entry, *state);
+            }
         }
+    }
+}
+
+// Whether a command may change the state of a tank: it names the tank, or a movement.
+fn concerns(tank: u16, command: &Command) -> bool
+    ensures concerns { result ≡ concerns tank command.now }
+{
+    match command {
+        Command::Gauge { tank: number, .. }
+        | Command::Dip { tank: number, .. }
+        | Command::Sample { tank: number, .. }
+        | Command::Settle { tank: number, .. } => *number == tank,
+        Command::Opening(_) => opens_on(tank, command),
+        Command::Closing { .. } | Command::Cancel { .. } => true,
+        Command::Reverse { .. } | Command::Stop => false,
     }
 }
 

@@ -1,6 +1,6 @@
 //! The figures of a tank on a reading and a sample that entries record.
 
-ghost use Rattle.std.specs.Prelude.{◌≡◌, [], ◌∷◌, ◌++◌, IfOk, IfSome};
+ghost use Rattle.std.specs.Prelude.{◌≡◌, [], ◌∷◌, ◌++◌, IfOk, IfSome, None};
 ghost use Rattle.farm_chain.specs.Volumes.{AreInRange};
 ghost use Rattle.history_lookups.specs.Pasts.{IsInRange, IsReadable};
 ghost use Rattle.history_lookups.specs.Pairs.{listed};
@@ -93,6 +93,7 @@ impl Past<'_> {
     #[tactic(auto, unfolding(farm_history::specs::Figures::named_by))]
     pub fn named_by(&self, command: &Command) -> Pairs
         ensures named { listed result ≡ named_by self.now command.now }
+        ensures in_order { result.first ≡ None → result.second ≡ None }
     {
         match command {
             Command::Opening(plan) => named_at_opening(plan),
@@ -122,6 +123,7 @@ impl Past<'_> {
 // What a plan names for its tanks.
 fn named_at_opening(plan: &Plan) -> Pairs
     ensures named { listed result ≡ named_at_opening plan.now }
+    ensures in_order { result.first ≡ None → result.second ≡ None }
 {
     match plan {
         Plan::Outside { tank, gauged, .. } => Pairs {
@@ -143,6 +145,7 @@ fn named_at_opening(plan: &Plan) -> Pairs
 // What a Closing names for the tanks of a plan.
 fn named_at_closing(first: &Gauged, second: &Option<Gauged>, plan: &Plan) -> Pairs
     ensures named { listed result ≡ named_at_closing first.now second.now plan.now }
+    ensures in_order { result.first ≡ None → result.second ≡ None }
 {
     match (plan, second) {
         (Plan::Outside { tank, .. }, _) => Pairs {

@@ -21,5 +21,5 @@ pub use last_places::{is_gauging_of, is_sample_of, settles};
 pub use ledger::Ledger;
 pub use movements::{ends, opens_on};
 pub use past::Past;
-pub use postings::Posted;
-pub use tickets::{ToClose, goes_wrong, issues_ticket};
+pub use postings::{Posted, postings_of_ticket};
+pub use tickets::{ToClose, closed, goes_wrong, issues_ticket};

@@ -124,8 +124,8 @@ impl Past<'_> {
     }
 }
 
-// The postings of a ticket.
-fn postings_of_ticket(ticket: &Ticket) -> Posted
+/// The postings of a ticket.
+pub fn postings_of_ticket(ticket: &Ticket) -> Posted
     requires small { IsSmallTicket ticket.now }
     ensures posted { listed_postings result ≡ postings_of_ticket ticket.now }
 {

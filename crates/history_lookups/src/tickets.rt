@@ -56,9 +56,10 @@ impl Past<'_> {
         closed(place, number, movement, first, second)
     }
 
-    // The ticket that reverses that of a Closing, issued at a place with this number. It doesn't tell the number of the other.
+    /// The ticket that reverses that of a Closing, issued at a place with this number. It doesn't tell the number of the other, and no
+    /// entries are counted for it.
     #[tactic(auto, unfolding(farm_history::specs::Tickets::closing_ticket))]
-    fn reversal_numbered(&self, place: u32, number: u32, reversed: u32) -> Option<Ticket>
+    pub fn reversal_numbered(&self, place: u32, number: u32, reversed: u32) -> Option<Ticket>
         requires readable { IsReadable self.now }
         ensures ticket { result ≡ option_map (reversal place number) (closing_ticket self.now reversed) }
     {
@@ -153,9 +154,9 @@ impl Past<'_> {
         Some((opened, first, second))
     }
 
-    // The movement that a plan opens at a place.
+    /// The movement that a plan opens at a place. `None` if a figure of its tanks isn't calculated.
     #[tactic(auto, unfolding(farm_history::specs::Tickets::movement_of))]
-    fn movement_of(&self, place: u32, plan: &Plan) -> Option<OpenMove>
+    pub fn movement_of(&self, place: u32, plan: &Plan) -> Option<OpenMove>
         requires readable { IsReadable self.now }
         ensures movement { result ≡ movement_of self.now place plan.now }
         ensures range { IfSome result IsOpenedInRange }
@@ -228,8 +229,8 @@ impl Past<'_> {
     }
 }
 
-// The ticket of a movement that is closed at a place, with this number. `None` exactly where a side goes the wrong way.
-pub(crate) fn closed(
+/// The ticket of a movement that is closed at a place, with this number. `None` exactly where a side goes the wrong way.
+pub fn closed(
     place: u32,
     number: u32,
     movement: OpenMove,

@@ -6,7 +6,7 @@ use crate::drill::{BEFORE, Drill, first_at};
 use crate::indexed_book::IndexedBook;
 use farm_book::Book;
 use farm_history::Verdict;
-use farm_indexes::{Indexes, Note, Notes, TankState, TankStates};
+use farm_indexes::{Figured, Indexes, Note, Notes, OpenMoves, TankMove, TankState, TankStates};
 use std::test::Fail;
 use test_checks::Checks;
 
@@ -94,5 +94,8 @@ fn books_and_their_indexes_may_go_to_another_thread(_rt: HostRuntime) -> Result<
     crosses::<Note>();
     crosses::<TankStates>();
     crosses::<TankState>();
+    crosses::<OpenMoves>();
+    crosses::<TankMove>();
+    crosses::<Figured>();
     Ok(())
 }

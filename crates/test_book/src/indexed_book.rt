@@ -11,7 +11,7 @@ use crate::same_facts::differing;
 use farm_base::NoMemory;
 use farm_book::Book;
 use farm_history::{Entry, Verdict};
-use farm_indexes::{Indexed, Indexes};
+use farm_indexes::{Figured, Indexed, Indexes};
 use farm_site::Site;
 use sample_site::sample_site;
 use std::alloc::Global;
@@ -97,7 +97,9 @@ impl<const LIMIT: usize> IndexedBook<LIMIT> {
             drop(entry);
             return Err(fault);
         }
-        self.indexes.enter(&self.book.past(), &entry);
+        let past = self.book.past();
+        let figured = Figured::of(&past, &entry.cmd);
+        self.indexes.enter(&past, &entry, &figured);
         self.book.commit(entry);
         Ok(())
     }

@@ -27,6 +27,7 @@ fn is_same_of_place<F: PastFacts, G: PastFacts>(facts: &F, others: &G, place: u3
     requires others { IsReadable (G.history others.now) }
 {
     facts.open_movement(place) == others.open_movement(place)
+        && facts.movement_at(place) == others.movement_at(place)
         && facts.reversal_of(place) == others.reversal_of(place)
         && facts.ticket_at(place) == others.ticket_at(place)
         && facts.closing_ticket(place) == others.closing_ticket(place)
