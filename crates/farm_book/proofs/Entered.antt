@@ -42,9 +42,3 @@ entered_settles history entry settles = record { entry = entry; there = last_the
 pub entered_settles_none : (history : History) (entry : Entry) → IsFalse (is_settle entry.cmd) →
     ¬ (SettlesAt (with_entry history entry) (last_place (with_entry history entry)))
 entered_settles_none history entry none = λ at. isnt_last is_settle history entry at.entry none at.there at.settles
-
--- what holds at the last place of a history with one entry more holds of that history and that place under other names
-pub where_entered : (P : History → ℕ → Type 0) (history after : History) (entry : Entry) (place : ℕ) → with_entry history entry ≡ after →
-    place ≡ last_place after → P (with_entry history entry) (last_place (with_entry history entry)) → P after place
-where_entered P history after entry place entered last holds =
-    subst (P after) (sym last) (subst (λ history. P history (last_place history)) entered holds)

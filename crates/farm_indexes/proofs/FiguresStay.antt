@@ -1,5 +1,5 @@
 -- A movement's figures at its opening stay what they are when entries follow.
-use Rattle.std.proofs.Common.{◌≡◌, ℕ, ◌≤◌, Contains, List, [], ◌∷◌, ◌++◌, length, Option, Some, None, option_and_then, option_map, Result, refl, ap, ap₂, sym, ◌∙◌, subst, length-append, arith}
+use Rattle.std.proofs.Common.{◌≡◌, ℕ, ◌≤◌, Contains, List, [], ◌∷◌, length, Option, Some, None, option_and_then, option_map, refl, ap, ap₂, sym, ◌∙◌, subst, length-append, arith}
 use Rattle.farm_chain.specs.Reading.{calculated_quantities}
 use Rattle.farm_fixed.specs.declared.records.Quantities.{Quantities}
 use Rattle.farm_fixed.specs.declared.records.Reading.{Reading}

@@ -1,5 +1,5 @@
 -- What an entry issues that comes next, on the figures that it names, and the reply for it.
-use Rattle.std.proofs.Common.{◌≡◌, ℕ, suc, ◌+◌, Bool, true, false, if◌then◌else◌, List, [], ◌∷◌, Option, Some, None, option_and_then, option_map, refl, ap, ap₂, sym, ◌∙◌, subst, add-one}
+use Rattle.std.proofs.Common.{◌≡◌, ℕ, suc, ◌+◌, Bool, true, false, if◌then◌else◌, List, Option, Some, None, option_and_then, option_map, refl, ap, ap₂, sym, ◌∙◌, subst, add-one}
 use Rattle.std.specs.Prelude.{IfSome}
 use Rattle.farm_chain.specs.Volumes.{AreInRange}
 use Rattle.farm_fixed.specs.declared.records.Amount.{Amount}
@@ -13,7 +13,6 @@ use Rattle.farm_history.specs.declared.command.Command.{Command}
 use Rattle.farm_history.specs.declared.command.Command.TheVariants.{Closing}
 use Rattle.farm_history.specs.declared.entry.Entry.{Entry}
 use Rattle.farm_history.specs.declared.plan.Gauged.{Gauged}
-use Rattle.farm_history.specs.declared.plan.Named.{Named}
 use Rattle.farm_history.specs.declared.plan.Plan.{Plan}
 use Rattle.farm_history.specs.declared.plan.Plan.TheVariants.{Outside, Transfer}
 use Rattle.farm_history.specs.declared.reply.Reply.{Reply}
@@ -24,7 +23,7 @@ use Rattle.farm_history.specs.MovementRules.{no_movement}
 use Rattle.farm_history.specs.Movements.{opened_at}
 use Rattle.farm_history.specs.Postings.{posted_by, postings_issued, postings_of_ticket}
 use Rattle.farm_history.specs.Stocks.{gain_at}
-use Rattle.farm_history.specs.Tickets.{ToClose, closed, figures_at_closing, issued_by, issued_by_closing, leg_at, movement_of, next_number, plan_to_close, ticket_at, to_close}
+use Rattle.farm_history.specs.Tickets.{closed, figures_at_closing, issued_by, issued_by_closing, leg_at, movement_of, next_number, plan_to_close, ticket_at, to_close}
 use Rattle.farm_history.proofs.Accepted.{kept}
 use Rattle.farm_history.proofs.PostingsStay.{at_grown, before_grown}
 use Rattle.farm_indexes.specs.Figured.{AreFiguresOf, first_figures, second_figures}

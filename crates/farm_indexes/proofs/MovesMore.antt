@@ -32,14 +32,14 @@ use Rattle.farm_history.proofs.OpenMovements.{open_movements_mean, opened_of}
 use Rattle.farm_indexes.specs.Figured.{AreFiguresOf, first_figures, second_figures}
 use Rattle.farm_indexes.specs.Following.{MayFollow}
 use Rattle.farm_indexes.specs.OpenMoves.{AreMovesOf, kept_after, kept_for, move_in, movement_at, no_move, opened_on}
-use Rattle.farm_indexes.specs.TankStates.{held_after, unless_ended}
+use Rattle.farm_indexes.specs.TankStates.{unless_ended}
 use Rattle.farm_indexes.specs.declared.figured.Figured.{Figured}
 use Rattle.farm_indexes.specs.declared.open_moves.TankMove.{TankMove}
 use Rattle.farm_indexes.proofs.FiguresStay.{movement_stays, new_movement}
 use Rattle.farm_indexes.proofs.Held.{held_more}
 use Rattle.farm_indexes.proofs.OpenAt.{open_if_and_only_if_held}
 use Rattle.farm_indexes.proofs.States.{opens_elsewhere}
-use Rattle.farm_indexes.proofs.Used.{IsOpenAt, opened_stays, open_within}
+use Rattle.farm_indexes.proofs.Used.{opened_stays, open_within}
 use Rattle.history_lookups.specs.Bounds.{IsOpenedInRange}
 
 -- it is still kept for the same tanks

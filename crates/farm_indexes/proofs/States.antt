@@ -3,7 +3,7 @@ use Rattle.std.proofs.Common.{◌≡◌, ℕ, ◌+◌, ◌<◌, ◌≤◌, ◌==
 use Rattle.std.specs.List.{list_any}
 use Rattle.farm_base.specs.Steps.{or_else}
 use Rattle.std.proofs.lemmas.Bool.{eqb-true, or_parts}
-use Rattle.std.proofs.lemmas.List.{drop_all, get_or_default, set-get_or, take_all}
+use Rattle.std.proofs.lemmas.List.{drop_all, get_or_default, take_all}
 use Rattle.std.proofs.lemmas.List.Edits.{map_over_more}
 use Rattle.farm_history.specs.declared.command.Command.{Command}
 use Rattle.farm_history.specs.declared.command.Command.TheVariants.{Gauge, Dip, Sample, Opening, Closing, Cancel, Reverse, Settle, Stop}
@@ -254,13 +254,3 @@ pub unconcerned : (history : History) (entry : Entry) (state : TankState) → co
     state_after history entry state ≡ state
 unfolding state_after
 unconcerned history entry state other = stays_after history state entry.cmd other
-
--- a state that stays is the one that would have been written
-pub kept_more : (history : History) (entry : Entry) (states now : List TankState) (index : ℕ) (default : TankState) →
-    index < length states → length now ≡ length states →
-    now ≡ map (state_after history entry) (take index states) ++ drop index states →
-    state_after history entry (get_or now index default) ≡ get_or now index default →
-    now ≡ map (state_after history entry) (take (index + 1) states) ++ drop (index + 1) states
-kept_more history entry states now index default within long so_far stays =
-    taken_more history entry states now now index default within long so_far
-    (sym (set-get_or now index default) ∙ ap (set now index) (sym stays))

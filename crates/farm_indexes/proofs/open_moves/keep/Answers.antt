@@ -1,5 +1,5 @@
 -- Answers to the open goals of `keep`.
-use Rattle.std.proofs.Common.{◌≡◌, ◌∙◌, ap, get_or, set, sym}
+use Rattle.std.proofs.Common.{◌∙◌, ap, get_or, set, sym}
 use Rattle.farm_indexes.proofs.MovesMore.{kept_elsewhere, kept_here, taken_all, taken_more}
 use Rattle.farm_indexes.proofs.open_moves.keep.Goals as goal
 use Rattle.farm_indexes.proofs.open_moves.keep.Goals.{then-opens_on, else-opens_on}

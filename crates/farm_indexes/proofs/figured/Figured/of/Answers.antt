@@ -1,5 +1,5 @@
 -- Answers to the open goals of `of`.
-use Rattle.std.proofs.Common.{◌≡◌, ◌++◌, ◌∙◌, Option, Some, None, refl, ap, sym}
+use Rattle.std.proofs.Common.{◌≡◌, ◌++◌, ◌∙◌, Option, Some, None, refl, ap}
 use Rattle.farm_history.specs.declared.plan.Named.{Named}
 use Rattle.farm_history.specs.History.{History}
 use Rattle.farm_indexes.specs.Figured.{first_figures, second_figures}
