@@ -1,5 +1,5 @@
 -- What is answered for an entry that was entered at the end.
-use Rattle.std.proofs.Common.{◌≡◌, ◌∙◌, ℕ, [], ◌∷◌, true, Bool, Some, refl, ap, sym, subst, length-append}
+use Rattle.std.proofs.Common.{◌≡◌, ◌∙◌, [], ◌∷◌, true, Bool, Some, refl, ap, sym, length-append}
 use Rattle.std.specs.Prelude.{IsFalse, IsTrue}
 use Rattle.farm_history.specs.declared.command.Command.{Command}
 use Rattle.farm_history.specs.declared.entry.Entry.{Entry}

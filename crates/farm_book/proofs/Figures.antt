@@ -1,5 +1,5 @@
 -- The figures that are calculated once are those that a command names, and those that a Closing closes its movement on.
-use Rattle.std.proofs.Common.{◌≡◌, ◌∙◌, ℕ, ◌||◌, Bool, true, false, Option, Some, None, option_and_then, option_map, Result, refl, ap, sym, subst}
+use Rattle.std.proofs.Common.{◌≡◌, ◌∙◌, ℕ, Bool, true, false, Option, Some, None, option_and_then, option_map, Result, refl, ap, sym, subst}
 use Rattle.std.specs.Prelude.{if◌then◌else◌, drop, ◌++◌, IfSome}
 use Rattle.std.specs.List.{list_any}
 use Rattle.farm_chain.specs.Volumes.{AreInRange}
@@ -14,7 +14,7 @@ use Rattle.farm_history.specs.declared.plan.Gauged.{Gauged}
 use Rattle.farm_history.specs.declared.plan.Named.{Named}
 use Rattle.farm_history.specs.declared.plan.Plan.{Plan}
 use Rattle.farm_history.specs.declared.plan.Plan.TheVariants.{Outside, Transfer}
-use Rattle.farm_history.specs.Figures.{calculated_at, figures_at, figures_of, named, named_at_closing, named_by, named_for}
+use Rattle.farm_history.specs.Figures.{calculated_at, figures_at, figures_of, named, named_at_closing, named_by}
 use Rattle.farm_history.specs.History.{History}
 use Rattle.farm_history.specs.MovementRules.{broken_where, closes_wrong, is_wrong_way, no_movement, unless_open, wrong_way}
 use Rattle.farm_history.specs.declared.rule.Rule.TheVariants.{WrongWay}

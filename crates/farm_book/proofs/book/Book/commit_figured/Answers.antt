@@ -1,11 +1,8 @@
 -- Answers to the open goals of `commit_figured`.
-use Rattle.std.proofs.Common.{rules, ◌≡◌, ◌∙◌, ◌+◌, ℕ, [], ◌∷◌, length, arith, ap, sym, subst, length-append}
-use Rattle.farm_history.specs.Desk.{reply_at}
-use Rattle.farm_history.specs.History.{History, last_place, with_entry}
-use Rattle.farm_history.specs.Sites.{AreRising}
+use Rattle.std.proofs.Common.{◌≡◌, ◌∙◌, arith, ap, sym, subst}
+use Rattle.farm_history.specs.History.{History, with_entry}
 use Rattle.farm_history.specs.Verdicts.{IsNext}
 use Rattle.farm_book.specs.Kept.{Kept}
-use Rattle.farm_indexes.specs.Figured.{AreFiguresOf}
 use Rattle.farm_indexes.specs.Indexing.{AreIndexesOf}
 use Rattle.history_lookups.specs.Pasts.{IsReadable, history_of}
 use Rattle.farm_book.proofs.Entries.{sound_more, sound_readable}
