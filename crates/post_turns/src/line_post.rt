@@ -1,4 +1,4 @@
-//! Gauge lines side by side.
+//! A gauge line among others.
 
 ghost use Rattle.std.specs.Prelude.{◌≡◌, ℕ, ◌+◌, ◌<◌, ◌≤◌};
 ghost use Rattle.farm_history.specs.History.{last_place};
