@@ -15,6 +15,7 @@ ghost use Rattle.farm_history.specs.Postings.{postings_at};
 ghost use Rattle.farm_history.specs.Rules.{has_same_key};
 ghost use Rattle.farm_history.specs.Sites.{AreRising};
 ghost use Rattle.farm_history.specs.Stocks.{book_of, total_of};
+ghost use Rattle.farm_history.specs.Tickets.{ticket_at};
 ghost use Rattle.farm_history.specs.Verdicts.{IsLegal, IsNext, IsVerdict, verdict};
 ghost use Rattle.farm_history.specs.declared.limits.TheConstants.{MOST_LIMIT, STOPS_BEYOND_LIMIT};
 ghost use Rattle.farm_site.specs.Sites.{described};
@@ -25,6 +26,7 @@ use farm_base::NoMemory;
 use farm_history::{Entry, Query, Reply, Rule, Verdict, history_laws};
 use farm_indexes::{Figured, Indexed, Indexes, PastFacts};
 use farm_site::Site;
+use farm_ticket::Ticket;
 use history_lookups::Past;
 use std::alloc::Global;
 use std::marker::Model;
@@ -117,16 +119,17 @@ impl<const LIMIT: usize> Book<LIMIT> {
         ensures spare { self.new.spare + 1 ≡ self.old.spare }
     {
         let figured = Figured::of(&self.past(), &entry.cmd);
-        self.commit_figured(entry, &figured)
+        let ticket = self.commit_figured(entry, &figured);
+        self.reply_with(self.entries.len() as u32, ticket)
     }
 
-    // Takes an accepted entry in at the end, on the figures that it names, and answers the reply for it.
-    pub(crate) fn commit_figured(&mut self, entry: Entry, figured: &Figured) -> Reply
+    // Takes an accepted entry in at the end, on the figures that it names, and answers the ticket that it issues.
+    pub(crate) fn commit_figured(&mut self, entry: Entry, figured: &Figured) -> Option<Ticket>
         requires next { IsNext LIMIT self.old.history entry }
         requires room { 1 ≤ self.old.spare }
         requires figures { AreFiguresOf self.old.history entry.cmd figured.now }
         ensures entered { self.new.history ≡ with_entry self.old.history entry }
-        ensures reply { result ≡ reply_at self.new.history (last_place self.new.history) }
+        ensures ticket { result ≡ ticket_at self.new.history (last_place self.new.history) }
         ensures sound { IsSound LIMIT self.new.history }
         ensures rising { AreRising self.old.history.site }
         ensures spare { self.new.spare + 1 ≡ self.old.spare }
@@ -135,14 +138,13 @@ impl<const LIMIT: usize> Book<LIMIT> {
             site: &self.site,
             entries: &self.entries,
         };
-        let reply = self.indexes.enter(&past, &entry, figured);
+        let ticket = self.indexes.enter(&past, &entry, figured);
         self.entries.push_reserved(entry);
         self.room -= 1;
-        reply
+        ticket
     }
 
     /// The reply for the entry at a place.
-    #[tactic(auto, unfolding(farm_history::specs::Desk::reply_at))]
     pub fn reply_at(&self, place: u32) -> Reply
         requires low { 1 ≤ place }
         requires high { place ≤ last_place self.now.history }
@@ -151,11 +153,19 @@ impl<const LIMIT: usize> Book<LIMIT> {
         ensures gain { SettlesAt self.now.history place → IsGainReply self.now.history place result }
         ensures placed { ¬ (IssuesAt self.now.history place) → ¬ (SettlesAt self.now.history place) → result ≡ Reply.Placed place }
     {
-        let facts = self.facts();
-        if let Some(ticket) = facts.ticket_at(place) {
+        self.reply_with(place, self.facts().ticket_at(place))
+    }
+
+    // The reply for the entry at a place with this ticket.
+    #[tactic(auto, unfolding(farm_history::specs::Desk::reply_at))]
+    fn reply_with(&self, place: u32, ticket: Option<Ticket>) -> Reply
+        requires ticket { ticket ≡ ticket_at self.now.history place }
+        ensures reply { result ≡ reply_at self.now.history place }
+    {
+        if let Some(ticket) = ticket {
             return Reply::Ticket(ticket);
         }
-        match facts.gain_at(place) {
+        match self.facts().gain_at(place) {
             Some(amount) => Reply::Gain { place, amount },
             None => Reply::Placed(place),
         }

@@ -186,17 +186,9 @@ ticket_grown history entry =
     option_and_then (λ (entry : Entry). issued_by past (suc (last_place history)) entry.cmd) found in
     ap₂ issued (before_grown history entry) (at_grown history entry)
 
--- the reply for the entry that came
-pub reply_grown : (history : History) (entry : Entry) (place : ℕ) (ticket : Option Ticket) (gain : Option Amount) (reply : Reply) →
-    place ≡ last_place history + 1 → ticket ≡ issued_by history (last_place history + 1) entry.cmd →
-    gain ≡ gain_at (with_entry history entry) place → reply ≡ reply_of ticket gain place →
-    reply ≡ reply_at (with_entry history entry) (last_place history + 1)
-unfolding reply_at
-reply_grown history entry place ticket gain reply here issued gained replied =
-    let more = with_entry history entry in
+-- the ticket of the entry that came
+pub ticket_there : (history : History) (entry : Entry) (ticket : Option Ticket) →
+    ticket ≡ issued_by history (last_place history + 1) entry.cmd → ticket ≡ ticket_at (with_entry history entry) (last_place history + 1)
+ticket_there history entry ticket issued =
     let next : last_place history + 1 ≡ suc (last_place history) = add-one (last_place history) in
-    let ticket_there : ticket ≡ ticket_at more (last_place history + 1) =
-    issued ∙ ap (λ (p : ℕ). issued_by history p entry.cmd) next ∙ sym (ticket_grown history entry) ∙ ap (ticket_at more) (sym next) in
-    let gain_there : gain ≡ gain_at more (last_place history + 1) = gained ∙ ap (gain_at more) here in
-    replied ∙ ap₂ (λ ticket gain. reply_of ticket gain place) ticket_there gain_there
-    ∙ ap (reply_of (ticket_at more (last_place history + 1)) (gain_at more (last_place history + 1))) here
+    issued ∙ ap (λ (p : ℕ). issued_by history p entry.cmd) next ∙ sym (ticket_grown history entry) ∙ ap (ticket_at (with_entry history entry)) (sym next)

@@ -1,10 +1,9 @@
 //! The indexes of a history.
 
 ghost use Rattle.std.specs.Prelude.{◌≡◌, ◌+◌, ◌≤◌, IfOk, IfSome, IsTrue, OnErr, OnOk};
-ghost use Rattle.farm_history.specs.Desk.{reply_at};
 ghost use Rattle.farm_history.specs.History.{History, empty_history, last_place, with_entry};
 ghost use Rattle.farm_history.specs.MovementRules.{is_closing};
-ghost use Rattle.farm_history.specs.Tickets.{issued_by};
+ghost use Rattle.farm_history.specs.Tickets.{issued_by, ticket_at};
 ghost use Rattle.farm_indexes.specs.Figured.{AreFiguresOf};
 ghost use Rattle.farm_indexes.specs.Following.{MayFollow};
 ghost use Rattle.farm_indexes.specs.Indexing.{AreIndexesOf, room};
@@ -12,13 +11,13 @@ ghost use Rattle.farm_site.specs.Sites.{described};
 ghost use Rattle.history_lookups.specs.Bounds.{IsSmallTicket};
 ghost use Rattle.history_lookups.specs.Pasts.{IsReadable};
 
-use crate::issuing::{issued_on, posted_on, reply_of};
+use crate::issuing::{issued_on, posted_on};
 use crate::notes::Notes;
 use crate::open_moves::OpenMoves;
 use crate::tank_states::TankStates;
 use crate::{Figured, Indexed, PastFacts};
 use farm_base::NoMemory;
-use farm_history::{Entry, Reply};
+use farm_history::Entry;
 use farm_site::Site;
 use farm_ticket::Ticket;
 use history_lookups::{Ledger, Past};
@@ -71,17 +70,22 @@ impl Indexes {
         Ok(())
     }
 
-    /// Takes an entry in that comes next after a past, on the figures that it names, and answers the reply for it. It can't fail, and takes
-    /// no memory.
+    /// Takes an entry in that comes next after a past, on the figures that it names, and answers the ticket that it issues. It can't fail,
+    /// and takes no memory.
     #[tactic(auto, unfolding(crate::specs::Indexing::room))]
-    pub fn enter(&mut self, past: &Past<'_>, entry: &Entry, figured: &Figured) -> Reply
+    pub fn enter(
+        &mut self,
+        past: &Past<'_>,
+        entry: &Entry,
+        figured: &Figured,
+    ) -> Option<Ticket>
         requires follows { MayFollow past.now entry.now }
         requires readable { IsReadable past.now }
         requires figures { AreFiguresOf past.now entry.now.cmd figured.now }
         requires indexes { AreIndexesOf past.now self.old }
         requires room { 1 ≤ room self.old }
         ensures indexes { AreIndexesOf (with_entry past.now entry.now) self.new }
-        ensures reply { result ≡ reply_at (with_entry past.now entry.now) (last_place past.now + 1) }
+        ensures ticket { result ≡ ticket_at (with_entry past.now entry.now) (last_place past.now + 1) }
         ensures room { room self.old ≤ room self.new + 1 }
     {
         let place = past.entries.len() as u32 + 1;
@@ -92,7 +96,7 @@ impl Indexes {
         self.states.enter(past, entry);
         self.moves.enter(past, entry, figured);
         self.ledger.post(&posted);
-        reply_of(place, ticket, self.notes.gain_at(place))
+        ticket
     }
 
     // The ticket that an entry issues which comes next after a past.

@@ -1,7 +1,6 @@
 //! What an entry that comes next issues and posts, on the figures that it names.
 
 ghost use Rattle.std.specs.Prelude.{◌≡◌, ◌+◌, IfSome, IsTrue};
-ghost use Rattle.farm_history.specs.Desk.{reply_of};
 ghost use Rattle.farm_history.specs.History.{last_place};
 ghost use Rattle.farm_history.specs.MovementRules.{is_closing};
 ghost use Rattle.farm_history.specs.Postings.{posted_by, postings_of};
@@ -14,8 +13,8 @@ ghost use Rattle.history_lookups.specs.Ledgers.{AreBooksOf, AreBounded, books_af
 ghost use Rattle.history_lookups.specs.Pasts.{IsReadable};
 
 use crate::{Figured, Indexed, PastFacts};
-use farm_fixed::{Amount, Quantities};
-use farm_history::{Command, Entry, Reply};
+use farm_fixed::Quantities;
+use farm_history::{Command, Entry};
 use farm_movement::{Leg, OpenMove};
 use farm_ticket::Ticket;
 use history_lookups::{Ledger, Past, Posted, closed, postings_of_ticket};
@@ -96,15 +95,4 @@ fn is_of_sides(second: &Option<Leg>, figures: &Option<Quantities>) -> bool
     ensures sides { result ≡ is_of_sides second.now figures.now }
 {
     second.is_some() == figures.is_some()
-}
-
-// The reply for the entry at a place with this ticket and this gain.
-pub(crate) fn reply_of(place: u32, ticket: Option<Ticket>, gain: Option<Amount>) -> Reply
-    ensures reply { result ≡ reply_of ticket gain place }
-{
-    match (ticket, gain) {
-        (Some(ticket), _) => Reply::Ticket(ticket),
-        (None, Some(amount)) => Reply::Gain { place, amount },
-        (None, None) => Reply::Placed(place),
-    }
 }

@@ -20,13 +20,13 @@ invariant_of-self g c =
     let indexes = c.self.invariant.room_of_indexes in
     record {
       sound = rw c.push_reserved.ensures.items (sound_more g.row.LIMIT before c.args.entry c.self.invariant.sound next);
-      indexed = subst (λ (history : History). AreIndexesOf history c.enter-reply.new.self) same c.enter-reply.ensures.indexes;
+      indexed = subst (λ (history : History). AreIndexesOf history c.enter-ticket.new.self) same c.enter-ticket.ensures.indexes;
       room_of_entries = let len = c.push_reserved.ensures.len in let capacity = c.push_reserved.ensures.capacity in omega (arith, room, len, capacity);
-      room_of_indexes = let left = c.enter-reply.ensures.room in omega (arith, indexes, left);
+      room_of_indexes = let left = c.enter-ticket.ensures.room in omega (arith, indexes, left);
     }
 
-pub enter-reply-requires-clause-readable : goal.enter-reply-requires-clause-readable
-enter-reply-requires-clause-readable g c =
+pub enter-ticket-requires-clause-readable : goal.enter-ticket-requires-clause-readable
+enter-ticket-requires-clause-readable g c =
     let site = c.self.inside.site in
     let readable = sound_readable g.row.LIMIT (history_of site c.self.inside.entries.items) c.self.invariant.sound in
     subst (λ entries. IsReadable (history_of site entries)) (sym c.deref.ensures.value) readable

@@ -1,11 +1,11 @@
 -- Answers to the open goals of `enter`.
 use Rattle.std.proofs.Common.{◌≡◌, ◌+◌, ℕ, length, Some, if◌then◌else◌, ap, subst}
 use Rattle.key_index.specs.Keys.{is_under, place_under}
-use Rattle.farm_history.specs.History.{History, last_place, with_entry}
+use Rattle.farm_history.specs.History.{History, with_entry}
 use Rattle.farm_history.proofs.Repeats.{new_key}
 use Rattle.history_lookups.specs.Ledgers.{listed_postings}
 use Rattle.farm_indexes.proofs.Books.{books_more}
-use Rattle.farm_indexes.proofs.Issued.{reply_grown}
+use Rattle.farm_indexes.proofs.Issued.{ticket_there}
 use Rattle.farm_indexes.proofs.Keys.{more_indexed}
 use Rattle.farm_indexes.proofs.indexes.Indexes.enter.Goals as goal
 
@@ -31,12 +31,5 @@ returns-clause-indexes c =
           c.posted_on-posted.ensures.posted c.post.ensures.posted c.posted_on-posted.ensures.bounded;
     }
 
-pub returns-clause-reply : goal.returns-clause-reply
-returns-clause-reply c =
-    let history = c.args.past.now in
-    let entry = c.args.entry.now in
-    let place = length c.past.inside.entries.now + 1 in
-    let here : place ≡ last_place history + 1 = ap (λ (past : History). length past.entries + 1) c.past.view_is in
-    let gained = c.gain_at.ensures.gain (with_entry history entry) c.enter-2.ensures.notes in
-    reply_grown history entry place c.issued-ticket.result c.gain_at.result c.reply_of.result here c.issued-ticket.ensures.ticket gained
-    c.reply_of.ensures.reply
+pub returns-clause-ticket : goal.returns-clause-ticket
+returns-clause-ticket c = ticket_there c.args.past.now c.args.entry.now c.issued-ticket.result c.issued-ticket.ensures.ticket
