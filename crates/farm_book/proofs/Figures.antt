@@ -1,6 +1,6 @@
 -- The figures that are calculated once are those that a command names, and those that a Closing closes its movement on.
 use Rattle.std.proofs.Common.{◌≡◌, ◌∙◌, ℕ, Bool, true, false, Option, Some, None, option_and_then, option_map, Result, refl, ap, sym, subst}
-use Rattle.std.specs.Prelude.{if◌then◌else◌, drop, ◌++◌, IfSome}
+use Rattle.std.specs.Prelude.{if◌then◌else◌, drop, ◌++◌, IfOk, IfSome, Ok, Err}
 use Rattle.std.specs.List.{list_any}
 use Rattle.farm_chain.specs.Volumes.{AreInRange}
 use Rattle.farm_fixed.specs.declared.records.ChainRule.{ChainRule}
@@ -22,8 +22,9 @@ use Rattle.farm_history.specs.Movements.{is_end_of, open_movement, opened_at}
 use Rattle.farm_history.specs.Tickets.{figures_at_closing, leg_at, movement_of, plan_to_close, to_close}
 use Rattle.farm_indexes.specs.Figured.{AreFiguresOf, first_figures, second_figures}
 use Rattle.farm_indexes.specs.declared.figured.Figured.{Figured}
-use Rattle.history_lookups.specs.Pairs.{listed, listed_one}
-use Rattle.history_lookups.specs.declared.figures.Pairs.{Pairs}
+use Rattle.history_lookups.specs.Pairs.{listed_one}
+use Rattle.farm_book.specs.Calculated.{AreCalculatedOn}
+use Rattle.farm_book.specs.declared.calculated.Calculated.{Calculated}
 use Rattle.farm_book.specs.Judging.{closes_wrong_on}
 
 -- the figures on what is named for the first tank are those on what is named first
@@ -43,18 +44,24 @@ second_is history (Some pair) None order = refl
 second_is history None None order = refl
 second_is history None (Some other) order = let none : Some other ≡ None = order refl in cc
 
--- figures of two calculations are those that a command names, if the calculations are on what it names
-pub figures_are : (history : History) (command : Command) (pairs : Pairs) (first second : Option (Result Quantities ChainRule)) (figures others : Option Quantities) →
-    listed pairs ≡ named_by history command → (pairs.first ≡ None → pairs.second ≡ None) →
-    first ≡ option_and_then (calculated_at history) pairs.first → second ≡ option_and_then (calculated_at history) pairs.second →
-    figures ≡ option_and_then figures_of first → others ≡ option_and_then figures_of second →
-    IfSome figures AreInRange → IfSome others AreInRange → AreFiguresOf history command (record { first = figures; second = others })
-figures_are history command pairs first second figures others named order calculated calculated_too here there range range_too = record {
-  first = here ∙ ap (option_and_then figures_of) calculated ∙ first_is history pairs.first pairs.second order ∙ ap (first_figures history) named;
-  second = there ∙ ap (option_and_then figures_of) calculated_too ∙ second_is history pairs.first pairs.second order ∙ ap (second_figures history) named;
-  first_range = range;
-  second_range = range_too;
-}
+-- the figures of a calculation in range are in range
+in_range : (calculation : Option (Result Quantities ChainRule)) → IfSome calculation (λ result. IfOk result AreInRange) →
+    IfSome (option_and_then figures_of calculation) AreInRange
+in_range None range = range
+in_range (Some (Ok figures)) range = range
+in_range (Some (Err rule)) range = range
+
+-- the figures of calculations on what a command names are those that it names
+pub figures_are : (history : History) (command : Command) (calculated : Calculated) → AreCalculatedOn history command calculated →
+    AreFiguresOf history command (record { first = option_and_then figures_of calculated.first; second = option_and_then figures_of calculated.second })
+figures_are history command calculated are =
+    let pairs = calculated.pairs in
+    record {
+      first = ap (option_and_then figures_of) are.first ∙ first_is history pairs.first pairs.second are.in_order ∙ ap (first_figures history) are.named;
+      second = ap (option_and_then figures_of) are.second ∙ second_is history pairs.first pairs.second are.in_order ∙ ap (second_figures history) are.named;
+      first_range = in_range calculated.first are.first_range;
+      second_range = in_range calculated.second are.second_range;
+    }
 
 -- a movement of one side goes the wrong way as on the figures of its tank
 one_side : (place party : ℕ) (leg : Option Leg) (first : Option Quantities) →

@@ -1,11 +1,12 @@
 //! A book: it judges an entry by the history that it keeps, makes room for it, takes it in, and answers look-ups.
 
-ghost use Rattle.std.specs.Prelude.{◌≡◌, ◌+◌, ◌≤◌, ℕ, All, IfOk, IsFalse, IsNone, IsOk, IsSome, IsTrue, OnErr, OnOk, option_map};
+ghost use Rattle.std.specs.Prelude.{◌≡◌, ◌+◌, ◌≤◌, ℕ, All, IfOk, IfSome, IsFalse, IsNone, IsOk, IsSome, IsTrue, OnErr, OnOk, option_map};
 ghost use Rattle.farm_stock.specs.Books.{plus};
 ghost use Rattle.farm_stock.specs.Postings.{amount_of, at_tank};
 ghost use Rattle.farm_book.specs.Kept.{IsSound};
 ghost use Rattle.farm_book.specs.Replies.{IsGainReply, IsStockReply, IsTicketReply, IsTotalReply, IssuesAt, SettlesAt};
 ghost use Rattle.farm_indexes.specs.Figured.{AreFiguresOf};
+ghost use Rattle.history_lookups.specs.Bounds.{IsSmallTicket};
 ghost use Rattle.history_lookups.specs.Pasts.{IsReadable};
 ghost use Rattle.farm_history.specs.Commands.{is_settle, issues_ticket};
 ghost use Rattle.farm_history.specs.Conservation.{Moves};
@@ -15,7 +16,8 @@ ghost use Rattle.farm_history.specs.Postings.{postings_at};
 ghost use Rattle.farm_history.specs.Rules.{has_same_key};
 ghost use Rattle.farm_history.specs.Sites.{AreRising};
 ghost use Rattle.farm_history.specs.Stocks.{book_of, total_of};
-ghost use Rattle.farm_history.specs.Tickets.{ticket_at};
+ghost use Rattle.farm_history.specs.MovementRules.{is_closing};
+ghost use Rattle.farm_history.specs.Tickets.{issued_by, ticket_at};
 ghost use Rattle.farm_history.specs.Verdicts.{IsLegal, IsNext, IsVerdict, verdict};
 ghost use Rattle.farm_history.specs.declared.limits.TheConstants.{MOST_LIMIT, STOPS_BEYOND_LIMIT};
 ghost use Rattle.farm_site.specs.Sites.{described};
@@ -119,17 +121,30 @@ impl<const LIMIT: usize> Book<LIMIT> {
         ensures spare { self.new.spare + 1 ≡ self.old.spare }
     {
         let figured = Figured::of(&self.past(), &entry.cmd);
-        let ticket = self.commit_figured(entry, &figured);
+        let ticket = self.issued(&entry, &figured);
+        self.take_in(entry, &figured, &ticket);
         self.reply_with(self.entries.len() as u32, ticket)
     }
 
-    // Takes an accepted entry in at the end, on the figures that it names, and answers the ticket that it issues.
-    pub(crate) fn commit_figured(&mut self, entry: Entry, figured: &Figured) -> Option<Ticket>
+    // The ticket that an accepted entry issues, on the figures that it names.
+    pub(crate) fn issued(&self, entry: &Entry, figured: &Figured) -> Option<Ticket>
+        requires next { IsNext LIMIT self.now.history entry.now }
+        requires figures { AreFiguresOf self.now.history entry.now.cmd figured.now }
+        ensures ticket { result ≡ issued_by self.now.history (last_place self.now.history + 1) entry.now.cmd }
+        ensures entered { result ≡ ticket_at (with_entry self.now.history entry.now) (last_place self.now.history + 1) }
+        ensures small { IsTrue (is_closing entry.now.cmd) → IfSome result IsSmallTicket }
+    {
+        self.indexes.issued(&self.past(), entry, figured)
+    }
+
+    // Takes an accepted entry in at the end that issues this ticket, on the figures that it names.
+    pub(crate) fn take_in(&mut self, entry: Entry, figured: &Figured, ticket: &Option<Ticket>)
         requires next { IsNext LIMIT self.old.history entry }
         requires room { 1 ≤ self.old.spare }
         requires figures { AreFiguresOf self.old.history entry.cmd figured.now }
+        requires ticket { ticket.now ≡ issued_by self.old.history (last_place self.old.history + 1) entry.cmd }
+        requires small { IsTrue (is_closing entry.cmd) → IfSome ticket.now IsSmallTicket }
         ensures entered { self.new.history ≡ with_entry self.old.history entry }
-        ensures ticket { result ≡ ticket_at self.new.history (last_place self.new.history) }
         ensures sound { IsSound LIMIT self.new.history }
         ensures rising { AreRising self.old.history.site }
         ensures spare { self.new.spare + 1 ≡ self.old.spare }
@@ -138,10 +153,9 @@ impl<const LIMIT: usize> Book<LIMIT> {
             site: &self.site,
             entries: &self.entries,
         };
-        let ticket = self.indexes.enter(&past, &entry, figured);
+        self.indexes.enter(&past, &entry, figured, ticket);
         self.entries.push_reserved(entry);
         self.room -= 1;
-        ticket
     }
 
     /// The reply for the entry at a place.

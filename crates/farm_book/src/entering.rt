@@ -48,7 +48,8 @@ impl<const LIMIT: usize> Book<LIMIT> {
         match judged(LIMIT, &self.facts(), &entry) {
             Ok(figured) => {
                 self.reserve()?;
-                self.commit_figured(entry, &figured);
+                let ticket = self.issued(&entry, &figured);
+                self.take_in(entry, &figured, &ticket);
                 Ok(())
             }
             Err(_) => Err(EnterFault::NotNext),

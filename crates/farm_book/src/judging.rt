@@ -2,6 +2,7 @@
 
 ghost use Rattle.std.specs.Prelude.{◌≡◌, ◌≢◌, ◌+◌, ◌≤◌, ℕ, if◌then◌else◌, IfErr, IfOk, IfSome, None, Some, length};
 ghost use Rattle.std.specs.List.{list_any};
+ghost use Rattle.farm_book.specs.Calculated.{AreCalculatedOn};
 ghost use Rattle.farm_book.specs.Judging.{fault_of, verdict_of};
 ghost use Rattle.farm_indexes.specs.Figured.{AreFiguresOf};
 ghost use Rattle.history_lookups.specs.Pasts.{IsReadable};
@@ -12,6 +13,7 @@ ghost use Rattle.farm_history.specs.Rules.{broken_by_command, is_full, is_missin
 ghost use Rattle.farm_history.specs.Verdicts.{IsLegal, repeated_or, verdict};
 ghost use Rattle.farm_history.specs.declared.limits.TheConstants.{MOST_LIMIT, STOPS_BEYOND_LIMIT};
 
+use crate::calculated::Calculated;
 use crate::field_rule::first_bad_field;
 use crate::gauging_rules::refused_gauging;
 use crate::movement_rules::{judge_movement, unknown_party};
@@ -42,8 +44,9 @@ pub(crate) fn judged<F: PastFacts>(
     if is_full(limit, past.entries.len(), entry.cmd.is_stop()) {
         return Err(Verdict::Refused(Rule::HistoryFull));
     }
-    match judge_command(facts, &entry.cmd) {
-        Ok(figured) => Ok(figured),
+    let calculated = Calculated::of(&past, &entry.cmd);
+    match judge_command(facts, &entry.cmd, &calculated) {
+        Ok(()) => Ok(calculated.figured()),
         Err(rule) => Err(Verdict::Refused(rule)),
     }
 }
@@ -90,13 +93,17 @@ fn is_full(limit: usize, entries: usize, stop: bool) -> bool
     limit + STOPS_BEYOND_LIMIT <= entries || (limit <= entries && !stop)
 }
 
-// The figures on what a command names for its tanks whose key is new and for which there is room; or the first rule that it breaks.
+// The first rule that a command breaks which has a new key, and for which there is room.
 #[tactic(auto, unfolding(farm_history::specs::Rules::broken_by_command, farm_history::specs::Rules::out_of_range))]
-fn judge_command<F: PastFacts>(facts: &F, command: &Command) -> Result<Figured, Rule>
+fn judge_command<F: PastFacts>(
+    facts: &F,
+    command: &Command,
+    calculated: &Calculated,
+) -> Result<(), Rule>
     requires command { IsWellFormedCommand command.now }
     requires readable { IsReadable (F.history facts.now) }
+    requires calculated { AreCalculatedOn (F.history facts.now) command.now calculated.now }
     ensures broken { fault_of result ≡ broken_by_command (F.history facts.now) command.now }
-    ensures figures { IfOk result (AreFiguresOf (F.history facts.now) command.now) }
 {
     let past = facts.past();
     unknown_tank(&past, command)?;
@@ -105,7 +112,7 @@ fn judge_command<F: PastFacts>(facts: &F, command: &Command) -> Result<Figured, 
         return Err(Rule::OutOfRange(field));
     }
     refused_gauging(&past, command)?;
-    judge_movement(facts, command)
+    judge_movement(facts, command, calculated)
 }
 
 // Rule 3: a tank that a command gives isn't of the site.

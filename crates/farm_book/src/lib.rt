@@ -5,6 +5,7 @@
 #![tactic(auto)]
 
 mod book;
+mod calculated;
 mod entering;
 mod field_rule;
 mod figure_rules;

@@ -1,9 +1,9 @@
 //! The rules on movements and tickets, in the order of their numbers. Each is a function that fails with the rule if the command
 //! breaks it. Rules 13 to 19 stand in `named_rules` and `figure_rules`.
 
-ghost use Rattle.std.specs.Prelude.{◌≡◌, IfOk, option_and_then};
+ghost use Rattle.std.specs.Prelude.{◌≡◌, option_and_then};
+ghost use Rattle.farm_book.specs.Calculated.{AreCalculatedOn};
 ghost use Rattle.farm_book.specs.Judging.{fault_of};
-ghost use Rattle.farm_indexes.specs.Figured.{AreFiguresOf};
 ghost use Rattle.history_lookups.specs.Pasts.{IsReadable};
 ghost use Rattle.farm_history.specs.Commands.{tanks_needed};
 ghost use Rattle.farm_history.specs.Given.{first_given};
@@ -12,27 +12,31 @@ ghost use Rattle.farm_history.specs.Movements.{holding_movement};
 ghost use Rattle.farm_history.specs.Rules.{broken_by_movement, broken_by_ticket};
 ghost use Rattle.farm_history.specs.Tickets.{closing_ticket};
 
+use crate::calculated::Calculated;
 use crate::named_rules::judge_names;
 use farm_history::{Command, Plan, Rule};
-use farm_indexes::{Figured, PastFacts};
+use farm_indexes::PastFacts;
 use farm_site::item_numbered;
 use farm_ticket::Ticket;
 use history_lookups::Past;
 
-/// The figures on what a command names for its tanks; or the first rule on movements and tickets that it breaks.
+/// The first rule on movements and tickets that a command breaks.
 #[tactic(auto, unfolding(farm_history::specs::Rules::broken_by_movement))]
-pub(crate) fn judge_movement<F: PastFacts>(facts: &F, command: &Command) -> Result<Figured, Rule>
+pub(crate) fn judge_movement<F: PastFacts>(
+    facts: &F,
+    command: &Command,
+    calculated: &Calculated,
+) -> Result<(), Rule>
     requires readable { IsReadable (F.history facts.now) }
+    requires calculated { AreCalculatedOn (F.history facts.now) command.now calculated.now }
     ensures broken { fault_of result ≡ broken_by_movement (F.history facts.now) command.now }
-    ensures figures { IfOk result (AreFiguresOf (F.history facts.now) command.now) }
 {
     same_tank(command)?;
     other_product(&facts.past(), command)?;
     tank_busy(facts, command)?;
     no_movement(facts, command)?;
-    let figured = judge_names(facts, command)?;
-    judge_ticket(facts, command)?;
-    Ok(figured)
+    judge_names(facts, command, calculated)?;
+    judge_ticket(facts, command)
 }
 
 // The rules on the ticket that a Reverse names, 20 and 21: the first that is broken.

@@ -1,9 +1,9 @@
 //! The rules on what a command names for its tanks, 13 to 15; those on the figures that follow from it stand in `figure_rules`.
 
-ghost use Rattle.std.specs.Prelude.{◌≡◌, IfOk, None, not};
+ghost use Rattle.std.specs.Prelude.{◌≡◌, None, not};
 ghost use Rattle.std.specs.List.{list_any};
+ghost use Rattle.farm_book.specs.Calculated.{AreCalculatedOn};
 ghost use Rattle.farm_book.specs.Judging.{fault_of};
-ghost use Rattle.farm_indexes.specs.Figured.{AreFiguresOf};
 ghost use Rattle.history_lookups.specs.Pairs.{listed, listed_one};
 ghost use Rattle.history_lookups.specs.Pasts.{IsReadable};
 ghost use Rattle.farm_history.specs.Figures.{named_by};
@@ -11,25 +11,29 @@ ghost use Rattle.farm_history.specs.Given.{first_given};
 ghost use Rattle.farm_history.specs.MovementRules.{has_reading, has_sample, names_each, names_too_few_or_many, no_movement, stale_for, stale_reading, unknown_reading, unknown_sample};
 ghost use Rattle.farm_history.specs.Rules.{broken_by_names};
 
+use crate::calculated::Calculated;
 use crate::figure_rules::judge_figures;
 use farm_history::{Command, Gauged, Named, Plan, Rule};
-use farm_indexes::{Figured, PastFacts};
+use farm_indexes::PastFacts;
 use history_lookups::{Pairs, Past, is_gauging_of, is_sample_of};
 
-/// The figures on what a command names for its tanks; or the first of the rules 13 to 19 that it breaks.
+/// The first of the rules 13 to 19 that a command breaks.
 #[tactic(auto, unfolding(farm_history::specs::Rules::broken_by_names))]
-pub(crate) fn judge_names<F: PastFacts>(facts: &F, command: &Command) -> Result<Figured, Rule>
+pub(crate) fn judge_names<F: PastFacts>(
+    facts: &F,
+    command: &Command,
+    calculated: &Calculated,
+) -> Result<(), Rule>
     requires readable { IsReadable (F.history facts.now) }
     requires open { no_movement (F.history facts.now) command.now ≡ None }
+    requires calculated { AreCalculatedOn (F.history facts.now) command.now calculated.now }
     ensures broken { fault_of result ≡ broken_by_names (F.history facts.now) command.now }
-    ensures figures { IfOk result (AreFiguresOf (F.history facts.now) command.now) }
 {
     let past = facts.past();
-    let pairs = past.named_by(command);
-    unknown_reading(&past, command, &pairs)?;
-    unknown_sample(&past, command, &pairs)?;
-    stale_reading(facts, command, &pairs)?;
-    judge_figures(facts, command, &pairs)
+    unknown_reading(&past, command, &calculated.pairs)?;
+    unknown_sample(&past, command, &calculated.pairs)?;
+    stale_reading(facts, command, &calculated.pairs)?;
+    judge_figures(facts, command, calculated)
 }
 
 // Rule 13: a named reading isn't one of that tank, or a Closing names too few or too many.

@@ -2,7 +2,6 @@
 use Rattle.std.proofs.Common.{◌≡◌, ℕ, suc, ◌+◌, Bool, true, false, if◌then◌else◌, List, Option, Some, None, option_and_then, option_map, refl, ap, ap₂, sym, ◌∙◌, subst, add-one}
 use Rattle.std.specs.Prelude.{IfSome}
 use Rattle.farm_chain.specs.Volumes.{AreInRange}
-use Rattle.farm_fixed.specs.declared.records.Amount.{Amount}
 use Rattle.farm_fixed.specs.declared.records.Quantities.{Quantities}
 use Rattle.farm_movement.specs.Movements.{OpenMove}
 use Rattle.farm_movement.specs.declared.leg.Leg.{Leg}
@@ -15,14 +14,11 @@ use Rattle.farm_history.specs.declared.entry.Entry.{Entry}
 use Rattle.farm_history.specs.declared.plan.Gauged.{Gauged}
 use Rattle.farm_history.specs.declared.plan.Plan.{Plan}
 use Rattle.farm_history.specs.declared.plan.Plan.TheVariants.{Outside, Transfer}
-use Rattle.farm_history.specs.declared.reply.Reply.{Reply}
-use Rattle.farm_history.specs.Desk.{reply_at, reply_of}
 use Rattle.farm_history.specs.Figures.{figures_at, named, named_at_closing, named_by, named_for}
 use Rattle.farm_history.specs.History.{History, last_place, with_entry}
 use Rattle.farm_history.specs.MovementRules.{no_movement}
 use Rattle.farm_history.specs.Movements.{opened_at}
 use Rattle.farm_history.specs.Postings.{posted_by, postings_issued, postings_of_ticket}
-use Rattle.farm_history.specs.Stocks.{gain_at}
 use Rattle.farm_history.specs.Tickets.{closed, figures_at_closing, issued_by, issued_by_closing, leg_at, movement_of, next_number, plan_to_close, ticket_at, to_close}
 use Rattle.farm_history.proofs.Accepted.{kept}
 use Rattle.farm_history.proofs.PostingsStay.{at_grown, before_grown}

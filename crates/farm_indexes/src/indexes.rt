@@ -70,45 +70,47 @@ impl Indexes {
         Ok(())
     }
 
-    /// Takes an entry in that comes next after a past, on the figures that it names, and answers the ticket that it issues. It can't fail,
-    /// and takes no memory.
+    /// The ticket that an entry issues which comes next after a past, on the figures that it names. `None` for one that is no Closing and no
+    /// Reverse.
+    pub fn issued(&self, past: &Past<'_>, entry: &Entry, figured: &Figured) -> Option<Ticket>
+        requires follows { MayFollow past.now entry.now }
+        requires readable { IsReadable past.now }
+        requires figures { AreFiguresOf past.now entry.now.cmd figured.now }
+        requires indexes { AreIndexesOf past.now self.now }
+        ensures ticket { result ≡ issued_by past.now (last_place past.now + 1) entry.now.cmd }
+        ensures entered { result ≡ ticket_at (with_entry past.now entry.now) (last_place past.now + 1) }
+        ensures small { IsTrue (is_closing entry.now.cmd) → IfSome result IsSmallTicket }
+    {
+        let facts = Indexed::new(past.past(), self);
+        issued_on(&facts, self.notes.next_number(), entry, figured)
+    }
+
+    /// Takes an entry in that comes next after a past and issues this ticket, on the figures that it names. It can't fail, and takes no
+    /// memory.
     #[tactic(auto, unfolding(crate::specs::Indexing::room))]
     pub fn enter(
         &mut self,
         past: &Past<'_>,
         entry: &Entry,
         figured: &Figured,
-    ) -> Option<Ticket>
+        ticket: &Option<Ticket>,
+    )
         requires follows { MayFollow past.now entry.now }
         requires readable { IsReadable past.now }
         requires figures { AreFiguresOf past.now entry.now.cmd figured.now }
+        requires ticket { ticket.now ≡ issued_by past.now (last_place past.now + 1) entry.now.cmd }
+        requires small { IsTrue (is_closing entry.now.cmd) → IfSome ticket.now IsSmallTicket }
         requires indexes { AreIndexesOf past.now self.old }
         requires room { 1 ≤ room self.old }
         ensures indexes { AreIndexesOf (with_entry past.now entry.now) self.new }
-        ensures ticket { result ≡ ticket_at (with_entry past.now entry.now) (last_place past.now + 1) }
         ensures room { room self.old ≤ room self.new + 1 }
     {
         let place = past.entries.len() as u32 + 1;
-        let ticket = self.issued(past, entry, figured);
-        let posted = posted_on(past, &self.ledger, entry, &ticket);
+        let posted = posted_on(past, &self.ledger, entry, ticket);
         self.keys.enter(entry.account, entry.key, place);
         self.notes.enter(past, entry, &posted);
         self.states.enter(past, entry);
         self.moves.enter(past, entry, figured);
         self.ledger.post(&posted);
-        ticket
-    }
-
-    // The ticket that an entry issues which comes next after a past.
-    fn issued(&self, past: &Past<'_>, entry: &Entry, figured: &Figured) -> Option<Ticket>
-        requires follows { MayFollow past.now entry.now }
-        requires readable { IsReadable past.now }
-        requires figures { AreFiguresOf past.now entry.now.cmd figured.now }
-        requires indexes { AreIndexesOf past.now self.now }
-        ensures ticket { result ≡ issued_by past.now (last_place past.now + 1) entry.now.cmd }
-        ensures small { IsTrue (is_closing entry.now.cmd) → IfSome result IsSmallTicket }
-    {
-        let facts = Indexed::new(past.past(), self);
-        issued_on(&facts, self.notes.next_number(), entry, figured)
     }
 }

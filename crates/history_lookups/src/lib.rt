@@ -22,4 +22,4 @@ pub use ledger::Ledger;
 pub use movements::{ends, opens_on};
 pub use past::Past;
 pub use postings::{Posted, postings_of_ticket};
-pub use tickets::{ToClose, closed, goes_wrong, issues_ticket};
+pub use tickets::{ToClose, closed, issues_ticket};

@@ -8,7 +8,7 @@ ghost use Rattle.history_lookups.specs.Closings.{closed_by};
 ghost use Rattle.history_lookups.specs.Pasts.{IsReadable};
 ghost use Rattle.farm_history.specs.Commands.{issues_ticket};
 ghost use Rattle.farm_history.specs.History.{before, last_place};
-ghost use Rattle.farm_history.specs.Tickets.{any_goes_wrong, closed, closing_ticket, figures_at_closing, issued_by, issued_by_closing, leg_at, movement_of, next_number, plan_to_close, ticket_at, tickets_in, to_close};
+ghost use Rattle.farm_history.specs.Tickets.{closed, closing_ticket, figures_at_closing, issued_by, issued_by_closing, leg_at, movement_of, next_number, plan_to_close, ticket_at, tickets_in, to_close};
 
 use crate::Past;
 use crate::figures::named;
@@ -135,14 +135,9 @@ impl Past<'_> {
         count + 1
     }
 
-    /// The movement that a Closing names, and the figures that it closes it on. `None` where one of these isn't there.
+    // The movement that a Closing names, and the figures that it closes it on. `None` where one of these isn't there.
     #[tactic(auto, unfolding(farm_history::specs::Tickets::to_close))]
-    pub fn to_close(
-        &self,
-        movement: u32,
-        first: &Gauged,
-        second: &Option<Gauged>,
-    ) -> Option<ToClose>
+    fn to_close(&self, movement: u32, first: &Gauged, second: &Option<Gauged>) -> Option<ToClose>
         requires readable { IsReadable self.now }
         ensures to_close { result ≡ to_close self.now movement first.now second.now }
         ensures sides { IfSome result (λ close. IsSome close.2 ↔ IsSome close.0.second) }
@@ -245,14 +240,6 @@ pub fn closed(
         Ok(closed) => Some(closed.ticket()),
         Err(_) => None,
     }
-}
-
-/// Whether a side of a movement goes the wrong way on these figures.
-pub fn goes_wrong(movement: OpenMove, first: Quantities, second: Option<Quantities>) -> bool
-    requires sides { IsSome second ↔ IsSome movement.second }
-    ensures wrong { result ≡ any_goes_wrong (movement, first, second) }
-{
-    movement.close(0, 0, first, second).is_err()
 }
 
 /// Whether a command issues a ticket: a Closing or a Reverse.

@@ -1,11 +1,10 @@
 -- Answers to the open goals of `enter`.
 use Rattle.std.proofs.Common.{◌≡◌, ◌+◌, ℕ, length, Some, if◌then◌else◌, ap, subst}
 use Rattle.key_index.specs.Keys.{is_under, place_under}
-use Rattle.farm_history.specs.History.{History, with_entry}
+use Rattle.farm_history.specs.History.{History}
 use Rattle.farm_history.proofs.Repeats.{new_key}
 use Rattle.history_lookups.specs.Ledgers.{listed_postings}
 use Rattle.farm_indexes.proofs.Books.{books_more}
-use Rattle.farm_indexes.proofs.Issued.{ticket_there}
 use Rattle.farm_indexes.proofs.Keys.{more_indexed}
 use Rattle.farm_indexes.proofs.indexes.Indexes.enter.Goals as goal
 
@@ -30,6 +29,3 @@ returns-clause-indexes c =
           books_more history entry old.ledger c.post.new.self (listed_postings c.posted_on-posted.result) c.requires.indexes.books
           c.posted_on-posted.ensures.posted c.post.ensures.posted c.posted_on-posted.ensures.bounded;
     }
-
-pub returns-clause-ticket : goal.returns-clause-ticket
-returns-clause-ticket c = ticket_there c.args.past.now c.args.entry.now c.issued-ticket.result c.issued-ticket.ensures.ticket
