@@ -161,7 +161,7 @@ opened_if_open history place plan is_open = by (list_any (is_end_of place) (drop
     by false e = e
 
 -- an open movement holds a tank that its plan names
-pub holds_if_open : (history : History) (tank place : ℕ) (plan : Plan) → open_movement history place ≡ Some plan →
+holds_if_open : (history : History) (tank place : ℕ) (plan : Plan) → open_movement history place ≡ Some plan →
     IsTrue (names_tank tank plan) → Holds history tank place
 holds_if_open history tank place plan is_open named = record {
   plan = plan;
@@ -170,7 +170,7 @@ holds_if_open history tank place plan is_open named = record {
 }
 
 -- in a legal history it is the movement that holds the tank
-held_if_open : (limit : ℕ) (history : History) (tank place : ℕ) (plan : Plan) → IsLegal limit history →
+pub held_if_open : (limit : ℕ) (history : History) (tank place : ℕ) (plan : Plan) → IsLegal limit history →
     open_movement history place ≡ Some plan → IsTrue (names_tank tank plan) → holding_movement history tank ≡ Some place
 held_if_open limit history tank place plan legal is_open named =
     let holds = holds_if_open history tank place plan is_open named in

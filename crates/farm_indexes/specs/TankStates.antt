@@ -1,5 +1,5 @@
 -- What is kept of each tank of a site.
-use Rattle.std.specs.Prelude.{◌≡◌, ℕ, ◌+◌, ◌==◌, Bool, true, false, if◌then◌else◌, List, [], ◌∷◌, map, Option, Some, None}
+use Rattle.std.specs.Prelude.{◌≡◌, ℕ, ◌+◌, ◌==◌, Bool, false, if◌then◌else◌, List, [], ◌∷◌, map, Option, Some, None}
 use Rattle.farm_base.specs.Steps.{or_else}
 use Rattle.farm_history.specs.declared.command.Command.{Command}
 use Rattle.farm_history.specs.declared.command.Command.TheVariants.{Gauge, Dip, Sample, Opening, Closing, Cancel, Reverse, Settle, Stop}
@@ -61,14 +61,19 @@ state_after history entry state = record {
   settled = last_after (settles state.tank entry.cmd) (last_place history + 1) state.settled;
 }
 
--- a command may change the state of a tank: it names the tank, or a movement
-abbrev pub concerns : ℕ → Command → Bool
-concerns tank (Gauge number level water temperature ambient) = number == tank
-concerns tank (Dip number outage tapes water temperatures ambient) = number == tank
-concerns tank (Sample number density sw) = number == tank
-concerns tank (Opening plan) = names_tank tank plan
-concerns tank (Closing movement first second) = true
-concerns tank (Cancel movement) = true
-concerns tank (Reverse ticket) = false
-concerns tank (Settle number gauged) = number == tank
-concerns tank Stop = false
+-- it is this movement that holds a tank
+abbrev pub is_held_by : ℕ → Option ℕ → Bool
+is_held_by movement None = false
+is_held_by movement (Some held) = held == movement
+
+-- a command may change the state of a tank: it names the tank, or the movement that holds it
+abbrev pub concerns : TankState → Command → Bool
+concerns state (Gauge number level water temperature ambient) = number == state.tank
+concerns state (Dip number outage tapes water temperatures ambient) = number == state.tank
+concerns state (Sample number density sw) = number == state.tank
+concerns state (Opening plan) = names_tank state.tank plan
+concerns state (Closing movement first second) = is_held_by movement state.held_by
+concerns state (Cancel movement) = is_held_by movement state.held_by
+concerns state (Reverse ticket) = false
+concerns state (Settle number gauged) = number == state.tank
+concerns state Stop = false

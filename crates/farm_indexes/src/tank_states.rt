@@ -71,24 +71,26 @@ impl TankStates {
         ensures states { AreStatesOf (with_entry past.now entry.now) self.new }
     {
         for state in self.states.iter_mut() {
-            if concerns(state.tank, &entry.cmd) {
+            if concerns(state, &entry.cmd) {
                 *state = state_after(past, entry, *state);
             }
         }
     }
 }
 
-// Whether a command may change the state of a tank: it names the tank, or a movement.
-fn concerns(tank: u16, command: &Command) -> bool
-    ensures concerns { result ≡ concerns tank command.now }
+// Whether a command may change the state of a tank: it names the tank, or the movement that holds it.
+fn concerns(state: &TankState, command: &Command) -> bool
+    ensures concerns { result ≡ concerns state.now command.now }
 {
     match command {
         Command::Gauge { tank: number, .. }
         | Command::Dip { tank: number, .. }
         | Command::Sample { tank: number, .. }
-        | Command::Settle { tank: number, .. } => *number == tank,
-        Command::Opening(_) => opens_on(tank, command),
-        Command::Closing { .. } | Command::Cancel { .. } => true,
+        | Command::Settle { tank: number, .. } => *number == state.tank,
+        Command::Opening(_) => opens_on(state.tank, command),
+        Command::Closing { movement, .. } | Command::Cancel { movement } => {
+            state.held_by == Some(*movement)
+        }
         Command::Reverse { .. } | Command::Stop => false,
     }
 }
