@@ -164,7 +164,7 @@ fn answer_line<D: Disk, const LIMIT: usize, K: Sink, C: Clock>(
     ensures counts { CountsIf (result ≡ Some BatchEnd.Failed) (K.faults output.old) (K.faults output.new) }
 {
     let meant = answer(alloc, desk, line, clock.now());
-    match put_page(alloc, &meant.page, waiting, output, text) {
+    match put_page(&meant.page, waiting, output, text) {
         Ok(whole) if whole && meant.stops => Some(BatchEnd::Done),
         Ok(_) => None,
         Err(Failed) => Some(BatchEnd::Failed),
@@ -185,7 +185,6 @@ fn put_rest<K: Sink>(waiting: &mut Waiting, output: &mut K, end: BatchEnd) -> Ba
 // Lets an answer and a line feed, made in `text`, wait to be put, and says whether it is that answer: without memory for it, out of
 // memory takes its place. A fault of the disk takes no memory, so that out of memory never hides one.
 fn put_page<K: Sink>(
-    alloc: Global,
     page: &Page,
     waiting: &mut Waiting,
     output: &mut K,
@@ -199,7 +198,7 @@ fn put_page<K: Sink>(
         waiting.add(DISK_FAULT, output)?;
         return Ok(true);
     }
-    match write_page(alloc, page, text) {
+    match write_page(page, text) {
         Ok(()) => {
             waiting.add(text, output)?;
             Ok(true)
@@ -220,12 +219,12 @@ fn is_disk_fault(page: &Page) -> bool
 }
 
 // Writes an answer and a line feed in place of what a buffer has.
-fn write_page(alloc: Global, page: &Page, text: &mut Vec<u8>) -> Result<(), NoMemory>
+fn write_page(page: &Page, text: &mut Vec<u8>) -> Result<(), NoMemory>
     requires page { IsAnswer page.now }
     ensures text { OnOk result (text.new.items ≡ answer_text page.now) }
 {
     text.clear();
-    body(alloc, page, text)?;
+    body(page, text)?;
     text.push(LINE_FEED)?;
     Ok(())
 }

@@ -1,23 +1,33 @@
 -- The bodies of answers in bytes are the texts of their objects.
-use Rattle.std.proofs.Common.{◌≡◌, ℤ, pos, negsuc, ℕ, Option, None, Some, refl}
+use Rattle.std.proofs.Common.{◌≡◌, ℤ, pos, negsuc, ℕ, [], ◌∷◌, ◌++◌, Option, None, Some, codes, decimal, refl, sym, append_assoc}
+use Rattle.std.specs.Fmt.{signed_decimal}
+use Rattle.std.specs.List.{concat}
 use Rattle.serde_json.proofs.OnLiterals.{serde_json_on_literals}
 use Rattle.serde_json.specs.Data.{no_members, object}
 use Rattle.serde_json.specs.Find.{of_integer}
 use Rattle.serde_json.specs.Written.{compact_text, number_text}
 use Rattle.farm_fixed.specs.declared.records.Amount.{Amount}
 use Rattle.farm_fixed.specs.declared.records.Quantities.{Quantities}
+use Rattle.farm_history.specs.declared.reply.Reply.{Reply}
+use Rattle.farm_history.specs.declared.reply.Reply.TheVariants.{Gain, Placed, Refused, Stock, Ticket, Total}
 use Rattle.farm_ticket.specs.declared.side.Moved.{Moved}
 use Rattle.farm_ticket.specs.declared.side.Side.{Side}
 use Rattle.farm_ticket.specs.declared.side.Way.{Way}
 use Rattle.farm_ticket.specs.declared.side.Way.TheVariants.{Inward, Outward}
 use Rattle.farm_http.specs.PageTexts.{amount_members, body_text}
-use Rattle.farm_http.specs.Bodies.{GainInBytes, PlaceInBytes, RefusalInBytes, StatusInBytes, StockInBytes, TicketInBytes, TotalInBytes, amount_text, figures_text, integer_text, moved_text, side_text, sides_text}
+use Rattle.farm_http.specs.Bodies.{GainInBytes, PlaceInBytes, RefusalInBytes, StatusInBytes, StockInBytes, TicketInBytes, TotalInBytes, amount_text, figures_text, gain_text, integer_text, moved_text, reply_text, side_text, sides_text, total_text}
+use Rattle.farm_http.specs.declared.page.Page.TheVariants as pages
 use Rattle.farm_http.specs.Tickets.{figures_value, moved_value, side_value, sides_value, ticket_members}
 
 -- the text of a whole number
 integer_is : (z : ℤ) → number_text (of_integer z) ≡ integer_text z
 integer_is (pos n) = refl
 integer_is (negsuc n) = refl
+
+-- and of one that is appended
+pub signed_is : (z : ℤ) → signed_decimal z ≡ integer_text z
+signed_is (pos n) = refl
+signed_is (negsuc n) = refl
 
 -- the text of an amount
 amount_is : (amount : Amount) → compact_text (object (amount_members amount no_members)) ≡ amount_text amount
@@ -85,3 +95,33 @@ refusal_in_bytes rule = refl
 pub status_in_bytes : StatusInBytes
 unfolding body_text serde_json_on_literals
 status_in_bytes status allow = refl
+
+-- the body of a reply
+pub reply_is : (reply : Reply) → reply_text reply ≡ body_text (pages.Reply reply)
+reply_is (Placed place) = sym (place_in_bytes place)
+reply_is (Refused rule) = sym (refusal_in_bytes rule)
+reply_is (Ticket ticket) = sym (ticket_in_bytes ticket)
+reply_is (Gain place amount) = sym (gain_in_bytes place amount)
+reply_is (Stock tank amount reading sample) = sym (stock_in_bytes tank amount reading sample)
+reply_is (Total entries amount) = sym (total_in_bytes entries amount)
+
+-- the pieces of a total, whose numbers are read, are its text
+pub total_appended : (entries : ℕ) (amount : Amount) (number : ℕ) (kg litres : ℤ) → number ≡ entries → kg ≡ amount.kg → litres ≡ amount.litres →
+    concat (codes "{\"entries\":" ∷ decimal number ∷ codes ",\"kg\":" ∷ signed_decimal kg ∷ codes ",\"litres\":" ∷ signed_decimal litres ∷ codes "}" ∷ []) ≡ total_text entries amount
+total_appended entries amount number kg litres is_number is_kg is_litres =
+    rw (is_number, is_kg, is_litres, signed_is amount.kg, signed_is amount.litres) refl
+
+-- and those of a gain
+pub gain_appended : (place : ℕ) (amount : Amount) (number : ℕ) (kg litres : ℤ) → number ≡ place → kg ≡ amount.kg → litres ≡ amount.litres →
+    concat (codes "{\"gain\":{\"kg\":" ∷ signed_decimal kg ∷ codes ",\"litres\":" ∷ signed_decimal litres ∷ codes "},\"place\":" ∷ decimal number ∷ codes "}" ∷ []) ≡ gain_text place amount
+gain_appended place amount number kg litres is_number is_kg is_litres =
+    rw (
+      is_number,
+      is_kg,
+      is_litres,
+      signed_is amount.kg,
+      signed_is amount.litres,
+      append_assoc (integer_text amount.kg) (codes ",\"litres\":" ++ integer_text amount.litres ++ codes "}") (codes ",\"place\":" ++ decimal place ++ codes "}"),
+      append_assoc (integer_text amount.litres) (codes "}") (codes ",\"place\":" ++ decimal place ++ codes "}"),
+    )
+    refl

@@ -3,6 +3,7 @@ use Rattle.std.specs.Prelude.{◌≡◌, ◌++◌, ℕ, suc, List, [], ◌∷◌
 use Rattle.std.specs.List.{concat}
 use Rattle.farm_fixed.specs.declared.records.Amount.{Amount}
 use Rattle.farm_fixed.specs.declared.records.Quantities.{Quantities}
+use Rattle.farm_history.specs.declared.reply.Reply.{Reply}
 use Rattle.farm_history.specs.declared.reply.Reply.TheVariants.{Gain, Placed, Refused, Stock, Ticket, Total}
 use Rattle.farm_history.specs.declared.rule.Rule.{Rule}
 use Rattle.farm_history.specs.RuleTable.{rule_number, rule_value}
@@ -55,31 +56,63 @@ ticket_text ticket =
     decimal ticket.party ∷ codes ",\"place\":" ∷ decimal ticket.place ∷ codes ",\"reverses\":" ∷ decimal ticket.reverses ∷
     codes ",\"sides\":" ∷ sides_text ticket.first ticket.second ∷ codes "}" ∷ [])
 
+-- the text of a place
+abbrev pub place_text : ℕ → List ℕ
+place_text place = concat (codes "{\"place\":" ∷ decimal place ∷ codes "}" ∷ [])
+
+-- the text of a refusal
+abbrev pub refusal_text : Rule → List ℕ
+refusal_text rule = concat (codes "{\"rule\":" ∷ decimal (rule_number rule) ∷ codes ",\"value\":" ∷ decimal (rule_value rule) ∷ codes "}" ∷ [])
+
+-- the text of a gain
+abbrev pub gain_text : ℕ → Amount → List ℕ
+gain_text place amount = concat (codes "{\"gain\":" ∷ amount_text amount ∷ codes ",\"place\":" ∷ decimal place ∷ codes "}" ∷ [])
+
+-- the text of a stock
+abbrev pub stock_text : ℕ → Amount → ℕ → ℕ → List ℕ
+stock_text tank amount reading sample =
+    concat (codes "{\"kg\":" ∷ integer_text amount.kg ∷ codes ",\"litres\":" ∷ integer_text amount.litres ∷ codes ",\"reading\":" ∷
+    decimal reading ∷ codes ",\"sample\":" ∷ decimal sample ∷ codes ",\"tank\":" ∷ decimal tank ∷ codes "}" ∷ [])
+
+-- the text of a total
+abbrev pub total_text : ℕ → Amount → List ℕ
+total_text entries amount =
+    concat (codes "{\"entries\":" ∷ decimal entries ∷ codes ",\"kg\":" ∷ integer_text amount.kg ∷ codes ",\"litres\":" ∷
+    integer_text amount.litres ∷ codes "}" ∷ [])
+
+-- the text of a status
+abbrev pub status_text : ℕ → List ℕ
+status_text status = concat (codes "{\"error\":" ∷ decimal status ∷ codes "}" ∷ [])
+
+-- the text of a reply
+abbrev pub reply_text : Reply → List ℕ
+reply_text (Placed place) = place_text place
+reply_text (Refused rule) = refusal_text rule
+reply_text (Ticket ticket) = ticket_text ticket
+reply_text (Gain place amount) = gain_text place amount
+reply_text (Stock tank amount reading sample) = stock_text tank amount reading sample
+reply_text (Total entries amount) = total_text entries amount
+
 -- the body of a place
 abbrev pub PlaceInBytes : Type 0
-PlaceInBytes = (place : ℕ) → body_text (pages.Reply (Placed place)) ≡ codes "{\"place\":" ++ decimal place ++ codes "}"
+PlaceInBytes = (place : ℕ) → body_text (pages.Reply (Placed place)) ≡ place_text place
 
 -- the body of a refusal
 abbrev pub RefusalInBytes : Type 0
-RefusalInBytes = (rule : Rule) → body_text (pages.Reply (Refused rule)) ≡
-    concat (codes "{\"rule\":" ∷ decimal (rule_number rule) ∷ codes ",\"value\":" ∷ decimal (rule_value rule) ∷ codes "}" ∷ [])
+RefusalInBytes = (rule : Rule) → body_text (pages.Reply (Refused rule)) ≡ refusal_text rule
 
 -- the body of a gain
 abbrev pub GainInBytes : Type 0
-GainInBytes = (place : ℕ) (amount : Amount) → body_text (pages.Reply (Gain place amount)) ≡
-    concat (codes "{\"gain\":" ∷ amount_text amount ∷ codes ",\"place\":" ∷ decimal place ∷ codes "}" ∷ [])
+GainInBytes = (place : ℕ) (amount : Amount) → body_text (pages.Reply (Gain place amount)) ≡ gain_text place amount
 
 -- the body of a stock
 abbrev pub StockInBytes : Type 0
 StockInBytes = (tank : ℕ) (amount : Amount) (reading sample : ℕ) → body_text (pages.Reply (Stock tank amount reading sample)) ≡
-    concat (codes "{\"kg\":" ∷ integer_text amount.kg ∷ codes ",\"litres\":" ∷ integer_text amount.litres ∷ codes ",\"reading\":" ∷
-    decimal reading ∷ codes ",\"sample\":" ∷ decimal sample ∷ codes ",\"tank\":" ∷ decimal tank ∷ codes "}" ∷ [])
+    stock_text tank amount reading sample
 
 -- the body of a total
 abbrev pub TotalInBytes : Type 0
-TotalInBytes = (entries : ℕ) (amount : Amount) → body_text (pages.Reply (Total entries amount)) ≡
-    concat (codes "{\"entries\":" ∷ decimal entries ∷ codes ",\"kg\":" ∷ integer_text amount.kg ∷ codes ",\"litres\":" ∷
-    integer_text amount.litres ∷ codes "}" ∷ [])
+TotalInBytes = (entries : ℕ) (amount : Amount) → body_text (pages.Reply (Total entries amount)) ≡ total_text entries amount
 
 -- the body of a ticket
 abbrev pub TicketInBytes : Type 0
@@ -87,5 +120,4 @@ TicketInBytes = (ticket : tickets.Ticket) → body_text (pages.Reply (Ticket tic
 
 -- the body of a status
 abbrev pub StatusInBytes : Type 0
-StatusInBytes = (status : ℕ) (allow : Option Allow) → body_text (pages.Status status allow) ≡ concat (codes "{\"error\":" ∷
-    decimal status ∷ codes "}" ∷ [])
+StatusInBytes = (status : ℕ) (allow : Option Allow) → body_text (pages.Status status allow) ≡ status_text status

@@ -1,6 +1,6 @@
 -- Members of an object that are numbers.
 use Rattle.std.specs.Prelude.{ℕ, List, ℤ}
-use Rattle.serde_json.specs.Data.{Members, member, number, put, unsigned}
+use Rattle.serde_json.specs.Data.{Members, member, number, unsigned}
 use Rattle.serde_json.specs.Find.{of_integer}
 
 -- a member that is a number
@@ -10,11 +10,3 @@ numbered name value members = member name (number (unsigned value)) members
 -- a member that is a number of either sign
 abbrev pub signed : List ℕ → ℤ → Members → Members
 signed name value members = member name (number (of_integer value)) members
-
--- members, with a number at a name
-abbrev pub with_natural : List ℕ → ℕ → Members → Members
-with_natural name value members = put name (number (unsigned value)) members
-
--- members, with a number of either sign at a name
-abbrev pub with_number : List ℕ → ℤ → Members → Members
-with_number name value members = put name (number (of_integer value)) members

@@ -1,23 +1,18 @@
 -- The bodies of answers: JSON without blanks, its members in sorted order.
 use Rattle.std.specs.Prelude.{◌≡◌, ◌⊎◌, ◌↔◌, ℕ, List, codes, IsSome}
-use Rattle.serde_json.specs.Data.{Members, member, no_members, object, put}
+use Rattle.serde_json.specs.Data.{Members, member, no_members, object}
 use Rattle.serde_json.specs.Written.{compact_text}
 use Rattle.farm_fixed.specs.declared.records.Amount.{Amount}
-use Rattle.farm_history.specs.declared.reply.Reply.{Reply}
 use Rattle.farm_history.specs.declared.reply.Reply.TheVariants.{Gain, Placed, Refused, Stock, Ticket, Total}
 use Rattle.farm_history.specs.RuleTable.{rule_number, rule_value}
-use Rattle.farm_http.specs.Objects.{numbered, signed, with_natural, with_number}
-use Rattle.farm_http.specs.Tickets.{ticket_members, with_ticket}
+use Rattle.farm_http.specs.Objects.{numbered, signed}
+use Rattle.farm_http.specs.Tickets.{ticket_members}
 use Rattle.farm_http.specs.declared.page.Page.{Page}
 use Rattle.farm_http.specs.declared.page.Page.TheVariants as pages
 
 -- the members of an amount, with those after it
 abbrev pub amount_members : Amount → Members → Members
 amount_members amount members = signed (codes "kg") amount.kg (signed (codes "litres") amount.litres members)
-
--- members, with an amount
-abbrev pub with_amount : Amount → Members → Members
-with_amount amount members = with_number (codes "litres") amount.litres (with_number (codes "kg") amount.kg members)
 
 -- the members of an answer
 abbrev pub members_of : Page → Members
@@ -30,21 +25,6 @@ members_of (pages.Reply (Stock tank amount reading sample)) =
     amount_members amount (numbered (codes "reading") reading (numbered (codes "sample") sample (numbered (codes "tank") tank no_members)))
 members_of (pages.Reply (Total entries amount)) = numbered (codes "entries") entries (amount_members amount no_members)
 members_of (pages.Status status allow) = numbered (codes "error") status no_members
-
--- members, with what a reply has
-abbrev pub with_reply : Reply → Members → Members
-with_reply (Placed place) members = with_natural (codes "place") place members
-with_reply (Refused rule) members = with_natural (codes "value") (rule_value rule) (with_natural (codes "rule") (rule_number rule) members)
-with_reply (Ticket ticket) members = with_ticket ticket members
-with_reply (Gain place amount) members = with_natural (codes "place") place (put (codes "gain") (object (amount_members amount no_members)) members)
-with_reply (Stock tank amount reading sample) members =
-    with_natural (codes "tank") tank (with_natural (codes "sample") sample (with_natural (codes "reading") reading (with_amount amount members)))
-with_reply (Total entries amount) members = with_amount amount (with_natural (codes "entries") entries members)
-
--- members, with what an answer has
-abbrev pub with_page : Page → Members → Members
-with_page (pages.Reply reply) members = with_reply reply members
-with_page (pages.Status status allow) members = with_natural (codes "error") status members
 
 -- the text of an answer's body
 unfoldable pub body_text : Page → List ℕ

@@ -1,25 +1,13 @@
 -- The members of a ticket's body, in sorted order. Volumes are whole litres, masses whole kilograms, and factors are in 0.00001.
 use Rattle.std.specs.Prelude.{ℕ, List, codes, Option, Some, None}
-use Rattle.serde_json.specs.Data.{Data, Members, array, item, member, no_items, no_members, object, put, string}
+use Rattle.serde_json.specs.Data.{Data, Members, array, item, member, no_items, no_members, object, string}
 use Rattle.farm_fixed.specs.declared.records.Quantities.{Quantities}
 use Rattle.farm_ticket.specs.Tickets.{Ticket}
 use Rattle.farm_ticket.specs.declared.side.Moved.{Moved}
 use Rattle.farm_ticket.specs.declared.side.Side.{Side}
 use Rattle.farm_ticket.specs.declared.side.Way.{Way}
 use Rattle.farm_ticket.specs.declared.side.Way.TheVariants.{Inward, Outward}
-use Rattle.farm_http.specs.Objects.{numbered, signed, with_natural, with_number}
-
--- members, with the figures up to the gross observed volume
-abbrev pub with_observed : Quantities → Members → Members
-with_observed q members =
-    with_number (codes "gov") q.gov (with_number (codes "fra") q.fra (with_number (codes "ctsh") q.ctsh
-    (with_number (codes "fw") q.fw (with_number (codes "tov") q.tov members))))
-
--- members, with the figures from the correction factor on
-abbrev pub with_standard : Quantities → Members → Members
-with_standard q members =
-    with_number (codes "mass") q.mass (with_number (codes "swv") q.swv (with_number (codes "nsv") q.nsv
-    (with_number (codes "gsv") q.gsv (with_number (codes "vcf") q.vcf members))))
+use Rattle.farm_http.specs.Objects.{numbered, signed}
 
 -- the ten figures
 unfoldable pub figures_value : Quantities → Data
@@ -31,11 +19,6 @@ figures_value q = object (
 -- what moved
 unfoldable pub moved_value : Moved → Data
 moved_value m = object (signed (codes "gsv") m.gsv (signed (codes "kg") m.mass (signed (codes "nsv") m.nsv (signed (codes "swv") m.swv no_members))))
-
--- members, with what moved
-abbrev pub with_moved : Moved → Members → Members
-with_moved m members =
-    with_number (codes "swv") m.swv (with_number (codes "nsv") m.nsv (with_number (codes "kg") m.mass (with_number (codes "gsv") m.gsv members)))
 
 -- the word of a way
 abbrev pub way_word : Way → List ℕ
@@ -49,12 +32,6 @@ side_value side = object (
     (member (codes "opening") (figures_value side.opening) (numbered (codes "tank") side.tank
     (member (codes "way") (string (way_word side.way)) no_members)))))
 
--- members, with what a side has
-abbrev pub with_side : Side → Members → Members
-with_side side members =
-    put (codes "way") (string (way_word side.way)) (with_natural (codes "tank") side.tank (put (codes "opening") (figures_value side.opening)
-    (put (codes "moved") (moved_value side.moved) (put (codes "closing") (figures_value side.closing) members))))
-
 -- the sides of a ticket: the first, and the second where there is one
 abbrev pub sides_value : Side → Option Side → Data
 sides_value first None = array (item (side_value first) no_items)
@@ -66,10 +43,3 @@ ticket_members ticket =
     numbered (codes "movement") ticket.movement (numbered (codes "number") ticket.number (numbered (codes "party") ticket.party
     (numbered (codes "place") ticket.place (numbered (codes "reverses") ticket.reverses
     (member (codes "sides") (sides_value ticket.first ticket.second) no_members)))))
-
--- members, with what a ticket has
-abbrev pub with_ticket : Ticket → Members → Members
-with_ticket ticket members =
-    put (codes "sides") (sides_value ticket.first ticket.second) (with_natural (codes "reverses") ticket.reverses
-    (with_natural (codes "place") ticket.place (with_natural (codes "party") ticket.party (with_natural (codes "number") ticket.number
-    (with_natural (codes "movement") ticket.movement members)))))

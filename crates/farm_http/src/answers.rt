@@ -1,110 +1,131 @@
 //! The bodies of answers.
 
-ghost use Rattle.std.specs.Prelude.{◌≡◌, IfOk, OnOk, false};
-ghost use Rattle.serde_json.specs.Data.{no_members, object};
-ghost use Rattle.serde_json.specs.View.{members_view, view};
-ghost use Rattle.serde_json.specs.Written.{has_float};
 ghost use Rattle.farm_base.specs.Appended.{Appends};
-ghost use Rattle.farm_http.specs.PageTexts.{IsAnswer, amount_members, body_text, members_of, with_amount, with_page, with_reply};
-ghost use Rattle.farm_http.specs.Bodies.{GainInBytes, PlaceInBytes, RefusalInBytes, StatusInBytes, StockInBytes, TicketInBytes, TotalInBytes};
+ghost use Rattle.farm_http.specs.PageTexts.{IsAnswer, body_text};
+ghost use Rattle.farm_http.specs.Bodies.{GainInBytes, PlaceInBytes, RefusalInBytes, StatusInBytes, StockInBytes, TicketInBytes, TotalInBytes, gain_text, reply_text, stock_text, total_text};
 
 use crate::Page;
-use crate::objects::put_number;
-use crate::tickets::put_ticket;
+use crate::tickets::append_ticket;
 use farm_base::NoMemory;
 use farm_fixed::Amount;
 use farm_history::Reply;
-use serde_json::{Map, Value, put};
-use std::alloc::{AllocError, Global};
+use text_pieces::{Piece, append};
 
 /// Appends the body of an answer. On `NoMemory` the buffer is as before.
-#[tactic(auto, unfolding(crate::specs::PageTexts::body_text))]
-pub fn body(alloc: Global, page: &Page, out: &mut Vec<u8>) -> Result<(), NoMemory>
+pub fn body(page: &Page, out: &mut Vec<u8>) -> Result<(), NoMemory>
     requires page { IsAnswer page.now }
     ensures appended { Appends out.old.items out.new.items (body_text page.now) result }
 {
-    let text = object_of(alloc, page)?.to_vec(alloc)?;
-    out.extend_from_slice(&text)?;
-    Ok(())
-}
-
-// The object of an answer. It has no float, of whose text the kit's writer says less.
-fn object_of(alloc: Global, page: &Page) -> Result<Value, AllocError>
-    ensures object { IfOk result (λ value. view value ≡ object (members_of page.now)) }
-    ensures no_float { IfOk result (λ value. has_float (view value) ≡ false) }
-{
-    let mut members = Map::new(alloc);
-    put_page(alloc, &mut members, page)?;
-    Ok(Value::Object(members))
-}
-
-// Puts in what an answer has.
-fn put_page(alloc: Global, members: &mut Map<String, Value>, page: &Page) -> Result<(), AllocError>
-    ensures put { OnOk result (members_view members.new.entries ≡ with_page page.now (members_view members.old.entries)) }
-{
     match page {
-        Page::Reply(reply) => put_reply(alloc, members, reply),
-        Page::Status(status, _) => put_number(alloc, members, "error", i64::from(*status)),
+        Page::Reply(reply) => append_reply(reply, out),
+        Page::Status(status, _) => append(
+            out,
+            &[
+                Piece::Text(b"{\"error\":"),
+                Piece::Number(u64::from(*status)),
+                Piece::Text(b"}"),
+            ],
+        ),
     }
 }
 
-// Puts in what a reply has.
-fn put_reply(
-    alloc: Global,
-    members: &mut Map<String, Value>,
-    reply: &Reply,
-) -> Result<(), AllocError>
-    ensures put { OnOk result (members_view members.new.entries ≡ with_reply reply.now (members_view members.old.entries)) }
+// Appends the body of a reply.
+fn append_reply(reply: &Reply, out: &mut Vec<u8>) -> Result<(), NoMemory>
+    ensures appended { Appends out.old.items out.new.items (reply_text reply.now) result }
 {
     match reply {
-        Reply::Placed(place) => put_number(alloc, members, "place", i64::from(*place)),
-        Reply::Ticket(ticket) => put_ticket(alloc, members, ticket),
-        Reply::Gain { place, amount } => {
-            put(members, alloc, "gain", amount_value(alloc, amount)?)?;
-            put_number(alloc, members, "place", i64::from(*place))
-        }
+        Reply::Placed(place) => append(
+            out,
+            &[
+                Piece::Text(b"{\"place\":"),
+                Piece::Number(u64::from(*place)),
+                Piece::Text(b"}"),
+            ],
+        ),
+        Reply::Ticket(ticket) => append_ticket(ticket, out),
+        Reply::Gain { place, amount } => append_gain(*place, amount, out),
         Reply::Stock {
             tank,
             amount,
             reading,
             sample,
-        } => {
-            put_amount(alloc, members, amount)?;
-            put_number(alloc, members, "reading", i64::from(*reading))?;
-            put_number(alloc, members, "sample", i64::from(*sample))?;
-            put_number(alloc, members, "tank", i64::from(*tank))
-        }
-        Reply::Total { entries, amount } => {
-            put_number(alloc, members, "entries", i64::from(*entries))?;
-            put_amount(alloc, members, amount)
-        }
-        Reply::Refused(rule) => {
-            put_number(alloc, members, "rule", i64::from(rule.number()))?;
-            put_number(alloc, members, "value", i64::from(rule.value()))
-        }
+        } => append_stock(*tank, amount, *reading, *sample, out),
+        Reply::Total { entries, amount } => append_total(*entries, amount, out),
+        Reply::Refused(rule) => append(
+            out,
+            &[
+                Piece::Text(b"{\"rule\":"),
+                Piece::Number(u64::from(rule.number())),
+                Piece::Text(b",\"value\":"),
+                Piece::Number(u64::from(rule.value())),
+                Piece::Text(b"}"),
+            ],
+        ),
     }
 }
 
-// The object of a gain.
-#[tactic(auto, unfolding(serde_json::proofs::OnLiterals::serde_json_on_literals))]
-fn amount_value(alloc: Global, amount: &Amount) -> Result<Value, AllocError>
-    ensures object { IfOk result (λ value. view value ≡ object (amount_members amount.now no_members)) }
+// Appends the body of a gain.
+fn append_gain(place: u32, amount: &Amount, out: &mut Vec<u8>) -> Result<(), NoMemory>
+    ensures appended { Appends out.old.items out.new.items (gain_text place amount.now) result }
 {
-    let mut members = Map::new(alloc);
-    put_amount(alloc, &mut members, amount)?;
-    Ok(Value::Object(members))
+    append(
+        out,
+        &[
+            Piece::Text(b"{\"gain\":{\"kg\":"),
+            Piece::Signed(amount.kg),
+            Piece::Text(b",\"litres\":"),
+            Piece::Signed(amount.litres),
+            Piece::Text(b"},\"place\":"),
+            Piece::Number(u64::from(place)),
+            Piece::Text(b"}"),
+        ],
+    )
 }
 
-// Puts in an amount.
-fn put_amount(
-    alloc: Global,
-    members: &mut Map<String, Value>,
+// Appends the body of a stock.
+fn append_stock(
+    tank: u16,
     amount: &Amount,
-) -> Result<(), AllocError>
-    ensures put { OnOk result (members_view members.new.entries ≡ with_amount amount.now (members_view members.old.entries)) }
+    reading: u32,
+    sample: u32,
+    out: &mut Vec<u8>,
+) -> Result<(), NoMemory>
+    ensures appended { Appends out.old.items out.new.items (stock_text tank amount.now reading sample) result }
 {
-    put_number(alloc, members, "kg", amount.kg)?;
-    put_number(alloc, members, "litres", amount.litres)
+    append(
+        out,
+        &[
+            Piece::Text(b"{\"kg\":"),
+            Piece::Signed(amount.kg),
+            Piece::Text(b",\"litres\":"),
+            Piece::Signed(amount.litres),
+            Piece::Text(b",\"reading\":"),
+            Piece::Number(u64::from(reading)),
+            Piece::Text(b",\"sample\":"),
+            Piece::Number(u64::from(sample)),
+            Piece::Text(b",\"tank\":"),
+            Piece::Number(u64::from(tank)),
+            Piece::Text(b"}"),
+        ],
+    )
+}
+
+// Appends the body of a total.
+fn append_total(entries: u32, amount: &Amount, out: &mut Vec<u8>) -> Result<(), NoMemory>
+    ensures appended { Appends out.old.items out.new.items (total_text entries amount.now) result }
+{
+    append(
+        out,
+        &[
+            Piece::Text(b"{\"entries\":"),
+            Piece::Number(u64::from(entries)),
+            Piece::Text(b",\"kg\":"),
+            Piece::Signed(amount.kg),
+            Piece::Text(b",\"litres\":"),
+            Piece::Signed(amount.litres),
+            Piece::Text(b"}"),
+        ],
+    )
 }
 
 /// Does nothing: its contract says what bodies are, byte by byte.

@@ -8,7 +8,6 @@ mod answers;
 mod commands;
 mod members;
 mod number_laws;
-mod objects;
 mod page;
 mod requests;
 mod tickets;

@@ -1,140 +1,137 @@
-//! The objects of tickets.
+//! The bodies of tickets. A function whose name begins with `write` appends its text, or fails after a prefix of it.
 
-ghost use Rattle.std.specs.Prelude.{◌≡◌, IfOk, OnOk};
-ghost use Rattle.serde_json.specs.Data.{string};
-ghost use Rattle.serde_json.specs.View.{members_view, view};
-ghost use Rattle.farm_http.specs.Tickets.{figures_value, moved_value, side_value, sides_value, way_word, with_moved, with_observed, with_side, with_standard, with_ticket};
+ghost use Rattle.std.specs.Prelude.{◌≡◌, ◌++◌};
+ghost use Rattle.farm_base.specs.Appended.{Appends};
+ghost use Rattle.text_pieces.specs.Pieces.{Lengthens};
+ghost use Rattle.farm_http.specs.Bodies.{figures_text, moved_text, side_text, ticket_text};
+ghost use Rattle.farm_http.specs.Tickets.{way_word};
 
-use crate::objects::put_number;
+use farm_base::NoMemory;
 use farm_fixed::Quantities;
 use farm_ticket::{Moved, Side, Ticket, Way};
-use serde_json::{Map, Value, push, put};
-use std::alloc::{AllocError, Global};
+use text_pieces::{Piece, append};
 
-/// Puts in what a ticket has.
-pub(crate) fn put_ticket(
-    alloc: Global,
-    members: &mut Map<String, Value>,
-    ticket: &Ticket,
-) -> Result<(), AllocError>
-    ensures put { OnOk result (members_view members.new.entries ≡ with_ticket ticket.now (members_view members.old.entries)) }
+/// Appends the body of a ticket. On `NoMemory` the buffer is as before.
+pub(crate) fn append_ticket(ticket: &Ticket, out: &mut Vec<u8>) -> Result<(), NoMemory>
+    ensures appended { Appends out.old.items out.new.items (ticket_text ticket.now) result }
 {
-    put_number(alloc, members, "movement", i64::from(ticket.movement))?;
-    put_number(alloc, members, "number", i64::from(ticket.number))?;
-    put_number(alloc, members, "party", i64::from(ticket.party))?;
-    put_number(alloc, members, "place", i64::from(ticket.place))?;
-    put_number(alloc, members, "reverses", i64::from(ticket.reverses))?;
-    put(members, alloc, "sides", sides_value(alloc, ticket)?)
-}
-
-// The list of a ticket's sides.
-fn sides_value(alloc: Global, ticket: &Ticket) -> Result<Value, AllocError>
-    ensures sides { IfOk result (λ value. view value ≡ sides_value ticket.now.first ticket.now.second) }
-{
-    let mut sides = Vec::new(alloc);
-    push(&mut sides, side_value(alloc, &ticket.first)?)?;
-    if let Some(second) = &ticket.second {
-        push(&mut sides, side_value(alloc, second)?)?;
+    let before = out.len();
+    let written = write_ticket(ticket, out);
+    if written.is_err() {
+        out.truncate(before);
     }
-    Ok(Value::Array(sides))
+    written
 }
 
-// A side.
-#[tactic(auto, unfolding(crate::specs::Tickets::side_value, serde_json::proofs::OnLiterals::serde_json_on_literals))]
-fn side_value(alloc: Global, side: &Side) -> Result<Value, AllocError>
-    ensures side { IfOk result (λ value. view value ≡ side_value side.now) }
+// The body of a ticket.
+fn write_ticket(ticket: &Ticket, out: &mut Vec<u8>) -> Result<(), NoMemory>
+    ensures ticket { Lengthens out.old.items out.new.items (ticket_text ticket.now) result }
 {
-    let mut members = Map::new(alloc);
-    put_side(alloc, &mut members, side)?;
-    Ok(Value::Object(members))
+    append(
+        out,
+        &[
+            Piece::Text(b"{\"movement\":"),
+            Piece::Number(u64::from(ticket.movement)),
+            Piece::Text(b",\"number\":"),
+            Piece::Number(u64::from(ticket.number)),
+            Piece::Text(b",\"party\":"),
+            Piece::Number(u64::from(ticket.party)),
+            Piece::Text(b",\"place\":"),
+            Piece::Number(u64::from(ticket.place)),
+            Piece::Text(b",\"reverses\":"),
+            Piece::Number(u64::from(ticket.reverses)),
+            Piece::Text(b",\"sides\":["),
+        ],
+    )?;
+    match &ticket.second {
+        None => write_side(&ticket.first, b"]}", out),
+        Some(second) => {
+            write_side(&ticket.first, b",", out)?;
+            write_side(second, b"]}", out)
+        }
+    }
 }
 
-// Puts in what a side has.
-fn put_side(alloc: Global, members: &mut Map<String, Value>, side: &Side) -> Result<(), AllocError>
-    ensures put { OnOk result (members_view members.new.entries ≡ with_side side.now (members_view members.old.entries)) }
+// A side, and a text after it.
+fn write_side(side: &Side, end: &[u8], out: &mut Vec<u8>) -> Result<(), NoMemory>
+    ensures side { Lengthens out.old.items out.new.items (side_text side.now ++ end.now) result }
 {
-    let closing = figures_value(alloc, &side.closing)?;
-    put(members, alloc, "closing", closing)?;
-    let moved = moved_value(alloc, &side.moved)?;
-    put(members, alloc, "moved", moved)?;
-    let opening = figures_value(alloc, &side.opening)?;
-    put(members, alloc, "opening", opening)?;
-    put_number(alloc, members, "tank", i64::from(side.tank))?;
-    put(members, alloc, "way", way_value(alloc, side.way)?)
+    write_figures(b"{\"closing\":", &side.closing, out)?;
+    write_moved(b",\"moved\":", &side.moved, out)?;
+    write_figures(b",\"opening\":", &side.opening, out)?;
+    append(
+        out,
+        &[
+            Piece::Text(b",\"tank\":"),
+            Piece::Number(u64::from(side.tank)),
+            Piece::Text(b",\"way\":\""),
+            Piece::Text(way_word(side.way)),
+            Piece::Text(b"\"}"),
+            Piece::Text(end),
+        ],
+    )
 }
 
-// The ten figures.
-#[tactic(auto, unfolding(crate::specs::Tickets::figures_value, serde_json::proofs::OnLiterals::serde_json_on_literals))]
-fn figures_value(alloc: Global, figures: &Quantities) -> Result<Value, AllocError>
-    ensures figures { IfOk result (λ value. view value ≡ figures_value figures.now) }
+// A text, and the ten figures after it.
+fn write_figures(front: &[u8], figures: &Quantities, out: &mut Vec<u8>) -> Result<(), NoMemory>
+    ensures figures { Appends out.old.items out.new.items (front.now ++ figures_text figures.now) result }
 {
-    let mut members = Map::new(alloc);
-    put_observed(alloc, &mut members, figures)?;
-    put_standard(alloc, &mut members, figures)?;
-    Ok(Value::Object(members))
+    append(
+        out,
+        &[
+            Piece::Text(front),
+            Piece::Text(b"{\"ctsh\":"),
+            Piece::Signed(figures.ctsh.get()),
+            Piece::Text(b",\"fra\":"),
+            Piece::Signed(figures.fra.get()),
+            Piece::Text(b",\"fw\":"),
+            Piece::Signed(figures.fw.get()),
+            Piece::Text(b",\"gov\":"),
+            Piece::Signed(figures.gov.get()),
+            Piece::Text(b",\"gsv\":"),
+            Piece::Signed(figures.gsv.get()),
+            Piece::Text(b",\"mass\":"),
+            Piece::Signed(figures.mass.get()),
+            Piece::Text(b",\"nsv\":"),
+            Piece::Signed(figures.nsv.get()),
+            Piece::Text(b",\"swv\":"),
+            Piece::Signed(figures.swv.get()),
+            Piece::Text(b",\"tov\":"),
+            Piece::Signed(figures.tov.get()),
+            Piece::Text(b",\"vcf\":"),
+            Piece::Signed(figures.vcf.get()),
+            Piece::Text(b"}"),
+        ],
+    )
 }
 
-// Puts in the figures up to the gross observed volume.
-fn put_observed(
-    alloc: Global,
-    members: &mut Map<String, Value>,
-    figures: &Quantities,
-) -> Result<(), AllocError>
-    ensures put { OnOk result (members_view members.new.entries ≡ with_observed figures.now (members_view members.old.entries)) }
+// A text, and what moved after it.
+fn write_moved(front: &[u8], moved: &Moved, out: &mut Vec<u8>) -> Result<(), NoMemory>
+    ensures moved { Appends out.old.items out.new.items (front.now ++ moved_text moved.now) result }
 {
-    put_number(alloc, members, "tov", figures.tov.get())?;
-    put_number(alloc, members, "fw", figures.fw.get())?;
-    put_number(alloc, members, "ctsh", figures.ctsh.get())?;
-    put_number(alloc, members, "fra", figures.fra.get())?;
-    put_number(alloc, members, "gov", figures.gov.get())
-}
-
-// Puts in the figures from the correction factor on.
-fn put_standard(
-    alloc: Global,
-    members: &mut Map<String, Value>,
-    figures: &Quantities,
-) -> Result<(), AllocError>
-    ensures put { OnOk result (members_view members.new.entries ≡ with_standard figures.now (members_view members.old.entries)) }
-{
-    put_number(alloc, members, "vcf", figures.vcf.get())?;
-    put_number(alloc, members, "gsv", figures.gsv.get())?;
-    put_number(alloc, members, "nsv", figures.nsv.get())?;
-    put_number(alloc, members, "swv", figures.swv.get())?;
-    put_number(alloc, members, "mass", figures.mass.get())
-}
-
-// What moved.
-#[tactic(auto, unfolding(crate::specs::Tickets::moved_value, serde_json::proofs::OnLiterals::serde_json_on_literals))]
-fn moved_value(alloc: Global, moved: &Moved) -> Result<Value, AllocError>
-    ensures moved { IfOk result (λ value. view value ≡ moved_value moved.now) }
-{
-    let mut members = Map::new(alloc);
-    put_moved(alloc, &mut members, moved)?;
-    Ok(Value::Object(members))
-}
-
-// Puts in what moved.
-fn put_moved(
-    alloc: Global,
-    members: &mut Map<String, Value>,
-    moved: &Moved,
-) -> Result<(), AllocError>
-    ensures put { OnOk result (members_view members.new.entries ≡ with_moved moved.now (members_view members.old.entries)) }
-{
-    put_number(alloc, members, "gsv", moved.gsv)?;
-    put_number(alloc, members, "kg", moved.mass)?;
-    put_number(alloc, members, "nsv", moved.nsv)?;
-    put_number(alloc, members, "swv", moved.swv)
+    append(
+        out,
+        &[
+            Piece::Text(front),
+            Piece::Text(b"{\"gsv\":"),
+            Piece::Signed(moved.gsv),
+            Piece::Text(b",\"kg\":"),
+            Piece::Signed(moved.mass),
+            Piece::Text(b",\"nsv\":"),
+            Piece::Signed(moved.nsv),
+            Piece::Text(b",\"swv\":"),
+            Piece::Signed(moved.swv),
+            Piece::Text(b"}"),
+        ],
+    )
 }
 
 // The word of a way.
-fn way_value(alloc: Global, way: Way) -> Result<Value, AllocError>
-    ensures word { IfOk result (λ value. view value ≡ string (way_word way)) }
+fn way_word(way: Way) -> &'static [u8]
+    ensures word { result.now ≡ way_word way }
 {
-    let word = match way {
-        Way::Inward => "in",
-        Way::Outward => "out",
-    };
-    Ok(Value::String(String::from_str(alloc, word)?))
+    match way {
+        Way::Inward => b"in",
+        Way::Outward => b"out",
+    }
 }

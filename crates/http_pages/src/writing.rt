@@ -29,7 +29,7 @@ pub fn page(alloc: Global, answer: &Page, last: bool, out: &mut Vec<u8>) -> Resu
     ensures whole { OnOk result (IsWholePage (drop (length out.old.items) out.new.items) (body_text answer.now)) }
 {
     let mut content = Vec::new(alloc);
-    body(alloc, answer, &mut content)?;
+    body(answer, &mut content)?;
     out.reserve(content.len().saturating_add(MOST_PAGE_HEAD_BYTES))?;
     append_page(answer, last, &content, out)
 }

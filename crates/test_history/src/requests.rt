@@ -197,7 +197,7 @@ fn body_of(alloc: Global, page: &Page) -> Result<Vec<u8>, NoMemory>
     requires { IsAnswer page.now }
 {
     let mut out = Vec::new(alloc);
-    if let Err(fault) = body(alloc, page, &mut out) {
+    if let Err(fault) = body(page, &mut out) {
         drop(out);
         return Err(fault);
     }
