@@ -175,7 +175,9 @@ if os.path.exists(f"{WORK}/poll_client"):
     finally:
         server.kill()
 
-# The bytes of a site with every list at its limit. What a run takes beside its loop, as reading the folder, is taken off.
+# The bytes of a site with every list at its limit. What a run takes beside its loop, as reading the folder, is taken off. The memory of each
+# copy, each writing and each large list is new from the system: a copy into memory that was used before takes no page faults.
+os.environ["MALLOC_MMAP_THRESHOLD_"] = "131072"
 SITE = [built("site_bench"), f"{WORK}/limits"]
 begun = {what: least([*SITE, what, "0"], 5) for what in ("copy", "write", "read")}
 spent = {what: (least([*SITE, what, "40"], 5) - begun[what]) / 40 for what in ("copy", "write", "read")}
