@@ -1,17 +1,17 @@
-//! A book: it judges an entry by the history that it keeps, makes room for it, takes it in, and answers look-ups.
+//! A book: it judges an entry by the history that it keeps, makes room for it, and takes it in.
 
-ghost use Rattle.std.specs.Prelude.{◌≡◌, ◌+◌, ◌≤◌, ℕ, All, IfOk, IfSome, IsFalse, IsNone, IsOk, IsSome, IsTrue, OnErr, OnOk, option_map};
+ghost use Rattle.std.specs.Prelude.{◌≡◌, ◌+◌, ◌≤◌, ℕ, All, IfOk, IfSome, IsFalse, IsOk, IsTrue, OnErr, OnOk, option_map};
 ghost use Rattle.farm_stock.specs.Books.{plus};
 ghost use Rattle.farm_stock.specs.Postings.{amount_of, at_tank};
 ghost use Rattle.farm_book.specs.Kept.{IsSound};
-ghost use Rattle.farm_book.specs.Replies.{IsGainReply, IsStockReply, IsTicketReply, IsTotalReply, IssuesAt, SettlesAt};
+ghost use Rattle.farm_book.specs.Replies.{IsGainReply, IsTicketReply, IssuesAt, SettlesAt};
 ghost use Rattle.farm_indexes.specs.Figured.{AreFiguresOf};
 ghost use Rattle.history_lookups.specs.Bounds.{IsSmallTicket};
 ghost use Rattle.history_lookups.specs.Pasts.{IsReadable};
 ghost use Rattle.farm_history.specs.Commands.{is_settle, issues_ticket};
 ghost use Rattle.farm_history.specs.Conservation.{Moves};
-ghost use Rattle.farm_history.specs.Desk.{looked_up, reply_at};
-ghost use Rattle.farm_history.specs.History.{IsMoment, IsWellFormed, empty_history, last_moment, last_place, tank_after, with_entry};
+ghost use Rattle.farm_history.specs.Desk.{reply_at};
+ghost use Rattle.farm_history.specs.History.{IsMoment, IsWellFormed, empty_history, last_moment, last_place, with_entry};
 ghost use Rattle.farm_history.specs.Postings.{postings_at};
 ghost use Rattle.farm_history.specs.Rules.{has_same_key};
 ghost use Rattle.farm_history.specs.Sites.{AreRising};
@@ -25,7 +25,7 @@ ghost use Rattle.farm_site.specs.Sites.{described};
 use crate::judging::judged;
 use crate::tables::table_facts;
 use farm_base::NoMemory;
-use farm_history::{Entry, Query, Reply, Rule, Verdict, history_laws};
+use farm_history::{Entry, Reply, Verdict, history_laws};
 use farm_indexes::{Figured, Indexed, Indexes, PastFacts};
 use farm_site::Site;
 use farm_ticket::Ticket;
@@ -182,75 +182,6 @@ impl<const LIMIT: usize> Book<LIMIT> {
         match self.facts().gain_at(place) {
             Some(amount) => Reply::Gain { place, amount },
             None => Reply::Placed(place),
-        }
-    }
-
-    /// The answer to a look-up. Takes no memory.
-    ///
-    /// Of a ticket it is the ticket of the place, or `Refused(UnknownTicket)` exactly where no Closing and no Reverse stands there. Of
-    /// a stock it is the book of the tank with its last reading and its last sample, or `Refused(UnknownTank)` exactly where the site
-    /// has no such tank. Of the total it is the number of entries and the sum of the books.
-    #[tactic(auto, unfolding(farm_history::specs::Desk::looked_up))]
-    pub fn look(&self, query: &Query) -> Reply
-        ensures looked_up { result ≡ looked_up self.now.history query.now }
-        ensures ticket { (place : ℕ) → query.now ≡ Query.Ticket place → IssuesAt self.now.history place →
-            IsTicketReply self.now.history place result }
-        ensures none { (place : ℕ) → query.now ≡ Query.Ticket place → ¬ (IssuesAt self.now.history place) →
-            result ≡ Reply.Refused Rule.UnknownTicket }
-        ensures stock { (tank : ℕ) → query.now ≡ Query.Stock tank → IsSome (tank_after self.now.history tank) →
-            IsStockReply self.now.history tank result }
-        ensures no_tank { (tank : ℕ) → query.now ≡ Query.Stock tank → IsNone (tank_after self.now.history tank) →
-            result ≡ Reply.Refused Rule.UnknownTank }
-        ensures total { query.now ≡ Query.Total → IsTotalReply self.now.history result }
-    {
-        match query {
-            Query::Ticket(place) => self.look_at_ticket(*place),
-            Query::Stock(tank) => self.look_at_stock(*tank),
-            Query::Total => self.look_at_total(),
-        }
-    }
-
-    // The ticket of a place.
-    #[tactic(auto, unfolding(farm_history::specs::Desk::looked_up))]
-    fn look_at_ticket(&self, place: u32) -> Reply
-        ensures looked_up { result ≡ looked_up self.now.history (Query.Ticket place) }
-        ensures ticket { IssuesAt self.now.history place → IsTicketReply self.now.history place result }
-        ensures none { ¬ (IssuesAt self.now.history place) → result ≡ Reply.Refused Rule.UnknownTicket }
-    {
-        match self.facts().ticket_at(place) {
-            Some(ticket) => Reply::Ticket(ticket),
-            None => Reply::Refused(Rule::UnknownTicket),
-        }
-    }
-
-    // The book of a tank.
-    #[tactic(auto, unfolding(farm_history::specs::Desk::looked_up))]
-    fn look_at_stock(&self, tank: u16) -> Reply
-        ensures looked_up { result ≡ looked_up self.now.history (Query.Stock tank) }
-        ensures stock { IsSome (tank_after self.now.history tank) → IsStockReply self.now.history tank result }
-        ensures no_tank { IsNone (tank_after self.now.history tank) → result ≡ Reply.Refused Rule.UnknownTank }
-    {
-        let facts = self.facts();
-        match facts.book_of(tank) {
-            Some(amount) => Reply::Stock {
-                tank,
-                amount,
-                reading: facts.last_reading(tank).unwrap_or(0),
-                sample: facts.last_sample(tank).unwrap_or(0),
-            },
-            None => Reply::Refused(Rule::UnknownTank),
-        }
-    }
-
-    // What the terminal holds in all.
-    #[tactic(auto, unfolding(farm_history::specs::Desk::looked_up))]
-    fn look_at_total(&self) -> Reply
-        ensures looked_up { result ≡ looked_up self.now.history Query.Total }
-        ensures total { IsTotalReply self.now.history result }
-    {
-        Reply::Total {
-            entries: self.entries.len() as u32,
-            amount: self.facts().total(),
         }
     }
 

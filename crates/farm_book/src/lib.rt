@@ -11,6 +11,7 @@ mod field_rule;
 mod figure_rules;
 mod gauging_rules;
 mod judging;
+mod looking;
 mod movement_rules;
 mod named_rules;
 mod tables;

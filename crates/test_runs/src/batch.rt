@@ -1,6 +1,7 @@
 //! `batch` on the journal of the row site.
 
-use crate::running::{batch_answer, check_answer, check_batch, source_of};
+use crate::batch_rows::check_batch;
+use crate::running::{batch_answer, check_answer, source_of};
 use farm_batch::BatchEnd;
 use farm_history::{Gauged, Named, Query};
 use farm_ports::Script;

@@ -1,6 +1,6 @@
 //! A day of `batch` on the row site: a receipt, a transfer, a delivery and a settlement, and then the stock book.
 
-use crate::running::check_batch;
+use crate::batch_rows::check_batch;
 use std::test::Fail;
 use test_checks::Checks;
 

@@ -11,6 +11,8 @@ pub use postings::a_transfer_posts;
 #[cfg(test)]
 mod batch;
 #[cfg(test)]
+mod batch_rows;
+#[cfg(test)]
 mod calc;
 #[cfg(test)]
 mod day;

@@ -3,7 +3,8 @@ use Rattle.std.proofs.Common.{◌≡◌, ◌∙◌, ◌+◌, ◌++◌, ap, drop,
 use Rattle.std.proofs.Math.Seq.{take-append_seam}
 use Rattle.farm_history.specs.History.{History, last_place, with_entry}
 use Rattle.farm_indexes.specs.OpenMoves.{AreMovesOf, kept_after}
-use Rattle.farm_indexes.proofs.MovesMore.{moves_opened, moves_other}
+use Rattle.farm_indexes.proofs.MovesMore.{moves_other}
+use Rattle.farm_indexes.proofs.MovesOpened.{moves_opened}
 use Rattle.farm_indexes.proofs.open_moves.OpenMoves.enter.Goals as goal
 
 pub returns-in_default : goal.returns-in_default

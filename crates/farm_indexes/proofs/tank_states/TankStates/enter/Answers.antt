@@ -3,7 +3,8 @@ use Rattle.std.proofs.Common.{◌≡◌, ◌∙◌, ◌++◌, ap, drop, length, 
 use Rattle.std.proofs.Math.Seq.{take-append_seam}
 use Rattle.farm_history.specs.History.{with_entry}
 use Rattle.farm_indexes.specs.TankStates.{AreStatesOf, no_state, state_after}
-use Rattle.farm_indexes.proofs.States.{states_more, taken_all, taken_more, unconcerned_at}
+use Rattle.farm_indexes.proofs.States.{states_more, taken_all, taken_more}
+use Rattle.farm_indexes.proofs.StatesStay.{unconcerned_at}
 use Rattle.farm_indexes.proofs.tank_states.TankStates.enter.Goals as goal
 use Rattle.farm_indexes.proofs.tank_states.TankStates.enter.Goals.{then-concerns, else-concerns}
 
