@@ -57,15 +57,15 @@ impl Format {
 pub fn format_needed(rounding: &RoundTable, tanks: &[Tank]) -> Format
     ensures format { result ≡ format_needed rounding.now tanks.now }
 {
-    if rounds_to_even(rounding) || tanks.iter().any(includes_roof) {
+    if rounds_to_even(*rounding) || include_roof(tanks) {
         return Format::Two;
     }
     Format::One
 }
 
 // Whether a row of a rounding table rounds ties to even.
-fn rounds_to_even(rounding: &RoundTable) -> bool
-    ensures { result ≡ list_any rounds_to_even rounding.now }
+fn rounds_to_even(rounding: RoundTable) -> bool
+    ensures { result ≡ list_any rounds_to_even rounding }
 {
     for index in 0..ROUNDING_ROWS as u8 {
         let (_, mode) = rounding.row(index + 1);
@@ -84,6 +84,13 @@ fn is_half_even(mode: Mode) -> bool
         Mode::HalfAway | Mode::TowardZero => false,
         Mode::HalfEven => true,
     }
+}
+
+// Whether the capacity table of one of these tanks includes its roof.
+fn include_roof(tanks: &[Tank]) -> bool
+    ensures { result ≡ list_any includes_roof tanks.now }
+{
+    tanks.iter().any(includes_roof)
 }
 
 // Whether the capacity table of a tank includes its roof.
