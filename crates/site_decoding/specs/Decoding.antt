@@ -118,7 +118,7 @@ shell_at = made_at (λ f. record { insulated = f.0; coefficient = f.1.0; referen
 
 -- a roof
 unfoldable pub roof_at : Reader Roof
-roof_at = made_at (λ f. record { mass = f.0; low = f.1.0; high = f.1.1 }) (natural_at w32 ▸ height_at ▸ height_at)
+roof_at = made_at (λ f. record { mass = f.0; low = f.1.0; high = f.1.1; reference = None }) (natural_at w32 ▸ height_at ▸ height_at)
 
 -- what is fixed of a tank
 unfoldable pub spec_at : Reader TankSpec

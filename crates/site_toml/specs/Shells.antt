@@ -39,7 +39,7 @@ floating_at keys = do
   mass ← whole_at keys (codes "roof_kg") (pos 1) most_roof_mass
   low ← whole_at keys (codes "roof_low") (pos 0) most_height
   high ← whole_at keys (codes "roof_high") (pos 0) most_height
-  ranged keys.item (not (int_lt high low)) (record { mass = mass; low = low; high = high })
+  ranged keys.item (not (int_lt high low)) (record { mass = mass; low = low; high = high; reference = None })
 
 -- the roof of a tank: it has all three keys of one, or none
 unfoldable pub roof_of_three : Keys → Result (Option Roof) SiteFault

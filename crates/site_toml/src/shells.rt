@@ -94,5 +94,6 @@ fn floating_at(keys: &Keys<'_>) -> Result<Roof, SiteFault>
         mass: Kg::in_range(i128::from(mass)),
         low: Mm::in_range(i128::from(low)),
         high: Mm::in_range(i128::from(high)),
+        reference: None,
     })
 }

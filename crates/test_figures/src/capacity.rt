@@ -136,6 +136,7 @@ fn roof() -> Result<Roof, OutOfRange> {
         mass: Kg::new(85_000)?,
         low: Mm::new(1_500)?,
         high: Mm::new(1_800)?,
+        reference: None,
     })
 }
 

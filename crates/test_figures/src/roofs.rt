@@ -67,6 +67,7 @@ fn figures_at(
             mass: Kg::new(85_000)?,
             low: Mm::new(1_500)?,
             high: Mm::new(1_800)?,
+            reference: None,
         }),
     };
     let reading = Reading {

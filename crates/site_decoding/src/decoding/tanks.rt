@@ -101,7 +101,15 @@ impl Piece for Roof {
             Err(fault) => return Err(fault),
         };
         match height_at(rest) {
-            Ok((high, rest)) => Ok((Roof { mass, low, high }, rest)),
+            Ok((high, rest)) => {
+                let roof = Roof {
+                    mass,
+                    low,
+                    high,
+                    reference: None,
+                };
+                Ok((roof, rest))
+            }
             Err(fault) => Err(fault),
         }
     }
