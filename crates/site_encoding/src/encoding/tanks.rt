@@ -58,7 +58,7 @@ impl Encoded for Roof {
         put(out, &(self.mass.get() as u32).to_be_bytes());
         put(out, &(self.low.get() as u16).to_be_bytes());
         put(out, &(self.high.get() as u16).to_be_bytes());
-        put_reference(format, out, &self.reference);
+        put_reference(format, out, self.reference);
     }
 }
 
@@ -91,14 +91,14 @@ pub fn len_of_tanks(format: Format, tanks: &[Tank]) -> usize
 }
 
 // Puts the reference density of a roof that may have one, which format 2 alone has.
-fn put_reference(format: Format, out: &mut Vec<u8>, reference: &Option<Dens>)
-    requires room { HasRoom out.old (reference_bytes format reference.now) }
-    ensures put { IsPut out.old out.new (reference_bytes format reference.now) }
-    ensures typed { IfSome reference.now (IsWithin LEAST_DENSITY MOST_DENSITY) }
+fn put_reference(format: Format, out: &mut Vec<u8>, reference: Option<Dens>)
+    requires room { HasRoom out.old (reference_bytes format reference) }
+    ensures put { IsPut out.old out.new (reference_bytes format reference) }
+    ensures typed { IfSome reference (IsWithin LEAST_DENSITY MOST_DENSITY) }
 {
     match format {
         Format::One => {}
-        Format::Two => put_option(format, out, reference),
+        Format::Two => put_option(format, out, &reference),
     }
 }
 
