@@ -52,7 +52,7 @@ ordinary_figures rounding tov fw shell liquid ambient fra sample vcf below = by 
     by false true figures e = tt
     by false false figures e = tt
 
--- the share of the roof isn't refused so
+-- the roof's share isn't refused so
 ordinary_share : (rounding : List Row) (roof : Option Roof) (level density vcf : ℤ) → IsOrdinary (roof_share rounding roof level density vcf)
 unfolding roof_share
 ordinary_share rounding None level density vcf = tt
