@@ -1,6 +1,6 @@
 -- Bounds and signs of the share of a roof that the table includes. The mass times what the observed density is above the reference
 -- density is divided by the product of both densities.
-use Rattle.std.proofs.Common.{◌≡◌, ℕ, zero, suc, ◌+◌, ◌*◌, ◌/◌, ◌<◌, ◌≤◌, List, ℤ, pos, negsuc, neg_ℤ, ◌*ℤ◌, ◌-ℤ◌, ◌≤ℤ◌, subst, sym, arith}
+use Rattle.std.proofs.Common.{◌≡◌, ℕ, zero, suc, ◌+◌, ◌*◌, ◌/◌, ◌<◌, ◌≤◌, List, ℤ, pos, negsuc, ◌*ℤ◌, ◌-ℤ◌, ◌≤ℤ◌, subst, sym, arith}
 use Rattle.std.proofs.Math.Nat.{div-le_of_le-mul, mul-le-mul_left, mul-le-mul_right}
 use Rattle.std.proofs.lemmas.Int.{ints, unsigned_abs-mul}
 use Rattle.std.proofs.lemmas.Nat.{mul-le}
@@ -115,11 +115,11 @@ pub share_near : (mass density vcf reference observed above gained both r : ℤ)
     unsigned_abs r ≤ unsigned_abs gained / unsigned_abs both + 100 → unsigned_abs r ≤ 50000100
 share_near mass density vcf reference observed above gained both r parts near =
     let size : unsigned_abs (mass *ℤ above) ≤ unsigned_abs (reference *ℤ observed) * 50000000 =
-        share_size mass observed reference above parts.some parts.light parts.dense_here parts.dense parts.above_is in
+    share_size mass observed reference above parts.some parts.light parts.dense_here parts.dense parts.above_is in
     let here : unsigned_abs gained ≤ unsigned_abs (reference *ℤ observed) * 50000000 =
-        subst (λ g. unsigned_abs g ≤ unsigned_abs (reference *ℤ observed) * 50000000) (sym parts.gained_is) size in
+    subst (λ g. unsigned_abs g ≤ unsigned_abs (reference *ℤ observed) * 50000000) (sym parts.gained_is) size in
     let there : unsigned_abs gained ≤ unsigned_abs both * 50000000 =
-        subst (λ b. unsigned_abs gained ≤ unsigned_abs b * 50000000) (sym parts.both_is) here in
+    subst (λ b. unsigned_abs gained ≤ unsigned_abs b * 50000000) (sym parts.both_is) here in
     let quotient : unsigned_abs gained / unsigned_abs both ≤ 50000000 = div-le_of_le-mul (unsigned_abs both) there in
     omega arith
 
@@ -129,9 +129,9 @@ pub share_most : (mass density vcf reference observed above gained both r : ℤ)
     unsigned_abs r ≤ unsigned_abs gained / unsigned_abs both + 100 → r ≤ℤ pos 25000100
 share_most mass density vcf reference observed above gained both r rounding n parts value near =
     let high : (mass *ℤ above) ≤ℤ pos (unsigned_abs (reference *ℤ observed) * 25000000) =
-        share_high mass observed reference above parts.some parts.light parts.dense_here parts.dense parts.above_is in
+    share_high mass observed reference above parts.some parts.light parts.dense_here parts.dense parts.above_is in
     let here : gained ≤ℤ pos (unsigned_abs (reference *ℤ observed) * 25000000) =
-        subst (λ g. g ≤ℤ pos (unsigned_abs (reference *ℤ observed) * 25000000)) (sym parts.gained_is) high in
+    subst (λ g. g ≤ℤ pos (unsigned_abs (reference *ℤ observed) * 25000000)) (sym parts.gained_is) high in
     let there : gained ≤ℤ pos (unsigned_abs both * 25000000) = subst (λ b. gained ≤ℤ pos (unsigned_abs b * 25000000)) (sym parts.both_is) here in
     rounded_high rounding n gained r (unsigned_abs both) 25000000 value there near
 

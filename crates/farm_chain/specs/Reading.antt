@@ -1,5 +1,5 @@
 -- The custody calculation of a reading: the figures of what stands in a tank, with the first refusal.
-use Rattle.std.specs.Prelude.{if◌then◌else◌, List, Option, Result, Ok, Err, ℤ}
+use Rattle.std.specs.Prelude.{if◌then◌else◌, List, Option, Result, Err, ℤ}
 use Rattle.std.specs.Int.RustNames.{int_lt}
 use Rattle.farm_base.specs.Steps.{◌>>=◌, or_fault}
 use Rattle.farm_fixed.specs.declared.records.Reading.{Reading}

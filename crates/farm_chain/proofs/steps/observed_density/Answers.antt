@@ -1,5 +1,5 @@
 -- Answers to the open goals of `observed_density`.
-use Rattle.std.proofs.Common.{◌≡◌, ℤ, to_z, of_z, w64, pos, ◌*ℤ◌, ◌≤ℤ◌, subst, sym, arith, rules}
+use Rattle.std.proofs.Common.{◌≡◌, to_z, of_z, w64, pos, ◌*ℤ◌, ◌≤ℤ◌, subst, sym, arith, rules}
 use Rattle.std.proofs.lemmas.Int.{ints}
 use Rattle.farm_chain.proofs.Shares.{product_at_least, product_at_most}
 use Rattle.farm_chain.proofs.steps.observed_density.Goals as goal

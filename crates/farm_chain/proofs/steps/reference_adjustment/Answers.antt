@@ -1,5 +1,5 @@
 -- Answers to the open goals of `reference_adjustment`.
-use Rattle.std.proofs.Common.{◌≡◌, ◌+◌, ◌/◌, ◌≤◌, ◌^◌, List, ℤ, to_z, of_z, pos, ◌*ℤ◌, ◌-ℤ◌, ◌≤ℤ◌, ap, ◌∙◌, arith, rules}
+use Rattle.std.proofs.Common.{◌≡◌, ◌≤◌, List, ℤ, to_z, of_z, pos, ◌*ℤ◌, ◌≤ℤ◌, ap, ◌∙◌, arith, rules}
 use Rattle.std.proofs.lemmas.Int.{ints, to_z-of_z}
 use Rattle.std.specs.Int.{w128}
 use Rattle.std.specs.Int.RustNames.{unsigned_abs}
@@ -24,16 +24,16 @@ of_a_reference rounding mass density vcf reference observed above gained both an
 pub in_range-requires : goal.in_range-requires
 in_range-requires c =
     let parts : AreParts c.args.mass c.args.density c.args.vcf c.args.reference c.observed_density-observed.result c.above_reference-above.result
-            c.product-gained.result c.product-both.result = record {
-          some = search rules;
-          light = search rules;
-          dense_here = search rules;
-          dense = omega (arith, ints);
-          observed_is = search rules;
-          above_is = search rules;
-          gained_is = search rules;
-          both_is = search rules;
-        } in
+    c.product-gained.result c.product-both.result = record {
+      some = search rules;
+      light = search rules;
+      dense_here = search rules;
+      dense = omega (arith, ints);
+      observed_is = search rules;
+      above_is = search rules;
+      gained_is = search rules;
+      both_is = search rules;
+    } in
     let kept : to_z w128 (of_z w128 c.round.result) ≡ c.round.result = to_z-of_z w128 c.round.result (search rules) in
     let size : unsigned_abs c.round.result ≤ 50000100 = share_near _ _ _ _ _ _ _ _ c.round.result parts (search rules) in
     record { low = omega (arith, ints, kept, size); high = omega (arith, ints, kept, size) }
@@ -41,47 +41,47 @@ in_range-requires c =
 pub returns-clause-value : goal.returns-clause-value
 returns-clause-value c =
     let parts : AreParts c.args.mass c.args.density c.args.vcf c.args.reference c.observed_density-observed.result c.above_reference-above.result
-            c.product-gained.result c.product-both.result = record {
-          some = search rules;
-          light = search rules;
-          dense_here = search rules;
-          dense = omega (arith, ints);
-          observed_is = search rules;
-          above_is = search rules;
-          gained_is = search rules;
-          both_is = search rules;
-        } in
+    c.product-gained.result c.product-both.result = record {
+      some = search rules;
+      light = search rules;
+      dense_here = search rules;
+      dense = omega (arith, ints);
+      observed_is = search rules;
+      above_is = search rules;
+      gained_is = search rules;
+      both_is = search rules;
+    } in
     of_a_reference c.args.rounding.now _ _ _ _ _ _ _ _ c.in_range.result parts (search rules)
 
 pub returns-clause-range : goal.returns-clause-range
 returns-clause-range c =
     let parts : AreParts c.args.mass c.args.density c.args.vcf c.args.reference c.observed_density-observed.result c.above_reference-above.result
-            c.product-gained.result c.product-both.result = record {
-          some = search rules;
-          light = search rules;
-          dense_here = search rules;
-          dense = omega (arith, ints);
-          observed_is = search rules;
-          above_is = search rules;
-          gained_is = search rules;
-          both_is = search rules;
-        } in
+    c.product-gained.result c.product-both.result = record {
+      some = search rules;
+      light = search rules;
+      dense_here = search rules;
+      dense = omega (arith, ints);
+      observed_is = search rules;
+      above_is = search rules;
+      gained_is = search rules;
+      both_is = search rules;
+    } in
     let size : unsigned_abs c.in_range.result ≤ 50000100 = share_near _ _ _ _ _ _ _ _ c.in_range.result parts (search rules) in
     record { low = omega (arith, ints, size); high = share_most _ _ _ _ _ _ _ _ c.in_range.result c.args.rounding.now ROOF_ADJUSTMENT parts (search rules) (search rules) }
 
 pub returns-clause-sign : goal.returns-clause-sign
 returns-clause-sign c =
     let parts : AreParts c.args.mass c.args.density c.args.vcf c.args.reference c.observed_density-observed.result c.above_reference-above.result
-            c.product-gained.result c.product-both.result = record {
-          some = search rules;
-          light = search rules;
-          dense_here = search rules;
-          dense = omega (arith, ints);
-          observed_is = search rules;
-          above_is = search rules;
-          gained_is = search rules;
-          both_is = search rules;
-        } in
+    c.product-gained.result c.product-both.result = record {
+      some = search rules;
+      light = search rules;
+      dense_here = search rules;
+      dense = omega (arith, ints);
+      observed_is = search rules;
+      above_is = search rules;
+      gained_is = search rules;
+      both_is = search rules;
+    } in
     share_follows _ _ _ _ _ _ _ _ c.in_range.result c.args.rounding.now ROOF_ADJUSTMENT parts (search rules) (search rules)
 
 pub round-requires-clause-denominator_low : goal.round-requires-clause-denominator_low
