@@ -48,7 +48,7 @@ fn encoded_len(format: Format, site: &Site) -> usize
     ensures len { result ≡ length (encoding_in format (described site.now)) }
     ensures short { result < MOST_SITE_BYTES }
 {
-    len_of_head(site.name.get(), &site.rounding)
+    len_of_head(format, site.name.get(), &site.rounding)
         + len_of_products(format, site.products.get())
         + len_of_parties(format, site.parties.get())
         + len_of_tanks(format, site.tanks.get())

@@ -1,6 +1,6 @@
 //! The head of a site's bytes: their format, the site's name and how figures are rounded.
 
-ghost use Rattle.std.specs.Prelude.{ℕ, ◌+◌, ◌<◌, ◌≤◌, ◌≡◌, ◌∷◌, ◌++◌, length};
+ghost use Rattle.std.specs.Prelude.{◌+◌, ◌<◌, ◌≤◌, ◌≡◌, ◌∷◌, ◌++◌, length};
 ghost use Rattle.std.specs.List.{flat_map};
 ghost use Rattle.farm_rounding.specs.Table.{row_at};
 ghost use Rattle.farm_site.specs.Formats.{format_number};
@@ -25,10 +25,10 @@ pub fn put_head(format: Format, out: &mut Vec<u8>, name: &[u8], rounding: &Round
 }
 
 /// How many bytes the format, the name and the rounding table have.
-pub fn len_of_head(name: &[u8], rounding: &RoundTable) -> usize
+pub fn len_of_head(_format: Format, name: &[u8], rounding: &RoundTable) -> usize
     requires name { length name.now ≤ MOST_NAME_BYTES }
     requires rounding { length rounding.now ≡ ROUNDING_ROWS }
-    ensures len { (format : ℕ) → result ≡ length (format ∷ text_bytes name.now ++ flat_map row_bytes rounding.now) }
+    ensures len { result ≡ length (format_number _format ∷ text_bytes name.now ++ flat_map row_bytes rounding.now) }
     ensures short { result ≤ 58 }
 {
     2 + name.len() + 24
