@@ -19,6 +19,8 @@ FOLDER = os.path.join(os.path.dirname(os.path.dirname(os.path.abspath(__file__))
 BEFORE_SITE = 13
 # Where a count stands among the bytes of the site, and how many bytes it has.
 DENSITIES, TEMPERATURES, PARTIES = (32, 4), (40, 4), (64, 2)
+# Where the mode of the third row of its rounding table stands, and where its roof ends.
+THIRD_MODE, ROOF_END = 8, 87
 MOMENT, LAST_MOMENT = 1_700_000_000, 253_000_000_000
 STOP = b"\x09"
 # The account of line 1, and how many keys it has for each number of entries that its desk was opened with.
@@ -57,6 +59,12 @@ def with_most(site, count):
     """The site with each byte of a count 255."""
     at, length = count
     return site[:at] + b"\xff" * length + site[at + length :]
+
+
+def of_format_2(site, mode=0, reference=b"\0"):
+    """The site in format 2: with the mode of its third row, and with the reference density of its roof."""
+    head = b"\2" + site[1:THIRD_MODE] + pack(">B", mode)
+    return head + site[THIRD_MODE + 1 : ROOF_END] + reference + site[ROOF_END:]
 
 
 def text(word):
@@ -105,6 +113,7 @@ def journals(site):
     lines = lines_site()
     once = polled(0, 0, MOMENT, (5000, 2000), (5001, 2000))
     again = polled(2, 1, MOMENT + 60, (5001, 2000), (5001, 2010))
+    even, reference = 2, b"\1" + pack(">H", 8400)
     return {
         "few_made": journal(site),
         "few_stopped": journal(site, entry(1, STOP)),
@@ -119,6 +128,9 @@ def journals(site):
         "few_most_densities": journal(with_most(site, DENSITIES)),
         "few_most_temperatures": journal(with_most(site, TEMPERATURES)),
         "few_most_parties": journal(with_most(site, PARTIES)),
+        "few_even": journal(of_format_2(site, even)),
+        "few_referenced": journal(of_format_2(site, reference=reference)),
+        "few_both": journal(of_format_2(site, even, reference)),
         "lines_polled": journal(lines, *once),
         "lines_polled_again": journal(lines, *once, *again),
     }

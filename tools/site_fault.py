@@ -13,7 +13,7 @@ import re
 import sys
 
 sys.dont_write_bytecode = True
-from site_folder import FIELDS, KEYS, MOST_BYTES, Toml, at_line, gap_in_grid, is_data, is_utf16, named_files, no_file, records, tables
+from site_folder import FIELDS, KEYS, MOST_BYTES, Toml, at_line, gap_in_grid, is_data, is_utf16, keys_of, named_files, no_file, records, tables
 
 LISTS = {"product": (1, 16), "party": (0, 256), "tank": (1, 64), "line": (0, 16)}
 HAVE = {2: ("product", "party", "tank", "line"), 3: ("product", "party", "tank", "line"),
@@ -37,13 +37,14 @@ class Search:
     def keys(self, file, kind, table, start, what, more=lambda key, value: None):
         """The keys of a block, in the order of looking: the first with the fault's code."""
         keys = table if isinstance(table, dict) else {}
-        roof = any(key in keys for key in ("roof_kg", "roof_low", "roof_high"))
-        for key, needed, test in KEYS[kind]:
+        known = keys_of(kind, self.site.table)
+        roof = any(key in keys for key, _, _ in known if key.startswith("roof_"))
+        for key, needed, test in known:
             fault = None
             if key in keys:
                 fault = test(keys[key]) if test else None
                 fault = fault or more(key, keys[key])
-            elif needed and test or roof and key.startswith("roof_"):
+            elif needed and test or roof and key in ("roof_kg", "roof_low", "roof_high"):
                 fault = 2, "is missing"
             if kind == "tank" and key == "table" and not fault and ("table" in keys) == ("strapping" in keys):
                 fault = 2, "and strapping: expected is one of the two"

@@ -71,15 +71,19 @@ def decimal(places, least, most):
     return fault
 
 
-def rounding(value):
-    """Twelve rows `STEP MODE`."""
-    if type(value) is not list or len(value) != 12:
-        return 2, "isn't a list of 12 texts"
-    for number, row in enumerate(value, 1):
-        if type(row) is not str:
-            return 2, f"has a row {number} that isn't a text"
-        if not re.fullmatch(r"(1|2|5|10|20|50|100) (half|zero)", row) or number == 7 and not row.startswith("1 "):
-            return 3, f"has a row {number} that isn't allowed"
+def rounding(*modes):
+    """Twelve rows `STEP MODE`, each of one of these modes."""
+    form = re.compile(r"(1|2|5|10|20|50|100) (" + "|".join(modes) + ")")
+
+    def fault(value):
+        if type(value) is not list or len(value) != 12:
+            return 2, "isn't a list of 12 texts"
+        for number, row in enumerate(value, 1):
+            if type(row) is not str:
+                return 2, f"has a row {number} that isn't a text"
+            if not form.fullmatch(row) or number == 7 and not row.startswith("1 "):
+                return 3, f"has a row {number} that isn't allowed"
+    return fault
 
 
 def switch(value):
@@ -88,10 +92,10 @@ def switch(value):
         return 2, "isn't true or false"
 
 
-# The keys of each kind of block in the order of looking: the name, whether it is needed, the test of its value. Where the
-# test is None, the value is looked at by the code.
+# The keys of each kind of block in the order of looking, as format 2 has them: the name, whether it is needed, the test of its value.
+# Where the test is None, the value is looked at by the code.
 KEYS = {
-    "top": [("format", True, whole(1, 1)), ("name", True, text(32, 32)), ("rounding", False, rounding),
+    "top": [("format", True, whole(1, 2)), ("name", True, text(32, 32)), ("rounding", False, rounding("half", "zero", "even")),
             ("product", True, None), ("party", False, None), ("tank", True, None), ("line", False, None)],
     "product": [("number", True, whole(1, 65535)), ("name", True, text(32, 32)), ("factors", True, file_name)],
     "party": [("number", True, whole(1, 65535)), ("name", True, text(32, 32))],
@@ -99,6 +103,7 @@ KEYS = {
              ("coefficient", True, whole(0, 1000)), ("reference_temperature", True, decimal(2, -10000, 30000)),
              ("reference_height", True, whole(1, 50000)), ("roof_kg", False, whole(1, 10000000)),
              ("roof_low", False, whole(0, 50000)), ("roof_high", False, whole(0, 50000)),
+             ("roof_reference", False, decimal(1, 4000, 12000)),
              ("table", False, file_name), ("strapping", False, file_name),
              ("opening_litres", True, whole(-10**9, 10**9)), ("opening_kg", True, whole(-10**9, 10**9))],
     "line": [("host", True, text(64, 33)), ("port", True, whole(1, 65535)), ("gauge", True, None)],
@@ -118,7 +123,17 @@ KEYS = {
     "deadwood": [("low", True, whole(0, 50000)), ("high", True, whole(0, 50000)), ("litres", True, any_whole)],
 }
 
+# What format 1 has in another way: the test of a value, or None for a key that it lacks.
+FORMAT_1 = {"rounding": rounding("half", "zero"), "roof_reference": None}
+
 FIELDS = ("level", "temperature", "water", "ambient")
+
+
+def keys_of(kind, table):
+    """The keys of a kind of block, as the format has them of the site with this table."""
+    if table.get("format") == 2:
+        return KEYS[kind]
+    return [(key, needed, FORMAT_1.get(key, test)) for key, needed, test in KEYS[kind] if FORMAT_1.get(key, True)]
 
 
 def no_file(folder, name):

@@ -20,7 +20,7 @@ import sys
 from decimal import Decimal
 
 sys.dont_write_bytecode = True
-from site_folder import FIELDS, KEYS, Toml, at_line, blocks_of, is_data, is_utf16, named_files, no_file, numbers, records, tables
+from site_folder import FIELDS, KEYS, Toml, at_line, blocks_of, is_data, is_utf16, keys_of, named_files, no_file, numbers, records, tables
 
 # The keys of a top that stand for themselves: below the first header they are keys of its block.
 TOPS = {"top": ("format", "name", "rounding"), "strapping": ("bottom",)}
@@ -34,8 +34,8 @@ class Unreadable(Exception):
 
 def slips(file, kind, table, start, what, top="top"):
     """The keys of a block that no format names, and those of the tables in it."""
-    known = [key for key, _, _ in KEYS[kind]]
-    missing = [key for key, _, _ in KEYS[kind] if key not in table]
+    known = [key for key, _, _ in keys_of(kind, file.table)]
+    missing = [key for key in known if key not in table]
     for key, value in table.items():
         if key not in known:
             line = file.key(start or 0, key) or start or file.block(key, 1) or 1
@@ -51,6 +51,8 @@ def why_unknown(file, kind, key, missing, top):
     """What may have been meant by a key that no format names."""
     if kind != top and key in TOPS[top] and (key not in file.table or key in ("rounding", "bottom")):
         return f": `{key}` belongs before the first `[[..]]`" + (", where one stands" if key in file.table else "")
+    if key in (other for other, _, _ in KEYS[kind]):
+        return ", which format 2 has: write `format = 2`"
     near = [other for other in missing if are_near(key, other)]
     return f"; `{max(near, key=lambda other: likeness(key, other))}` is missing" if near else ""
 

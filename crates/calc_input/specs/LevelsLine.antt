@@ -10,9 +10,9 @@ use Rattle.calc_input.specs.declared.levels_line.Levels.{Levels}
 use Rattle.farm_fixed.specs.Shells.{is_insulated}
 use Rattle.calc_input.specs.Fields.{word_at, height_of, roof_of, temperature_of, density_of, share_of, coefficient_of}
 
--- a roof whose critical zone isn't upside down
+-- a roof whose critical zone isn't upside down; a table of this form leaves the roof out
 abbrev pub zoned : ℤ → ℤ → ℤ → Option Roof
-zoned mass low high = if int_lt high low then None else Some (record { mass = mass; low = low; high = high })
+zoned mass low high = if int_lt high low then None else Some (record { mass = mass; low = low; high = high; reference = None })
 
 -- the twelve fields of a line of levels
 unfoldable pub level_fields : List (List ℕ) → Option Levels

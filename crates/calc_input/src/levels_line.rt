@@ -73,7 +73,7 @@ impl Levels {
     }
 }
 
-// A roof whose critical zone isn't upside down.
+// A roof whose critical zone isn't upside down; a table of this form leaves the roof out.
 fn zoned(mass: Kg, low: Mm, high: Mm) -> Option<Roof>
     ensures value { result ≡ zoned mass low high }
     ensures mass { IfSome result (λ roof. roof.mass ≡ mass) }
@@ -82,5 +82,10 @@ fn zoned(mass: Kg, low: Mm, high: Mm) -> Option<Roof>
     if high.get() < low.get() {
         return None;
     }
-    Some(Roof { mass, low, high })
+    Some(Roof {
+        mass,
+        low,
+        high,
+        reference: None,
+    })
 }

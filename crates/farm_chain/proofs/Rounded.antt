@@ -1,14 +1,17 @@
 -- Signs and bounds of rounded quotients.
-use Rattle.std.proofs.Common.{◌≡◌, ℕ, ◌+◌, ◌*◌, ◌/◌, ◌≤◌, List, ℤ, pos, negsuc, ◌*ℤ◌, ◌≤ℤ◌, subst, sym, arith}
-use Rattle.std.proofs.Math.Nat.{div-le_of_le-mul}
+use Rattle.std.proofs.Common.{◌≡◌, ℕ, zero, suc, ◌+◌, ◌*◌, ◌/◌, ◌<◌, ◌≤◌, false, List, ℤ, pos, negsuc, ◌*ℤ◌, ◌≤ℤ◌, refl, subst, sym, ap, ◌∙◌, mul-pos, arith}
+use Rattle.std.proofs.Math.Nat.{div-le_of_le-mul, mul-zero, zero-div, zero-mod, zero-mul}
+use Rattle.std.proofs.lemmas.Bool.Decides.{nat_tests}
 use Rattle.std.proofs.lemmas.Int.{ints}
 use Rattle.std.specs.Int.RustNames.{unsigned_abs}
 use Rattle.farm_fixed.specs.Range.{IsWithin}
-use Rattle.farm_rounding.specs.Multiple.{nearest_multiple, with_sign_of}
-use Rattle.farm_rounding.specs.Table.{Row, rounded}
+use Rattle.farm_rounding.specs.declared.mode.Mode.{Mode}
+use Rattle.farm_rounding.specs.declared.mode.Mode.TheVariants.{HalfAway, TowardZero, HalfEven}
+use Rattle.farm_rounding.specs.Multiple.{nearest_multiple, rounds_up, steps_to, with_sign_of}
+use Rattle.farm_rounding.specs.Table.{Row, row_at, rounded}
 
 -- the product of two numbers that aren't below zero isn't either
-product_low : (a b : ℤ) → pos 0 ≤ℤ a → pos 0 ≤ℤ b → pos 0 ≤ℤ (a *ℤ b)
+pub product_low : (a b : ℤ) → pos 0 ≤ℤ a → pos 0 ≤ℤ b → pos 0 ≤ℤ (a *ℤ b)
 product_low (pos a) (pos b) low_a low_b = let low : pos 0 ≤ℤ pos (a * b) = omega (arith, ints) in low
 product_low (pos a) (negsuc b) low_a low_b = absurd (omega (arith, ints, low_b))
 product_low (negsuc a) b low_a low_b = absurd (omega (arith, ints, low_a))
@@ -21,6 +24,38 @@ below_zero k m = omega (arith, ints)
 rounded_below_zero : (rounding : List Row) (n k d : ℕ) → rounded rounding n (negsuc k) d ≤ℤ pos 0
 unfolding nearest_multiple
 rounded_below_zero rounding n k d = below_zero k _
+
+-- no steps are left over zero
+no_rise : (mode : Mode) (w : ℕ) → rounds_up mode 0 0 (suc w) ≡ false
+no_rise HalfAway w = grind (arith, nat_tests)
+no_rise TowardZero w = refl
+no_rise HalfEven w = grind (arith, nat_tests)
+
+-- zero is rounded to no wholes
+no_steps : (mode : Mode) (whole : ℕ) → 0 < whole → steps_to mode 0 whole ≡ 0
+unfolding steps_to
+no_steps mode zero some = absurd (omega arith)
+no_steps mode (suc w) some = rw (zero-div (suc w), zero-mod (suc w), no_rise mode w) refl
+
+-- and to zero, whatever the step
+no_magnitude : (mode : Mode) (step d : ℕ) → 0 < d → steps_to mode 0 (step * d) * step ≡ 0
+no_magnitude mode zero d some = mul-zero (steps_to mode 0 (0 * d))
+no_magnitude mode (suc step) d some = ap (λ k. k * suc step) (no_steps mode (suc step * d) (mul-pos (omega arith) some)) ∙ zero-mul (suc step)
+
+-- a numerator of zero has its quotient rounded to zero
+rounded_zero : (rounding : List Row) (n d : ℕ) → 0 < d → rounded rounding n (pos 0) d ≡ pos 0
+unfolding nearest_multiple
+rounded_zero rounding n d some = ap pos (no_magnitude (row_at rounding n).1 (row_at rounding n).0 d some)
+
+-- a numerator of at most zero has its quotient rounded to at most zero
+pub rounded_low : (rounding : List Row) (n : ℕ) (num r : ℤ) (d : ℕ) → 0 < d → r ≡ rounded rounding n num d → num ≤ℤ pos 0 → r ≤ℤ pos 0
+rounded_low rounding n (pos zero) r d some value low =
+    let P : ℤ → Type 0 = λ x. x ≤ℤ pos 0 in
+    subst P (sym (value ∙ rounded_zero rounding n d some)) (omega (arith, ints))
+rounded_low rounding n (pos (suc k)) r d some value low = absurd (omega (arith, ints, low))
+rounded_low rounding n (negsuc k) r d some value low =
+    let P : ℤ → Type 0 = λ x. x ≤ℤ pos 0 in
+    subst P (sym value) (rounded_below_zero rounding n k d)
 
 -- a quotient of at most a number of wholes is rounded to at most a hundred more, which is the greatest step
 pub rounded_high : (rounding : List Row) (n : ℕ) (num r : ℤ) (d most : ℕ) → r ≡ rounded rounding n num d → num ≤ℤ pos (d * most) →

@@ -1,19 +1,19 @@
 -- The custody calculation of a reading: the figures of what stands in a tank, with the first refusal.
-use Rattle.std.specs.Prelude.{if◌then◌else◌, List, Option, Some, None, Result, Ok, Err, ℤ, pos}
+use Rattle.std.specs.Prelude.{if◌then◌else◌, List, Option, Result, Err, ℤ}
 use Rattle.std.specs.Int.RustNames.{int_lt}
 use Rattle.farm_base.specs.Steps.{◌>>=◌, or_fault}
 use Rattle.farm_fixed.specs.declared.records.Reading.{Reading}
 use Rattle.farm_fixed.specs.declared.records.Sample.{Sample}
 use Rattle.farm_fixed.specs.declared.records.Quantities.{Quantities}
 use Rattle.farm_fixed.specs.declared.records.ChainRule.{ChainRule}
-use Rattle.farm_fixed.specs.declared.records.ChainRule.TheVariants.{AboveTable, WaterAboveLevel, NoEntry, CriticalZone}
+use Rattle.farm_fixed.specs.declared.records.ChainRule.TheVariants.{AboveTable, WaterAboveLevel, NoEntry}
 use Rattle.farm_rounding.specs.Table.{Row, row_at}
 use Rattle.farm_rounding.specs.RowNumbers.{row_of_factor_ties, row_of_table_volume}
 use Rattle.farm_vcf.specs.Grid.{Grid, grid_factor}
-use Rattle.strap_table.specs.declared.tank.Roof.{Roof}
 use Rattle.strap_table.specs.declared.tank.TankSpec.{TankSpec}
 use Rattle.strap_table.specs.Capacity.{table_volume}
-use Rattle.farm_chain.specs.Volumes.{calculated_figures}
+use Rattle.farm_chain.specs.Roofs.{roof_share}
+use Rattle.farm_chain.specs.Volumes.{adjusted_figures}
 
 -- the table's volume at a height, by the rounding of table volumes
 abbrev pub volume_at : List Row → List ℤ → ℤ → Option ℤ
@@ -34,22 +34,11 @@ unfoldable pub correction_factor : List Row → Grid → Reading → Sample → 
 correction_factor rounding vcf reading sample =
     or_fault NoEntry (grid_factor (row_at rounding row_of_factor_ties).1 vcf sample.density reading.liquid)
 
--- The mass that the liquid carries of a roof: none below the critical zone, all of it above, and within, both ends included,
--- it isn't known.
-abbrev pub carried : Roof → ℤ → Result ℤ ChainRule
-carried roof level =
-    if int_lt level roof.low then Ok (pos 0) else (if int_lt roof.high level then Ok roof.mass else Err CriticalZone)
-
--- the mass that floats on the liquid
-abbrev pub floating_mass : Option Roof → ℤ → Result ℤ ChainRule
-floating_mass None level = Ok (pos 0)
-floating_mass (Some roof) level = carried roof level
-
 -- the ten figures of a reading, or the first refusal
 unfoldable pub calculated_quantities : List Row → TankSpec → List ℤ → Grid → Reading → Sample → Result Quantities ChainRule
 calculated_quantities rounding tank table vcf reading sample = do
   tov ← total_observed rounding table reading
   fw ← free_water rounding table reading
   factor ← correction_factor rounding vcf reading sample
-  floating ← floating_mass tank.roof reading.level
-  calculated_figures rounding tov fw tank.shell reading.liquid reading.ambient floating sample factor
+  fra ← roof_share rounding tank.roof reading.level sample.density factor
+  adjusted_figures rounding tov fw tank.shell reading.liquid reading.ambient fra sample factor

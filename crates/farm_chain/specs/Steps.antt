@@ -27,6 +27,13 @@ unfoldable pub roof_adjustment : List Row → ℤ → ℤ → ℤ → ℤ
 roof_adjustment rounding floating density vcf =
     if int_eq floating (pos 0) then pos 0 else neg_ℤ (rounded rounding row_of_roof_adjustment (floating *ℤ pos (10 ^ 9)) (unsigned_abs (density *ℤ vcf)))
 
+-- FRA of a roof that the table includes: its mass over the reference density added back, and that over the observed density
+-- taken off
+unfoldable pub reference_adjustment : List Row → ℤ → ℤ → ℤ → ℤ → ℤ
+reference_adjustment rounding mass density vcf reference =
+    rounded rounding row_of_roof_adjustment (mass *ℤ (pos (10 ^ 4) *ℤ (density *ℤ vcf) -ℤ pos (10 ^ 9) *ℤ reference))
+    (unsigned_abs (reference *ℤ (density *ℤ vcf)))
+
 -- GOV: the volume above the water at the shell's temperature, and the roof's adjustment
 unfoldable pub gross_observed : List Row → ℤ → ℤ → ℤ → ℤ → ℤ
 gross_observed rounding tov fw ctsh fra = rounded rounding row_of_gross_observed ((tov -ℤ fw) *ℤ ctsh +ℤ fra *ℤ pos 100000) 100000

@@ -5,6 +5,7 @@
 #![tactic(auto)]
 
 mod reading;
+mod roofs;
 mod steps;
 mod volumes;
 

@@ -1,22 +1,24 @@
-//! The figures of a reading: the volumes, the factor and the floating mass that the calculation begins with.
+//! The figures of a reading: the volumes, the factor and the roof's share that the calculation begins with.
 
 ghost use Rattle.std.specs.Prelude.{◌≡◌, IfOk, IfSome, pos};
 ghost use Rattle.farm_fixed.specs.Range.{IsWithin};
-ghost use Rattle.farm_fixed.specs.declared.limits.TheConstants.{MOST_COEFFICIENT, MOST_LITRES, MOST_ROOF_MASS};
+ghost use Rattle.farm_fixed.specs.declared.limits.TheConstants.{MOST_COEFFICIENT, MOST_LITRES};
 ghost use Rattle.farm_chain.specs.Volumes.{AreInRange};
 ghost use Rattle.strap_table.specs.Roofs.{IsFloatingRoof};
-ghost use Rattle.farm_chain.specs.Reading.{calculated_quantities, carried, correction_factor, floating_mass, free_water, total_observed, volume_at};
+ghost use Rattle.farm_chain.specs.Reading.{calculated_quantities, correction_factor, free_water, total_observed, volume_at};
 
-use crate::figures;
-use farm_fixed::{ChainRule, Fac5, Kg, Litres, Mm, Quantities, Reading, Sample};
+use crate::roofs::roof_share;
+use crate::volumes::adjusted_figures;
+use farm_fixed::{ChainRule, Fac5, Litres, Mm, Quantities, Reading, Sample};
 use farm_rounding::{FACTOR_TIES, RoundTable, TABLE_VOLUME};
 use farm_vcf::Vcf;
-use strap_table::{CapTable, Roof, TankSpec};
+use strap_table::{CapTable, TankSpec};
 
 /// The ten figures of what a gauge reads and a sample says of a tank.
 ///
-/// Volumes are those of the capacity table, the factor is that of the factor file, and a floating roof weighs on the liquid
-/// above its critical zone alone. Refused in the order of `ChainRule`. Takes no memory.
+/// Volumes are those of the capacity table, the factor is that of the factor file, and a floating roof has a share in the volume
+/// above its critical zone alone: what it displaces at the observed density is taken off, and if the table includes the roof, what
+/// it displaces at the reference density is added back. Refused in the order of `ChainRule`. Takes no memory.
 pub fn quantities(
     tank: &TankSpec,
     table: &CapTable,
@@ -33,14 +35,14 @@ pub fn quantities(
     let tov = total_observed(table, rounding, reading)?;
     let fw = free_water(table, rounding, reading)?;
     let factor = correction_factor(vcf, rounding, reading, sample)?;
-    let floating = floating_mass(tank, reading.level)?;
-    figures(
+    let fra = roof_share(rounding, &tank.roof, reading.level, sample.density, factor)?;
+    adjusted_figures(
         tov,
         fw,
         &tank.shell,
         reading.liquid,
         reading.ambient,
-        floating,
+        fra,
         sample,
         factor,
         rounding,
@@ -109,31 +111,4 @@ fn correction_factor(
         Ok(factor) => Ok(factor),
         Err(_) => Err(ChainRule::NoEntry),
     }
-}
-
-// The mass that floats on the liquid.
-fn floating_mass(tank: &TankSpec, level: Mm) -> Result<Kg, ChainRule>
-    requires { IfSome tank.now.roof IsFloatingRoof }
-    ensures value { result ≡ floating_mass tank.now.roof level }
-    ensures range { IfOk result (IsWithin (pos 0) MOST_ROOF_MASS) }
-{
-    match &tank.roof {
-        None => Ok(Kg::in_range(0)),
-        Some(roof) => carried(roof, level),
-    }
-}
-
-// The mass that the liquid carries of a roof.
-fn carried(roof: &Roof, level: Mm) -> Result<Kg, ChainRule>
-    requires { IsFloatingRoof roof.now }
-    ensures value { result ≡ carried roof.now level }
-    ensures range { IfOk result (IsWithin (pos 0) MOST_ROOF_MASS) }
-{
-    if level.get() < roof.low.get() {
-        return Ok(Kg::in_range(0));
-    }
-    if level.get() > roof.high.get() {
-        return Ok(roof.mass);
-    }
-    Err(ChainRule::CriticalZone)
 }

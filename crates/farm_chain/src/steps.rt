@@ -4,7 +4,9 @@ ghost use Rattle.std.specs.Prelude.{◌≡◌, ◌≤◌, ◌+◌, ◌*◌, ◌^
 ghost use Rattle.std.specs.Int.RustNames.{unsigned_abs};
 ghost use Rattle.farm_fixed.specs.Range.{IsWithin};
 ghost use Rattle.farm_fixed.specs.declared.limits.TheConstants.{MOST_COEFFICIENT, MOST_LITRES, MOST_ROOF_MASS};
-ghost use Rattle.farm_chain.specs.Steps.{gross_observed, gross_standard, mass_of, net_standard, roof_adjustment, shell_correction, shell_difference, shell_growth};
+ghost use Rattle.farm_fixed.specs.Limits.{least_density, most_density};
+ghost use Rattle.farm_chain.specs.Roofs.{FollowsDensity, IsShare};
+ghost use Rattle.farm_chain.specs.Steps.{gross_observed, gross_standard, mass_of, net_standard, reference_adjustment, roof_adjustment, shell_correction, shell_difference, shell_growth};
 
 use farm_fixed::{Centi, Dens, Fac5, Kg, Litres, Permil5, Shell};
 use farm_rounding::{
@@ -94,7 +96,26 @@ pub(crate) fn shell_correction(
     ))
 }
 
-/// FRA, the adjustment for a floating roof: its mass over the observed density, taken off.
+// The observed density: that at 15 C times the factor, in 0.1 kg/m3 and 0.00001.
+fn observed_density(density: Dens, vcf: Fac5) -> i64
+    ensures value { result ≡ density *ℤ vcf }
+    ensures low { pos 200000000 ≤ℤ result }
+    ensures high { result ≤ℤ pos 1800000000 }
+{
+    density.get() * vcf.get()
+}
+
+// Ten thousand times the observed density, less the reference density in the same parts.
+fn above_reference(observed: i64, reference: i64) -> i64
+    requires observed { IsWithin (pos 200000000) (pos 1800000000) observed }
+    requires reference { IsWithin least_density most_density reference }
+    ensures value { result ≡ pos (10 ^ 4) *ℤ observed -ℤ pos (10 ^ 9) *ℤ reference }
+    ensures size { unsigned_abs result ≤ 18000000000000 }
+{
+    10_000 * observed - 1_000_000_000 * reference
+}
+
+/// FRA, the adjustment for a floating roof that the table leaves out: its mass over the observed density, taken off.
 #[tactic(auto, unfolding(crate::specs::Steps::roof_adjustment))]
 pub(crate) fn roof_adjustment(
     rounding: &RoundTable,
@@ -104,7 +125,7 @@ pub(crate) fn roof_adjustment(
 ) -> Litres
     requires { IsWithin (pos 0) MOST_ROOF_MASS floating }
     ensures value { result ≡ roof_adjustment rounding.now floating density vcf }
-    ensures size { unsigned_abs result ≤ 10 ^ 16 + 100 }
+    ensures range { IsShare result }
     ensures never_adds { result ≤ℤ pos 0 }
 {
     if floating.get() == 0 {
@@ -113,6 +134,28 @@ pub(crate) fn roof_adjustment(
     let mass = product::<10_000_000, 1_000_000_000>(floating.get(), 1_000_000_000);
     let observed = product::<12_000, 150_000>(density.get(), vcf.get());
     Litres::in_range(negated(rounding.round(ROOF_ADJUSTMENT, mass, observed)))
+}
+
+/// FRA of a roof that the table includes at a reference density: what its mass displaces there is added back, and what it displaces
+/// at the observed density is taken off.
+#[tactic(auto, unfolding(crate::specs::Steps::reference_adjustment))]
+pub(crate) fn reference_adjustment(
+    rounding: &RoundTable,
+    mass: Kg,
+    density: Dens,
+    vcf: Fac5,
+    reference: Dens,
+) -> Litres
+    requires { IsWithin (pos 0) MOST_ROOF_MASS mass }
+    ensures value { result ≡ reference_adjustment rounding.now mass density vcf reference }
+    ensures range { IsShare result }
+    ensures sign { FollowsDensity reference density vcf result }
+{
+    let observed = observed_density(density, vcf);
+    let above = above_reference(observed, reference.get());
+    let gained = product::<10_000_000, 18_000_000_000_000>(mass.get(), above);
+    let both = product::<12_000, 1_800_000_000>(reference.get(), observed);
+    Litres::in_range(rounding.round(ROOF_ADJUSTMENT, gained, both))
 }
 
 /// GOV, the gross observed volume: the volume above the water at the shell's temperature, and the roof's adjustment.
@@ -126,44 +169,43 @@ pub(crate) fn gross_observed(
 ) -> Litres
     requires tov { IsWithin (pos 0) MOST_LITRES tov }
     requires fw { IsWithin (pos 0) MOST_LITRES fw }
-    requires fra { unsigned_abs fra ≤ 10 ^ 16 + 100 }
-    requires never_adds { fra ≤ℤ pos 0 }
+    requires fra { IsShare fra }
     ensures value { result ≡ gross_observed rounding.now tov fw ctsh fra }
-    ensures most { result ≤ℤ pos 1500000100 }
+    ensures most { result ≤ℤ pos 1525000200 }
 {
     let above_water = difference(tov.get(), fw.get());
     let observed = product::<1_000_000_000, 150_000>(above_water, ctsh.get());
-    let roof = product::<10_000_000_000_000_100, 100_000>(fra.get(), 100_000);
+    let roof = product::<50_000_100, 100_000>(fra.get(), 100_000);
     Litres::in_range(rounding.round(GROSS_OBSERVED, sum(observed, roof), 100_000))
 }
 
 /// GSV, the gross standard volume.
 #[tactic(auto, unfolding(crate::specs::Steps::gross_standard))]
 pub(crate) fn gross_standard(rounding: &RoundTable, gov: Litres, vcf: Fac5) -> Litres
-    requires { IsWithin (pos 0) (pos 1500000100) gov }
+    requires { IsWithin (pos 0) (pos 1525000200) gov }
     ensures value { result ≡ gross_standard rounding.now gov vcf }
-    ensures range { IsWithin (pos 0) (pos 2250000250) result }
+    ensures range { IsWithin (pos 0) (pos 2287500400) result }
 {
-    let observed = product::<1_500_000_100, 150_000>(gov.get(), vcf.get());
+    let observed = product::<1_525_000_200, 150_000>(gov.get(), vcf.get());
     Litres::in_range(rounding.round(GROSS_STANDARD, observed, 100_000))
 }
 
 /// NSV, the net standard volume: the gross one less sediment and water.
 #[tactic(auto, unfolding(crate::specs::Steps::net_standard))]
 pub(crate) fn net_standard(rounding: &RoundTable, gsv: Litres, sw: Permil5) -> Litres
-    requires { IsWithin (pos 0) (pos 2250000250) gsv }
+    requires { IsWithin (pos 0) (pos 2287500400) gsv }
     ensures value { result ≡ net_standard rounding.now gsv sw }
-    ensures range { IsWithin (pos 0) (pos 2250000350) result }
+    ensures range { IsWithin (pos 0) (pos 2287500500) result }
 {
     let clean = difference(100_000, sw.get());
-    let net = product::<2_250_000_250, 100_000>(gsv.get(), clean);
+    let net = product::<2_287_500_400, 100_000>(gsv.get(), clean);
     Litres::in_range(rounding.round(NET_STANDARD, net, 100_000))
 }
 
 /// SWV, the volume of sediment and water.
 pub(crate) fn sediment_and_water(gsv: Litres, nsv: Litres) -> Litres
-    requires gsv { IsWithin (pos 0) (pos 2250000250) gsv }
-    requires nsv { IsWithin (pos 0) (pos 2250000350) nsv }
+    requires gsv { IsWithin (pos 0) (pos 2287500400) gsv }
+    requires nsv { IsWithin (pos 0) (pos 2287500500) nsv }
     ensures { result ≡ gsv -ℤ nsv }
 {
     Litres::in_range(i128::from(difference(gsv.get(), nsv.get())))
@@ -172,10 +214,10 @@ pub(crate) fn sediment_and_water(gsv: Litres, nsv: Litres) -> Litres
 /// The mass of a net standard volume in vacuum.
 #[tactic(auto, unfolding(crate::specs::Steps::mass_of))]
 pub(crate) fn mass_of(rounding: &RoundTable, nsv: Litres, density: Dens) -> Kg
-    requires { IsWithin (pos 0) (pos 2250000350) nsv }
+    requires { IsWithin (pos 0) (pos 2287500500) nsv }
     ensures value { result ≡ mass_of rounding.now nsv density }
-    ensures range { IsWithin (pos 0) (pos 2700000520) result }
+    ensures range { IsWithin (pos 0) (pos 2745000700) result }
 {
-    let tenths = product::<2_250_000_350, 12_000>(nsv.get(), density.get());
+    let tenths = product::<2_287_500_500, 12_000>(nsv.get(), density.get());
     Kg::in_range(rounding.round(MASS, tenths, 10_000))
 }

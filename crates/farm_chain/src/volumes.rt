@@ -1,9 +1,9 @@
 //! The figures of observed volumes.
 
-ghost use Rattle.std.specs.Prelude.{◌≡◌, ◌≤◌, ◌+◌, ◌^◌, IfOk, pos, ◌≤ℤ◌};
-ghost use Rattle.std.specs.Int.RustNames.{unsigned_abs};
+ghost use Rattle.std.specs.Prelude.{◌≡◌, IfOk, pos};
 ghost use Rattle.farm_fixed.specs.Range.{IsWithin};
 ghost use Rattle.farm_fixed.specs.declared.limits.TheConstants.{MOST_COEFFICIENT, MOST_LITRES, MOST_ROOF_MASS};
+ghost use Rattle.farm_chain.specs.Roofs.{IsShare};
 ghost use Rattle.farm_chain.specs.Volumes.{AreInRange, adjusted_figures, calculated_figures, standard_figures};
 
 use crate::steps::{
@@ -41,9 +41,9 @@ pub fn figures(
     adjusted_figures(tov, fw, shell, liquid, ambient, fra, sample, vcf, rounding)
 }
 
-// The ten figures under the adjustment for a roof. This is the one body of them, whatever the roof's share is computed from.
+/// The ten figures under the adjustment for a roof. This is the one body of them, whatever the roof's share is computed from.
 #[tactic(auto, unfolding(crate::specs::Volumes::adjusted_figures))]
-fn adjusted_figures(
+pub(crate) fn adjusted_figures(
     tov: Litres,
     fw: Litres,
     shell: &Shell,
@@ -57,8 +57,7 @@ fn adjusted_figures(
     requires tov { IsWithin (pos 0) MOST_LITRES tov }
     requires fw { IsWithin (pos 0) MOST_LITRES fw }
     requires coefficient { IsWithin (pos 0) MOST_COEFFICIENT shell.now.coefficient }
-    requires fra { unsigned_abs fra ≤ 10 ^ 16 + 100 }
-    requires never_adds { fra ≤ℤ pos 0 }
+    requires fra { IsShare fra }
     ensures range { IfOk result AreInRange }
     ensures figures { result ≡ adjusted_figures rounding.now tov fw shell.now liquid ambient fra sample.now vcf }
 {
@@ -85,7 +84,7 @@ fn standard_figures(
     gov: Litres,
     sample: &Sample,
 ) -> Quantities
-    requires { IsWithin (pos 0) (pos 1500000100) gov }
+    requires { IsWithin (pos 0) (pos 1525000200) gov }
     ensures range { AreInRange result }
     ensures figures { result ≡ standard_figures rounding.now tov fw ctsh vcf fra gov sample.now }
 {

@@ -2,8 +2,9 @@
 use Rattle.std.proofs.Common.{◌≡◌, Bool, true, false, if◌then◌else◌, List, Option, Some, None, Result, Ok, Err, ℤ, pos, ◌≤ℤ◌, int_lt, refl, ap, sym, subst, arith}
 use Rattle.std.proofs.lemmas.Int.{ints}
 use Rattle.farm_base.specs.Steps.{◌>>=◌, or_fault}
-use Rattle.farm_chain.specs.Reading.{calculated_quantities, correction_factor, floating_mass, free_water, total_observed}
-use Rattle.farm_chain.specs.Volumes.{adjusted_figures, calculated_figures}
+use Rattle.farm_chain.specs.Reading.{calculated_quantities, correction_factor, free_water, total_observed}
+use Rattle.farm_chain.specs.Roofs.{roof_share, share_by}
+use Rattle.farm_chain.specs.Volumes.{adjusted_figures}
 use Rattle.farm_fixed.specs.declared.records.ChainRule.{ChainRule}
 use Rattle.farm_fixed.specs.declared.records.ChainRule.TheVariants as refusals
 use Rattle.farm_fixed.specs.declared.records.Quantities.{Quantities}
@@ -37,10 +38,10 @@ ordinary_then (Ok value) next here later = later value refl
 ordinary_then (Err rule) next here later = here
 
 -- figures whose water isn't more than the total aren't refused so
-ordinary_figures : (rounding : List Row) (tov fw : ℤ) (shell : Shell) (liquid ambient floating : ℤ) (sample : Sample) (vcf : ℤ) → fw ≤ℤ tov →
-    IsOrdinary (calculated_figures rounding tov fw shell liquid ambient floating sample vcf)
-unfolding calculated_figures adjusted_figures
-ordinary_figures rounding tov fw shell liquid ambient floating sample vcf below = by (int_lt tov fw) _ _ none
+ordinary_figures : (rounding : List Row) (tov fw : ℤ) (shell : Shell) (liquid ambient fra : ℤ) (sample : Sample) (vcf : ℤ) → fw ≤ℤ tov →
+    IsOrdinary (adjusted_figures rounding tov fw shell liquid ambient fra sample vcf)
+unfolding adjusted_figures
+ordinary_figures rounding tov fw shell liquid ambient fra sample vcf below = by (int_lt tov fw) _ _ none
   where
     none : int_lt tov fw ≡ false
     none = grind (arith, ints)
@@ -51,12 +52,14 @@ ordinary_figures rounding tov fw shell liquid ambient floating sample vcf below 
     by false true figures e = tt
     by false false figures e = tt
 
--- the mass that floats isn't refused so
-ordinary_mass : (roof : Option Roof) (level : ℤ) → IsOrdinary (floating_mass roof level)
-ordinary_mass None level = tt
-ordinary_mass (Some roof) level = by (int_lt level roof.low) (int_lt roof.high level)
+-- the roof's share isn't refused so
+ordinary_share : (rounding : List Row) (roof : Option Roof) (level density vcf : ℤ) → IsOrdinary (roof_share rounding roof level density vcf)
+unfolding roof_share
+ordinary_share rounding None level density vcf = tt
+ordinary_share rounding (Some roof) level density vcf = by (int_lt level roof.low) (int_lt roof.high level)
   where
-    by : (a b : Bool) → IsOrdinary (if a then Ok (pos 0) else (if b then Ok roof.mass else Err refusals.CriticalZone))
+    by : (a b : Bool) →
+        IsOrdinary (if a then Ok (pos 0) else (if b then Ok (share_by rounding roof.reference roof.mass density vcf) else Err refusals.CriticalZone))
     by true b = tt
     by false true = tt
     by false false = tt
@@ -105,10 +108,11 @@ ordinary_quantities rounding tank product reading sample table covers =
     ordinary_then (total_observed rounding tank.table reading) _ (subst Fine (sym volumes.total) tt) (λ tov total.
     ordinary_then (free_water rounding tank.table reading) _ (subst Fine (sym volumes.water) tt) (λ fw water.
     ordinary_then (correction_factor rounding product.vcf reading sample) _ (ordinary_factor rounding product reading sample) (λ factor factored.
-    ordinary_then (floating_mass tank.spec.roof reading.level) _ (ordinary_mass tank.spec.roof reading.level) (λ floating floated.
+    ordinary_then (roof_share rounding tank.spec.roof reading.level sample.density factor) _
+    (ordinary_share rounding tank.spec.roof reading.level sample.density factor) (λ fra shared.
     let all = volumes.total in
     let some = volumes.water in
     let first : tov ≡ volumes.tov = cc in
     let second : fw ≡ volumes.fw = cc in
-    ordinary_figures rounding tov fw tank.spec.shell reading.liquid reading.ambient floating sample factor
+    ordinary_figures rounding tov fw tank.spec.shell reading.liquid reading.ambient fra sample factor
     (subst (λ (t : ℤ). fw ≤ℤ t) (sym first) (subst (λ (f : ℤ). f ≤ℤ volumes.tov) (sym second) volumes.below))))))

@@ -6,16 +6,27 @@ use Rattle.std.proofs.lemmas.Bool.Decides.{nat_tests}
 use Rattle.std.proofs.lemmas.Int.{ints}
 use Rattle.std.specs.Int.RustNames.{unsigned_abs}
 use Rattle.farm_rounding.specs.declared.mode.Mode.{Mode}
-use Rattle.farm_rounding.specs.declared.mode.Mode.TheVariants.{HalfAway, TowardZero}
+use Rattle.farm_rounding.specs.declared.mode.Mode.TheVariants.{HalfAway, TowardZero, HalfEven}
 use Rattle.farm_rounding.specs.Multiple.{nearest_multiple, rounds_up, steps_to}
 use Rattle.farm_rounding.proofs.Steps.{either_side}
 use Rattle.strap_table.specs.Capacity.{IsCapTable, row_at, table_volume, tenths_between, volume_at}
 use Rattle.strap_table.proofs.Rows.{of_covered}
 
--- where more is left over, no less is added
-left_rises : (mode : Mode) (q p r s w : ℕ) → r ≤ s → cond (rounds_up mode q r w) 1 0 ≤ cond (rounds_up mode p s w) 1 0
-left_rises HalfAway q p r s w more = grind (arith, nat_tests)
-left_rises TowardZero q p r s w more = omega arith
+-- where more is left over the same wholes, one is still added
+still_up : (mode : Mode) (q r s w : ℕ) → r ≤ s → rounds_up mode q r w ≡ true → rounds_up mode q s w ≡ true
+still_up HalfAway q r s w more up = grind (arith, nat_tests)
+still_up TowardZero q r s w more up = up
+still_up HalfEven q r s w more up = grind (arith, nat_tests)
+
+-- what is added where one test passes is no more than where it and maybe another does
+added_rises : (b c : Bool) → (b ≡ true → c ≡ true) → cond b 1 0 ≤ cond c 1 0
+added_rises true true on = omega arith
+added_rises true false on = let up : false ≡ true = on refl in cc
+added_rises false c on = omega arith
+
+-- where more is left over the same wholes, no less is added
+left_rises : (mode : Mode) (q r s w : ℕ) → r ≤ s → cond (rounds_up mode q r w) 1 0 ≤ cond (rounds_up mode q s w) 1 0
+left_rises mode q r s w more = added_rises (rounds_up mode q r w) (rounds_up mode q s w) (still_up mode q r s w more)
 
 -- one whole is added at most
 one_more : (b : Bool) → cond b 1 0 ≤ 1
@@ -34,16 +45,19 @@ steps_rise mode n m w positive below =
           let same : n / w ≡ m / w = omega arith in
           let wholes = ap (λ k. k * w) same in
           let left : n % w ≤ m % w = omega (arith, first, second, wholes) in
-          omega (arith, left_rises mode (n / w) (m / w) (n % w) (m % w) w left)
+          let P : ℕ → Type 0 = λ q. cond (rounds_up mode (n / w) (n % w) w) 1 0 ≤ cond (rounds_up mode q (m % w) w) 1 0 in
+          let added = subst P same (left_rises mode (n / w) (n % w) (m % w) w left) in
+          omega (arith, same, added)
       | inr short ↦
           let b : Bool = rounds_up mode (n / w) (n % w) w in
           omega (arith, one_more b)
     ]
 
--- tenths of what is left over make as much as it
-left_scaled : (mode : Mode) (q p r w : ℕ) → rounds_up mode q (10 * r) (w * 10) ≡ rounds_up mode p r w
-left_scaled HalfAway q p r w = grind (arith, nat_tests)
-left_scaled TowardZero q p r w = refl
+-- tenths of what is left over the same wholes make as much as it
+left_scaled : (mode : Mode) (q r w : ℕ) → rounds_up mode q (10 * r) (w * 10) ≡ rounds_up mode q r w
+left_scaled HalfAway q r w = grind (arith, nat_tests)
+left_scaled TowardZero q r w = refl
+left_scaled HalfEven q r w = grind (arith, nat_tests)
 
 -- ten times as much is rounded to as many of wholes that are ten times as great
 steps_scaled : (mode : Mode) (n w : ℕ) → 0 < w → steps_to mode (10 * n) (w * 10) ≡ steps_to mode n w
@@ -59,7 +73,7 @@ steps_scaled mode n w positive =
     let left : 10 * n % (w * 10) ≡ 10 * (n % w) =
     ap (λ k. k % (w * 10)) (sym split) ∙ mod-mul-add (n / w) (w * 10) (10 * (n % w)) bound in
     let up : rounds_up mode (10 * n / (w * 10)) (10 * n % (w * 10)) (w * 10) ≡ rounds_up mode (n / w) (n % w) w =
-    ap (λ k. rounds_up mode (10 * n / (w * 10)) k (w * 10)) left ∙ left_scaled mode (10 * n / (w * 10)) (n / w) (n % w) w in
+    ap₂ (λ q k. rounds_up mode q k (w * 10)) quotient left ∙ left_scaled mode (n / w) (n % w) w in
     ap₂ (λ k b. k + cond b 1 0) quotient up
 
 -- numbers that rise one by one rise

@@ -6,8 +6,8 @@ use Rattle.std.specs.Int.RustNames.{unsigned_abs}
 use Rattle.farm_fixed.specs.Range.{IsWithin}
 use Rattle.farm_fixed.specs.declared.limits.TheConstants.{LEAST_TEMPERATURE, MOST_HEIGHT, MOST_TEMPERATURE}
 use Rattle.farm_rounding.specs.declared.mode.Mode.{Mode}
-use Rattle.farm_rounding.specs.declared.mode.Mode.TheVariants.{HalfAway, TowardZero}
-use Rattle.farm_rounding.specs.Multiple.{IsMultiple, IsNearest, is_step}
+use Rattle.farm_rounding.specs.declared.mode.Mode.TheVariants.{HalfAway, TowardZero, HalfEven}
+use Rattle.farm_rounding.specs.Multiple.{IsMultiple, IsNearest, distance, is_step}
 use Rattle.farm_rounding.proofs.Steps.{fewer_wholes}
 
 -- a common factor of two integers
@@ -36,13 +36,21 @@ above_of_close x y n close below = omega (arith, ints)
 at_most_both : (x y z : ℤ) → x ≤ℤ y → y ≤ℤ z → x ≤ℤ z
 at_most_both x y z first second = omega (arith, ints)
 
+-- what is no further from n / d than two multiples, of which n / d is between, is between them
+within_of_nearest : (n : ℤ) (d step : ℕ) (least most m : ℤ) → 0 < d → IsMultiple step least → IsMultiple step most →
+    (least *ℤ pos d) ≤ℤ n → n ≤ℤ (most *ℤ pos d) → ((other : ℤ) → IsMultiple step other → distance n d m ≤ distance n d other) → IsWithin least most m
+within_of_nearest n d step least most m positive low high under over nearest = record {
+  low = times_below least m d positive (above_of_close (m *ℤ pos d) (least *ℤ pos d) n (nearest least low) under);
+  high = times_below m most d positive (below_of_close (m *ℤ pos d) (most *ℤ pos d) n (nearest most high) over);
+}
+
 -- a mean between two multiples on both sides of zero is rounded to a number between them
 pub nearest_within : (mode : Mode) (n : ℤ) (d step : ℕ) (least most m : ℤ) → 0 < d → IsMultiple step least → IsMultiple step most →
     least ≤ℤ pos 0 → pos 0 ≤ℤ most → (least *ℤ pos d) ≤ℤ n → n ≤ℤ (most *ℤ pos d) → IsNearest mode n d step m → IsWithin least most m
-nearest_within HalfAway n d step least most m positive low high below above under over nearest = record {
-  low = times_below least m d positive (above_of_close (m *ℤ pos d) (least *ℤ pos d) n (nearest.nearest least low) under);
-  high = times_below m most d positive (below_of_close (m *ℤ pos d) (most *ℤ pos d) n (nearest.nearest most high) over);
-}
+nearest_within HalfAway n d step least most m positive low high below above under over nearest =
+    within_of_nearest n d step least most m positive low high under over nearest.nearest
+nearest_within HalfEven n d step least most m positive low high below above under over nearest =
+    within_of_nearest n d step least most m positive low high under over nearest.nearest
 nearest_within TowardZero n d step least most m positive low high below above under over truncated = elim truncated.between [
   | inl between ↦ record {
     low = at_most_both least (pos 0) m below between.0;

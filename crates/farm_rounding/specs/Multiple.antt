@@ -1,8 +1,8 @@
 -- Rounding n / d to a multiple of a step. n is signed, d and the step are positive.
-use Rattle.std.specs.Prelude.{◌≡◌, ◌⊎◌, ℕ, ◌+◌, ◌*◌, ◌/◌, ◌%◌, ◌≤◌, Bool, false, IsTrue, ◌==◌, ◌||◌, if◌then◌else◌, nat_le, ℤ, pos, negsuc, neg_ℤ, ◌*ℤ◌, ◌-ℤ◌, ◌≤ℤ◌}
+use Rattle.std.specs.Prelude.{◌≡◌, ◌⊎◌, ℕ, ◌+◌, ◌*◌, ◌/◌, ◌%◌, ◌≤◌, Bool, false, IsTrue, ◌==◌, ◌||◌, ◌&&◌, if◌then◌else◌, nat_le, nat_lt, ℤ, pos, negsuc, neg_ℤ, ◌*ℤ◌, ◌-ℤ◌, ◌≤ℤ◌}
 use Rattle.std.specs.Int.RustNames.{unsigned_abs}
 use Rattle.farm_rounding.specs.declared.mode.Mode.{Mode}
-use Rattle.farm_rounding.specs.declared.mode.Mode.TheVariants.{HalfAway, TowardZero}
+use Rattle.farm_rounding.specs.declared.mode.Mode.TheVariants.{HalfAway, TowardZero, HalfEven}
 
 -- the steps that a rounding table may have
 abbrev pub is_step : ℕ → Bool
@@ -16,6 +16,7 @@ IsAllowedStep step = (pos 0 ≤ℤ step) × IsTrue (is_step (unsigned_abs step))
 abbrev pub rounds_up : Mode → ℕ → ℕ → ℕ → Bool
 rounds_up HalfAway steps left whole = nat_le whole (2 * left)
 rounds_up TowardZero steps left whole = false
+rounds_up HalfEven steps left whole = nat_lt whole (2 * left) || (2 * left == whole && steps % 2 == 1)
 
 -- this magnitude with the sign of n
 abbrev pub with_sign_of : ℤ → ℕ → ℤ
@@ -49,6 +50,16 @@ pub record IsNearestHalfAway (n : ℤ) (d step : ℕ) (m : ℤ) : Type 0 where
   pub nearest : (other : ℤ) → IsMultiple step other → distance n d m ≤ distance n d other
   pub ties : (other : ℤ) → IsMultiple step other → distance n d other ≡ distance n d m → unsigned_abs other ≤ unsigned_abs m
 
+-- m is an even number of steps: a multiple of twice the step
+abbrev pub IsEvenMultiple : ℕ → ℤ → Type 0
+IsEvenMultiple step m = IsMultiple (2 * step) m
+
+-- m is at the least distance from n / d, and of two multiples at that distance the one that is an even number of steps
+pub record IsNearestHalfEven (n : ℤ) (d step : ℕ) (m : ℤ) : Type 0 where
+  pub multiple : IsMultiple step m
+  pub nearest : (other : ℤ) → IsMultiple step other → distance n d m ≤ distance n d other
+  pub ties : (other : ℤ) → IsMultiple step other → distance n d other ≡ distance n d m → ¬ (other ≡ m) → IsEvenMultiple step m
+
 -- m lies between 0 and n / d, both included
 abbrev pub IsBetween : ℤ → ℕ → ℤ → Type 0
 IsBetween n d m = ((pos 0 ≤ℤ m) × ((m *ℤ pos d) ≤ℤ n)) ⊎ ((n ≤ℤ (m *ℤ pos d)) × (m ≤ℤ pos 0))
@@ -63,3 +74,4 @@ pub record IsTruncated (n : ℤ) (d step : ℕ) (m : ℤ) : Type 0 where
 abbrev pub IsNearest : Mode → ℤ → ℕ → ℕ → ℤ → Type 0
 IsNearest HalfAway n d step m = IsNearestHalfAway n d step m
 IsNearest TowardZero n d step m = IsTruncated n d step m
+IsNearest HalfEven n d step m = IsNearestHalfEven n d step m

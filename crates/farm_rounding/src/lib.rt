@@ -1,8 +1,8 @@
 //! Rounding a quotient to a multiple of a step, and the table that says how each figure of the custody calculation is rounded.
 //!
-//! A rule is a step (1, 2, 5, 10, 20, 50 or 100 units of the figure) and a mode. The twelve rows of the table are the
-//! profile of this terminal; docs/trade.md states them under "Rounding". The crate also has the signed arithmetic that
-//! the figures are computed by, under bounds that leave room for every result.
+//! A rule is a step (1, 2, 5, 10, 20, 50 or 100 units of the figure) and a mode (half away from zero, toward zero or half
+//! even). The twelve rows of the table are the profile of this terminal; docs/trade.md states them under "Rounding". The
+//! crate also has the signed arithmetic that the figures are computed by, under bounds that leave room for every result.
 #![tactic(auto)]
 
 mod arithmetic;

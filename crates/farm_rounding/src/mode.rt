@@ -1,4 +1,4 @@
-//! The two ways of rounding.
+//! The three ways of rounding.
 
 /// Which multiple of the step a quotient is rounded to.
 #[derive(Clone, Copy, Debug, PartialEq, Eq)]
@@ -7,4 +7,6 @@ pub enum Mode {
     HalfAway,
     /// The furthest from zero that isn't beyond the quotient.
     TowardZero,
+    /// The nearest, and of two at equal distance the one that is an even number of steps.
+    HalfEven,
 }

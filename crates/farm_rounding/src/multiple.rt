@@ -44,7 +44,7 @@ fn steps_to(mode: Mode, magnitude: u128, whole: u128) -> u128
 {
     let steps = magnitude / whole;
     let left = magnitude % whole;
-    if rounds_up(mode, left, whole) {
+    if rounds_up(mode, steps, left, whole) {
         steps + 1
     } else {
         steps
@@ -52,12 +52,13 @@ fn steps_to(mode: Mode, magnitude: u128, whole: u128) -> u128
 }
 
 // Whether what is left over the whole steps makes one step more.
-fn rounds_up(mode: Mode, left: u128, whole: u128) -> bool
+fn rounds_up(mode: Mode, steps: u128, left: u128, whole: u128) -> bool
     requires { left < 10 ^ 37 }
-    ensures { (steps : ℕ) → result ≡ rounds_up mode steps left whole }
+    ensures { result ≡ rounds_up mode steps left whole }
 {
     match mode {
         Mode::HalfAway => whole <= 2 * left,
         Mode::TowardZero => false,
+        Mode::HalfEven => whole < 2 * left || (2 * left == whole && steps % 2 == 1),
     }
 }

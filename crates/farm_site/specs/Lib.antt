@@ -6,6 +6,7 @@ pub mod Numbers
 pub mod Products
 pub mod Parties
 pub mod Tanks
+pub mod Formats
 pub mod Facts
 pub mod Lines
 pub mod Typed

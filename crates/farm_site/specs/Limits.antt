@@ -1,6 +1,10 @@
 -- The numbers of the limits.
 use Rattle.std.specs.Prelude.{ℕ, ℤ, pos}
 
+-- a format's number is from 1 up to this
+abbrev pub most_format : ℕ
+most_format = 2
+
 -- an item's number is from 1 up to this
 abbrev pub most_number : ℕ
 most_number = 65535

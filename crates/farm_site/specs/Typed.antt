@@ -22,10 +22,11 @@ pub record IsTypedGrid (grid : Grid) : Type 0 where
 abbrev pub IsTypedProduct : Product → Type 0
 IsTypedProduct product = IsTypedGrid product.vcf
 
--- the ends of a roof's zone are heights
+-- the ends of a roof's zone are heights, and its reference density, if it has one, is from 400.0 to 1200.0 kg/m3
 pub record IsTypedRoof (roof : Roof) : Type 0 where
   pub low : IsWithin (pos 0) most_height roof.low
   pub high : IsWithin (pos 0) most_height roof.high
+  pub reference : IfSome roof.reference (IsWithin least_density most_density)
 
 -- a tank has a reference temperature, a roof or none, and a capacity table
 pub record IsTypedTank (tank : Tank) : Type 0 where

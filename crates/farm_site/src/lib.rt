@@ -5,6 +5,7 @@
 //! `site_encoding`'s and `site_decoding`'s. docs/trade.md says what a site is, under "Site".
 #![tactic(auto)]
 
+mod formats;
 mod hosts;
 mod items;
 mod limits;
@@ -16,10 +17,11 @@ mod site;
 mod sound;
 mod texts;
 
+pub use formats::{Format, format_needed};
 pub use hosts::is_host;
 pub use items::{Party, Product, Tank};
 pub use limits::{
-    MOST_LINES, MOST_NAME_BYTES, MOST_NUMBER, MOST_PARTIES, MOST_PRODUCTS, MOST_STOCK, MOST_TANKS,
+    MOST_FORMAT, MOST_LINES, MOST_NAME_BYTES, MOST_NUMBER, MOST_PARTIES, MOST_PRODUCTS, MOST_STOCK, MOST_TANKS,
 };
 pub use lists::{Lines, Parties, Products, Tanks};
 pub use names::{Name, is_name};

@@ -1,5 +1,8 @@
 //! Limits of a site.
 
+/// A format's number is from 1 up to this.
+pub const MOST_FORMAT: u32 = 2;
+
 /// An item's number is from 1 up to this.
 pub const MOST_NUMBER: u32 = 65_535;
 

@@ -4,13 +4,14 @@ use Rattle.std.proofs.lemmas.Bool.Decides.{nat_tests}
 use Rattle.std.proofs.lemmas.Int.{ints}
 use Rattle.std.specs.Prelude.{ℤ, ◌≤ℤ◌}
 use Rattle.farm_rounding.specs.declared.mode.Mode.{Mode}
-use Rattle.farm_rounding.specs.declared.mode.Mode.TheVariants.{HalfAway, TowardZero}
+use Rattle.farm_rounding.specs.declared.mode.Mode.TheVariants.{HalfAway, TowardZero, HalfEven}
 use Rattle.farm_vcf.specs.Closest.{IsTakenOver, WinsTie, is_taken_over, wins_tie}
 
 -- a value wins a tie with itself
 tie_itself : (mode : Mode) (a : ℤ) → WinsTie mode a a
 tie_itself HalfAway a = (omega arith, λ same. omega (arith, ints))
 tie_itself TowardZero a = (omega arith, λ same. omega (arith, ints))
+tie_itself HalfEven a = (omega arith, λ same. omega (arith, ints))
 
 -- a value is taken over itself
 pub over_itself : (mode : Mode) (value a : ℤ) → IsTakenOver mode value a a
@@ -20,6 +21,7 @@ over_itself mode value a = record { near = omega arith; tie = λ same. tie_itsel
 tie_on : (mode : Mode) (a b c : ℤ) → WinsTie mode a b → WinsTie mode b c → WinsTie mode a c
 tie_on HalfAway a b c first second = (omega (arith, first.0, second.0), λ same. let one : b ≤ℤ a = first.1 (omega (arith, first.0, second.0)) in let other : c ≤ℤ b = second.1 (omega (arith, first.0, second.0)) in omega (arith, ints))
 tie_on TowardZero a b c first second = (omega (arith, first.0, second.0), λ same. let one : b ≤ℤ a = first.1 (omega (arith, first.0, second.0)) in let other : c ≤ℤ b = second.1 (omega (arith, first.0, second.0)) in omega (arith, ints))
+tie_on HalfEven a b c first second = (omega (arith, first.0, second.0), λ same. let one : b ≤ℤ a = first.1 (omega (arith, first.0, second.0)) in let other : c ≤ℤ b = second.1 (omega (arith, first.0, second.0)) in omega (arith, ints))
 
 -- a value that is taken over one that is taken is taken
 pub over_on : (mode : Mode) (value a b c : ℤ) → IsTakenOver mode value a b → IsTakenOver mode value b c → IsTakenOver mode value a c
@@ -32,11 +34,13 @@ over_on mode value a b c first second = record {
 tie_tells : (mode : Mode) (a b : ℤ) → wins_tie mode a b ≡ true → WinsTie mode a b
 tie_tells HalfAway a b holds = (grind (arith, ints, nat_tests), λ same. grind (arith, ints, nat_tests))
 tie_tells TowardZero a b holds = (grind (arith, ints, nat_tests), λ same. grind (arith, ints, nat_tests))
+tie_tells HalfEven a b holds = (grind (arith, ints, nat_tests), λ same. grind (arith, ints, nat_tests))
 
 -- and where it fails the other wins
 tie_fails : (mode : Mode) (a b : ℤ) → wins_tie mode a b ≡ false → WinsTie mode b a
 tie_fails HalfAway a b fails = (grind (arith, ints, nat_tests), λ same. grind (arith, ints, nat_tests))
 tie_fails TowardZero a b fails = (grind (arith, ints, nat_tests), λ same. grind (arith, ints, nat_tests))
+tie_fails HalfEven a b fails = (grind (arith, ints, nat_tests), λ same. grind (arith, ints, nat_tests))
 
 -- where the test passes, it is taken over the other
 pub over_tells : (mode : Mode) (value a b : ℤ) → is_taken_over mode value a b ≡ true → IsTakenOver mode value a b
@@ -59,6 +63,10 @@ tie_both HalfAway a b first second =
     let other : a ≤ℤ b = second.1 (omega (arith, first.0, second.0)) in
     omega (arith, ints)
 tie_both TowardZero a b first second =
+    let one : b ≤ℤ a = first.1 (omega (arith, first.0, second.0)) in
+    let other : a ≤ℤ b = second.1 (omega (arith, first.0, second.0)) in
+    omega (arith, ints)
+tie_both HalfEven a b first second =
     let one : b ≤ℤ a = first.1 (omega (arith, first.0, second.0)) in
     let other : a ≤ℤ b = second.1 (omega (arith, first.0, second.0)) in
     omega (arith, ints)

@@ -3,7 +3,7 @@ use Rattle.std.specs.Prelude.{◌≡◌, ℕ, ◌+◌, ◌-◌, ◌<◌, ◌≤�
 use Rattle.std.specs.Int.RustNames.{unsigned_abs, int_lt}
 use Rattle.farm_fixed.specs.Range.{distance}
 use Rattle.farm_rounding.specs.declared.mode.Mode.{Mode}
-use Rattle.farm_rounding.specs.declared.mode.Mode.TheVariants.{HalfAway, TowardZero}
+use Rattle.farm_rounding.specs.declared.mode.Mode.TheVariants.{HalfAway, TowardZero, HalfEven}
 
 -- the listed value at an index from 0
 abbrev pub listed_at : List ℤ → ℕ → ℤ
@@ -13,13 +13,18 @@ listed_at listed index = slice_index_or listed index (pos 0)
 pub record Rises (listed : List ℤ) : Type 0 where
   pub steps : (index : ℕ) → index + 1 < length listed → listed_at listed index <ℤ listed_at listed (index + 1)
 
--- Of two values at the same distance: half away takes the one of greater magnitude, toward zero the one of lesser, and of
--- equal magnitudes both take the greater value.
-abbrev pub WinsTie : Mode → ℤ → ℤ → Type 0
-WinsTie HalfAway taken other =
+-- a value is the one of greater magnitude, and of equal magnitudes the greater value
+abbrev pub IsGreaterOf : ℤ → ℤ → Type 0
+IsGreaterOf taken other =
     (unsigned_abs other ≤ unsigned_abs taken) × (unsigned_abs other ≡ unsigned_abs taken → other ≤ℤ taken)
+
+-- Of two values at the same distance: half away and half even take the one of greater magnitude, toward zero the one of
+-- lesser, and of equal magnitudes all take the greater value.
+abbrev pub WinsTie : Mode → ℤ → ℤ → Type 0
+WinsTie HalfAway taken other = IsGreaterOf taken other
 WinsTie TowardZero taken other =
     (unsigned_abs taken ≤ unsigned_abs other) × (unsigned_abs other ≡ unsigned_abs taken → other ≤ℤ taken)
+WinsTie HalfEven taken other = IsGreaterOf taken other
 
 -- one listed value is taken and not another: it is nearer, or as near and the rule for ties takes it
 pub record IsTakenOver (mode : Mode) (value taken other : ℤ) : Type 0 where
@@ -32,11 +37,15 @@ pub record IsClosest (mode : Mode) (value : ℤ) (listed : List ℤ) (index : �
   pub taken : (other : ℕ) → other < length listed → IsTakenOver mode value (listed_at listed index) (listed_at listed other)
 
 -- the tests of these
-abbrev pub wins_tie : Mode → ℤ → ℤ → Bool
-wins_tie HalfAway taken other =
+abbrev pub is_greater_of : ℤ → ℤ → Bool
+is_greater_of taken other =
     nat_lt (unsigned_abs other) (unsigned_abs taken) || (unsigned_abs other == unsigned_abs taken && int_lt other taken)
+
+abbrev pub wins_tie : Mode → ℤ → ℤ → Bool
+wins_tie HalfAway taken other = is_greater_of taken other
 wins_tie TowardZero taken other =
     nat_lt (unsigned_abs taken) (unsigned_abs other) || (unsigned_abs other == unsigned_abs taken && int_lt other taken)
+wins_tie HalfEven taken other = is_greater_of taken other
 
 -- one listed value is taken and not another
 abbrev pub is_taken_over : Mode → ℤ → ℤ → ℤ → Bool

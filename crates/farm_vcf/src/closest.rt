@@ -84,7 +84,7 @@ fn wins_tie(mode: Mode, taken: i64, other: i64) -> bool
     let size = taken.unsigned_abs();
     let other_size = other.unsigned_abs();
     match mode {
-        Mode::HalfAway => other_size < size || other_size == size && other < taken,
+        Mode::HalfAway | Mode::HalfEven => other_size < size || other_size == size && other < taken,
         Mode::TowardZero => size < other_size || other_size == size && other < taken,
     }
 }

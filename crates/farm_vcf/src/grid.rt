@@ -95,8 +95,8 @@ impl Vcf {
 
     /// The factor at the nearest listed density and the nearest listed temperature.
     ///
-    /// Of two listed values at the same distance `HalfAway` takes the one of greater magnitude and `TowardZero` the one of
-    /// lesser; of -5.00 and 5.00 both take 5.00. `NoEntry` exactly below the first or above the last listed value.
+    /// Of two listed values at the same distance `HalfAway` and `HalfEven` take the one of greater magnitude and `TowardZero`
+    /// the one of lesser; of -5.00 and 5.00 all take 5.00. `NoEntry` exactly below the first or above the last listed value.
     pub fn entry(&self, density: Dens, liquid: Centi, mode: Mode) -> Result<Fac5, NoEntry>
         ensures factor { MatchResult result (λ factor. grid_factor mode self.now density liquid ≡ Some factor) (λ _. grid_factor mode self.now density liquid ≡ None) }
         ensures meaning { MatchResult result (λ factor. IsEntry mode self.now density liquid factor) (λ _. ¬ (IsInGrid self.now density liquid)) }

@@ -11,16 +11,19 @@ use Rattle.site_decoding.specs.declared.fault.SiteBytesFault.{SiteBytesFault}
 use Rattle.site_decoding.specs.declared.fault.SiteBytesFault.TheVariants.{BadSite, NoMemory}
 use Rattle.site_decoding.specs.ByteReaders.{Gives}
 use Rattle.site_decoding.specs.Decoding.{head_at, lines_at, parties_at, products_at, tanks_at}
-use Rattle.site_encoding.specs.Encoding.{line_bytes, list_bytes, party_bytes, product_bytes, row_bytes, short_list_bytes, tank_bytes, text_bytes, site_encoding}
-use Rattle.site_decoding.specs.Parts.{HeadsAreRead, LinesAreRead, PartiesAreRead, ProductsAreRead, TanksAreRead, head_bytes}
+use Rattle.site_encoding.specs.Encoding.{line_bytes, list_bytes, party_bytes, product_bytes, row_bytes, short_list_bytes, tank_bytes, text_bytes, encoding_in, site_encoding}
+use Rattle.site_decoding.specs.Parts.{AreTanksIn, HeadsAreRead, IsHead, LinesAreRead, PartiesAreRead, ProductsAreRead, TanksAreRead, head_bytes}
 use Rattle.site_decoding.specs.Readers.{IsBytes, IsReader}
-use Rattle.site_decoding.proofs.Readers.{bind_ok, made_reader, ok_is, passed, then_reader}
+use Rattle.site_decoding.proofs.Readers.{bind_ok, made_reader, ok_is, passed, tested_reader, then_reader}
+use Rattle.site_decoding.proofs.FormatFacts.{is_same_format-self, said_in_needed, same_format}
+use Rattle.farm_site.specs.declared.formats.Format.{Format}
 use Rattle.farm_site.specs.declared.items.Party.{Party}
 use Rattle.farm_site.specs.declared.items.Product.{Product}
 use Rattle.farm_site.specs.declared.items.Tank.{Tank}
 use Rattle.farm_site.specs.Products.{product_number}
-use Rattle.site_decoding.specs.Sites.{Parts, site_at, site_of, whole_site, OneEncoding}
-use Rattle.farm_site.specs.Described.{Described, IsSite}
+use Rattle.site_decoding.specs.Sites.{Parts, is_in_format, parts_at, site_at, site_of, whole_site, OneEncoding}
+use Rattle.farm_site.specs.Described.{AreLines, AreParties, AreProducts, Described, IsSite}
+use Rattle.farm_site.specs.Formats.{format_needed, format_number}
 
 -- each part is read from its bytes alone
 pub record PartsAreRead : Type 0 where
@@ -34,27 +37,62 @@ pub record PartsAreRead : Type 0 where
 regroup : (a b c d e f : List ℕ) → a ++ b ++ c ++ d ++ e ++ f ≡ (a ++ b) ++ (c ++ (d ++ (e ++ f)))
 regroup a b c d e f = simp append_assoc
 
--- a site's bytes are those of its parts
-site_same : (f : Parts) → site_encoding (site_of f) ≡
-    head_bytes f.0 ++ (short_list_bytes product_bytes f.1.0 ++ (list_bytes w16 party_bytes f.1.1.0 ++ (short_list_bytes tank_bytes f.1.1.1.0 ++ short_list_bytes line_bytes f.1.1.1.1)))
+-- the bytes of parts, one after another
+abbrev parts_bytes : Parts → List ℕ
+parts_bytes f =
+    head_bytes f.0 ++ (short_list_bytes product_bytes f.1.0 ++ (list_bytes w16 party_bytes f.1.1.0 ++ (short_list_bytes (tank_bytes f.0.0) f.1.1.1.0 ++
+    short_list_bytes line_bytes f.1.1.1.1)))
+
+-- parts that a site may have, in their format
+abbrev ArePartsOf : Parts → Type 0
+ArePartsOf f = IsHead f.0 × (AreProducts f.1.0 × (AreParties f.1.1.0 × (AreTanksIn f.0.0 f.1.0 f.1.1.1.0 × AreLines f.1.1.1.0 f.1.1.1.1)))
+
+-- the bytes of a site in the format of its parts are theirs
+same_in : (f : Parts) → encoding_in f.0.0 (site_of f) ≡ parts_bytes f
+unfolding encoding_in
+same_in f =
+    regroup (format_number f.0.0 ∷ text_bytes f.0.1.0) (flat_map row_bytes f.0.1.1) (short_list_bytes product_bytes f.1.0) (list_bytes w16 party_bytes f.1.1.0)
+    (short_list_bytes (tank_bytes f.0.0) f.1.1.1.0) (short_list_bytes line_bytes f.1.1.1.1)
+
+-- a site's bytes are those of its parts, where their format is the one that it needs
+site_same : (f : Parts) → is_in_format f ≡ true → site_encoding (site_of f) ≡ parts_bytes f
 unfolding site_encoding
-site_same f =
-    regroup (1 ∷ text_bytes f.0.0) (flat_map row_bytes f.0.1) (short_list_bytes product_bytes f.1.0) (list_bytes w16 party_bytes f.1.1.0)
-    (short_list_bytes tank_bytes f.1.1.1.0) (short_list_bytes line_bytes f.1.1.1.1)
+site_same f is =
+    let needed : f.0.0 ≡ format_needed f.0.1.1 f.1.1.1.0 = same_format f.0.0 (format_needed f.0.1.1 f.1.1.1.0) is in
+    ap (λ format. encoding_in format (site_of f)) (sym needed) ∙ same_in f
+
+-- parts
+parts_reader : PartsAreRead → IsReader ArePartsOf parts_bytes parts_at
+unfolding parts_at
+parts_reader laws =
+    then_reader laws.heads (λ head h. then_reader laws.products (λ products i. then_reader laws.parties (λ parties j.
+    then_reader (laws.tanks head.0 products i.0) (λ tanks k. laws.lines (map product_number products) tanks k.0.0))))
+
+-- parts that a site may have are those of a site
+site_is : (f : Parts) → ArePartsOf f → IsSite (site_of f)
+site_is f h = record { named = h.0.0; rounding = h.0.1.0; products_sound = h.1.0; parties_sound = h.1.1.0; tanks_sound = h.1.1.1.0.0; lines_sound = h.1.1.1.1 }
+
+-- the parts of a site, in the format that it needs
+parts_of : Described → Parts
+parts_of site = ((format_needed site.rounding site.tanks, (site.name, site.rounding)), (site.products, (site.parties, (site.tanks, site.lines))))
+
+-- they are parts that a site may have
+parts_are : (site : Described) → IsSite site → ArePartsOf (parts_of site)
+unfolding parts_of
+parts_are site h =
+    let said = said_in_needed site.rounding site.tanks in
+    ((h.named, (h.rounding, said.0)), (h.products_sound, (h.parties_sound, ((h.tanks_sound, said.1), h.lines_sound))))
 
 -- sites
 site_reader : PartsAreRead → IsReader IsSite site_encoding site_at
-unfolding site_at
+unfolding site_at parts_of
 site_reader laws =
-    made_reader
-    (then_reader laws.heads (λ head h. then_reader laws.products (λ products i. then_reader laws.parties (λ parties j.
-    then_reader (laws.tanks products i.0) (λ tanks k. laws.lines (map product_number products) tanks k.0)))))
-    (record {
-      to = λ f h. record { named = h.0.0; rounding = h.0.1; products_sound = h.1.0; parties_sound = h.1.1.0; tanks_sound = h.1.1.1.0; lines_sound = h.1.1.1.1 };
-      same = λ f h. site_same f;
-      of = λ site. ((site.name, site.rounding), (site.products, (site.parties, (site.tanks, site.lines))));
+    made_reader (tested_reader is_in_format (parts_reader laws)) (record {
+      to = λ f h. site_is f h.0;
+      same = λ f h. site_same f h.1;
+      of = parts_of;
       back = λ site h. refl;
-      of_fits = λ site h. ((h.named, h.rounding), (h.products_sound, (h.parties_sound, (h.tanks_sound, h.lines_sound))));
+      of_fits = λ site h. (parts_are site h, is_same_format-self (format_needed site.rounding site.tanks));
     })
 
 -- what is read is a site, and the bytes are its
@@ -96,13 +134,13 @@ found_site laws view (Ok found) bytes fits gives = site_found laws bytes (view f
 found_site laws view (Err fault) bytes fits gives = tt
 
 -- the parts that were read one after another are those of a site
-pub parts_read : PartsAreRead → (bytes : List ℕ) → IsBytes bytes → (head : List ℕ × List Row) (after_head : List ℕ) → head_at bytes ≡ Ok (head, after_head) →
+pub parts_read : PartsAreRead → (bytes : List ℕ) → IsBytes bytes → (head : Format × (List ℕ × List Row)) (after_head : List ℕ) → head_at bytes ≡ Ok (head, after_head) →
     (products : List Product) (after_products : List ℕ) → products_at after_head ≡ Ok (products, after_products) →
     (parties : List Party) (after_parties : List ℕ) → parties_at after_products ≡ Ok (parties, after_parties) →
-    (tanks : List Tank) (after_tanks : List ℕ) → tanks_at products after_parties ≡ Ok (tanks, after_tanks) →
+    (tanks : List Tank) (after_tanks : List ℕ) → tanks_at head.0 products after_parties ≡ Ok (tanks, after_tanks) →
     (lines : List LineMap) (rest : List ℕ) → lines_at tanks after_tanks ≡ Ok (lines, rest) → IsSite (site_of (head, (products, (parties, (tanks, lines)))))
-unfolding site_at
+unfolding parts_at
 parts_read laws bytes fits head after_head h products after_products i parties after_parties j tanks after_tanks k lines rest l =
-    let site = site_of (head, (products, (parties, (tanks, lines)))) in
-    let read : site_at bytes ≡ Ok (site, rest) = rw (h, i, j, k, l) refl in
-    ((site_reader laws).takes bytes site rest fits read).1
+    let parts : Parts = (head, (products, (parties, (tanks, lines)))) in
+    let read : parts_at bytes ≡ Ok (parts, rest) = rw (h, i, j, k, l) refl in
+    site_is parts ((parts_reader laws).takes bytes parts rest fits read).1

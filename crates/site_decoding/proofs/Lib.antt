@@ -1,5 +1,6 @@
 -- The lemmas of `site_decoding`, by topic.
 pub mod Readers
+mod FormatFacts
 mod NumberReaders
 mod ListReaders
 mod HeadReaders

@@ -1,14 +1,14 @@
 -- Reading the items of a site from left to right. A reader gives an item and the bytes after it, and `BadSite` where bytes begin with
 -- no such item.
-use Rattle.std.specs.Prelude.{ℕ, ◌*◌, ◌==◌, ◌&&◌, ◌||◌, Bool, true, false, nat_le, List, [], ◌∷◌, length, map, Option, is_none, ℤ, pos}
+use Rattle.std.specs.Prelude.{ℕ, ◌*◌, ◌==◌, ◌&&◌, ◌||◌, Bool, true, false, nat_le, if◌then◌else◌, List, [], ◌∷◌, length, map, Option, None, is_none, Ok, ℤ, pos}
 use Rattle.std.specs.Int.{w16, w32, w64}
 use Rattle.std.specs.Int.RustNames.{int_lt}
-use Rattle.farm_fixed.specs.Range.{is_within}
+use Rattle.farm_fixed.specs.Range.{is_within, is_between}
 use Rattle.farm_fixed.specs.declared.records.Amount.{Amount}
 use Rattle.farm_fixed.specs.declared.records.Shell.{Shell}
 use Rattle.farm_fixed.specs.Limits.{least_density, least_factor, least_temperature, most_density, most_factor, most_height, most_temperature}
 use Rattle.farm_rounding.specs.declared.mode.Mode.{Mode}
-use Rattle.farm_rounding.specs.declared.mode.Mode.TheVariants.{HalfAway, TowardZero}
+use Rattle.farm_rounding.specs.declared.mode.Mode.TheVariants.{HalfAway, TowardZero, HalfEven}
 use Rattle.farm_rounding.specs.RowNumbers.{rounding_rows}
 use Rattle.farm_rounding.specs.Table.{Row, first_bad_row}
 use Rattle.farm_vcf.specs.Grid.{Grid, grid_from, is_full}
@@ -16,9 +16,13 @@ use Rattle.gauge_maps.specs.declared.map.Field.{Field}
 use Rattle.gauge_maps.specs.declared.map.GaugeMap.{GaugeMap}
 use Rattle.gauge_maps.specs.declared.map.LineMap.{LineMap}
 use Rattle.gauge_maps.specs.declared.map.Valid.{Valid}
+use Rattle.farm_site.specs.declared.formats.Format.{Format}
+use Rattle.farm_site.specs.declared.formats.Format.TheVariants.{One, Two}
 use Rattle.farm_site.specs.declared.items.Party.{Party}
 use Rattle.farm_site.specs.declared.items.Product.{Product}
 use Rattle.farm_site.specs.declared.items.Tank.{Tank}
+use Rattle.farm_site.specs.Formats.{format_of}
+use Rattle.farm_site.specs.Limits.{most_format}
 use Rattle.farm_site.specs.Facts.{are_parties, are_products, are_tanks}
 use Rattle.farm_site.specs.Names.{is_name}
 use Rattle.farm_site.specs.Products.{product_number}
@@ -27,33 +31,44 @@ use Rattle.farm_site.specs.Lines.{are_lines}
 use Rattle.strap_table.specs.declared.tank.Roof.{Roof}
 use Rattle.strap_table.specs.declared.tank.TankSpec.{TankSpec}
 use Rattle.strap_table.specs.Faults.{first_fault}
-use Rattle.site_encoding.specs.Limits.{format_byte}
 use Rattle.site_decoding.specs.ByteReaders.{Reader, then_at, ◌▸◌, made_at, tested_at, byte_at, byte_up_to, flag_at, number_at, natural_at, signed_at, text_at, option_at, counted_at, short_list_at, list_at}
 use Rattle.site_decoding.specs.declared.decoding.gauges.Fields.{Fields}
 use Rattle.gauge_maps.specs.declared.request.Request.{Request}
 
 -- The head.
 
+-- the format of a site, by its number
+unfoldable pub format_at : Reader Format
+format_at = made_at format_of (tested_at (is_between 1 most_format) byte_at)
+
 -- a name of the site, of a product or of a party
 unfoldable pub name_at : Reader (List ℕ)
 name_at = tested_at is_name text_at
 
--- how a quotient is rounded
-abbrev pub mode_of : Bool → Mode
-mode_of false = HalfAway
-mode_of true = TowardZero
+-- the last of the modes that a format has: format 2 alone has half to even
+abbrev pub most_mode_byte : Format → ℕ
+most_mode_byte One = 1
+most_mode_byte Two = 2
+
+-- how a quotient is rounded, by the byte of a mode: 0, 1 or 2
+abbrev pub mode_of : ℕ → Mode
+mode_of byte = if byte == 0 then HalfAway else if byte == 1 then TowardZero else HalfEven
+
+-- a mode of a format
+unfoldable pub mode_at : Format → Reader Mode
+mode_at format = made_at mode_of (byte_up_to (most_mode_byte format))
 
 -- a row of the rounding table
-unfoldable pub row_at : Reader Row
-row_at = byte_at ▸ made_at mode_of flag_at
+unfoldable pub row_at : Format → Reader Row
+row_at format = byte_at ▸ mode_at format
 
 -- the rounding table
-unfoldable pub rounding_at : Reader (List Row)
-rounding_at = tested_at (λ rows. is_none (first_bad_row 1 rows)) (counted_at row_at rounding_rows)
+unfoldable pub rounding_at : Format → Reader (List Row)
+rounding_at format = tested_at (λ rows. is_none (first_bad_row 1 rows)) (counted_at (row_at format) rounding_rows)
 
--- the head of a site: its format, its name and its rounding table
-unfoldable pub head_at : Reader (List ℕ × List Row)
-head_at = made_at (λ head. head.1) (tested_at (λ format. format == format_byte) byte_at ▸ name_at ▸ rounding_at)
+-- the head of a site: its format, and by it the name and the rounding table
+unfoldable pub head_at : Reader (Format × (List ℕ × List Row))
+head_at = then_at format_at (λ format. name_at ▸ rounding_at format)
 
 -- Products and parties.
 
@@ -116,13 +131,20 @@ height_at = tested_at (is_within (pos 0) most_height) (natural_at w16)
 unfoldable pub shell_at : Reader Shell
 shell_at = made_at (λ f. record { insulated = f.0; coefficient = f.1.0; reference = f.1.1 }) (flag_at ▸ natural_at w16 ▸ temperature_at)
 
+-- the reference density of a roof that may have one, which format 2 alone has
+abbrev pub reference_at : Format → Reader (Option ℤ)
+reference_at One bytes = Ok (None, bytes)
+reference_at Two bytes = option_at density_at bytes
+
 -- a roof
-unfoldable pub roof_at : Reader Roof
-roof_at = made_at (λ f. record { mass = f.0; low = f.1.0; high = f.1.1 }) (natural_at w32 ▸ height_at ▸ height_at)
+unfoldable pub roof_at : Format → Reader Roof
+roof_at format =
+    made_at (λ f. record { mass = f.0; low = f.1.0; high = f.1.1.0; reference = f.1.1.1 })
+    (natural_at w32 ▸ height_at ▸ height_at ▸ reference_at format)
 
 -- what is fixed of a tank
-unfoldable pub spec_at : Reader TankSpec
-spec_at = made_at (λ f. record { shell = f.0; height = f.1.0; roof = f.1.1 }) (shell_at ▸ height_at ▸ option_at roof_at)
+unfoldable pub spec_at : Format → Reader TankSpec
+spec_at format = made_at (λ f. record { shell = f.0; height = f.1.0; roof = f.1.1 }) (shell_at ▸ height_at ▸ option_at (roof_at format))
 
 -- a capacity table
 unfoldable pub table_at : Reader (List ℤ)
@@ -133,14 +155,14 @@ unfoldable pub amount_at : Reader Amount
 amount_at = made_at (λ f. record { litres = f.0; kg = f.1 }) (signed_at w64 ▸ signed_at w64)
 
 -- a tank
-unfoldable pub tank_at : Reader Tank
-tank_at =
+unfoldable pub tank_at : Format → Reader Tank
+tank_at format =
     made_at (λ f. record { number = f.0; product = f.1.0; spec = f.1.1.0; table = f.1.1.1.0; opening = f.1.1.1.1 })
-    (number_at w16 ▸ number_at w16 ▸ spec_at ▸ table_at ▸ amount_at)
+    (number_at w16 ▸ number_at w16 ▸ spec_at format ▸ table_at ▸ amount_at)
 
 -- the tanks of a site, each of one of these products
-unfoldable pub tanks_at : List Product → Reader (List Tank)
-tanks_at products = tested_at (are_tanks (map product_number products)) (short_list_at tank_at)
+unfoldable pub tanks_at : Format → List Product → Reader (List Tank)
+tanks_at format products = tested_at (are_tanks (map product_number products)) (short_list_at (tank_at format))
 
 -- Gauge lines.
 

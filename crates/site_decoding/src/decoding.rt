@@ -14,24 +14,26 @@ mod tanks;
 use crate::SiteBytesFault;
 use crate::SiteBytesFault::BadSite;
 use farm_rounding::RoundTable;
-use farm_site::{Name, Party, Product, Tank, are_lines, are_parties, are_products, are_tanks};
+use farm_site::{
+    Format, Name, Party, Product, Tank, are_lines, are_parties, are_products, are_tanks,
+};
 use gauge_maps::LineMap;
 use heads::{format_at, name_at, rounding_at};
 use lists::{list16_at, short_list_at};
 use std::alloc::Global;
 
-/// The name of a site and its rounding table, after the byte of its format.
+/// The format of a site, its name and its rounding table.
 #[tactic(auto, unfolding(crate::specs::Decoding::head_at))]
 pub(crate) fn head_at(
     alloc: Global,
     bytes: &[u8],
-) -> Result<((Name, RoundTable), &[u8]), SiteBytesFault>
+) -> Result<((Format, (Name, RoundTable)), &[u8]), SiteBytesFault>
     ensures reads { Gives (λ x. (x.0, x.1.now)) result (head_at bytes.now) }
 {
-    let (_, rest) = format_at(bytes)?;
+    let (format, rest) = format_at(bytes)?;
     let (name, rest) = name_at(alloc, rest)?;
-    match rounding_at(rest) {
-        Ok((rounding, rest)) => Ok(((name, rounding), rest)),
+    match rounding_at(format, rest) {
+        Ok((rounding, rest)) => Ok(((format, (name, rounding)), rest)),
         Err(fault) => Err(fault),
     }
 }
@@ -40,11 +42,12 @@ pub(crate) fn head_at(
 #[tactic(auto, unfolding(crate::specs::Decoding::products_at))]
 pub(crate) fn products_at(
     alloc: Global,
+    format: Format,
     bytes: &[u8],
 ) -> Result<(Vec<Product>, &[u8]), SiteBytesFault>
     ensures reads { Gives (λ x. (x.0.items, x.1.now)) result (products_at bytes.now) }
 {
-    let (products, rest) = short_list_at(alloc, 15, bytes)?;
+    let (products, rest) = short_list_at(alloc, format, 15, bytes)?;
     if !are_products(&products) {
         return Err(BadSite);
     }
@@ -53,10 +56,14 @@ pub(crate) fn products_at(
 
 /// The parties of a site.
 #[tactic(auto, unfolding(crate::specs::Decoding::parties_at))]
-pub(crate) fn parties_at(alloc: Global, bytes: &[u8]) -> Result<(Vec<Party>, &[u8]), SiteBytesFault>
+pub(crate) fn parties_at(
+    alloc: Global,
+    format: Format,
+    bytes: &[u8],
+) -> Result<(Vec<Party>, &[u8]), SiteBytesFault>
     ensures reads { Gives (λ x. (x.0.items, x.1.now)) result (parties_at bytes.now) }
 {
-    let (parties, rest) = list16_at(alloc, 3, bytes)?;
+    let (parties, rest) = list16_at(alloc, format, 3, bytes)?;
     if !are_parties(&parties) {
         return Err(BadSite);
     }
@@ -67,12 +74,13 @@ pub(crate) fn parties_at(alloc: Global, bytes: &[u8]) -> Result<(Vec<Party>, &[u
 #[tactic(auto, unfolding(crate::specs::Decoding::tanks_at))]
 pub(crate) fn tanks_at<'a>(
     alloc: Global,
+    format: Format,
     products: &[Product],
     bytes: &'a [u8],
 ) -> Result<(Vec<Tank>, &'a [u8]), SiteBytesFault>
-    ensures reads { Gives (λ x. (x.0.items, x.1.now)) result (tanks_at products.now bytes.now) }
+    ensures reads { Gives (λ x. (x.0.items, x.1.now)) result (tanks_at format products.now bytes.now) }
 {
-    let (tanks, rest) = short_list_at(alloc, 30, bytes)?;
+    let (tanks, rest) = short_list_at(alloc, format, 30, bytes)?;
     if !are_tanks(products, &tanks) {
         return Err(BadSite);
     }
@@ -83,12 +91,13 @@ pub(crate) fn tanks_at<'a>(
 #[tactic(auto, unfolding(crate::specs::Decoding::lines_at))]
 pub(crate) fn lines_at<'a>(
     alloc: Global,
+    format: Format,
     tanks: &[Tank],
     bytes: &'a [u8],
 ) -> Result<(Vec<LineMap>, &'a [u8]), SiteBytesFault>
     ensures reads { Gives (λ x. (x.0.items, x.1.now)) result (lines_at tanks.now bytes.now) }
 {
-    let (lines, rest) = short_list_at(alloc, 4, bytes)?;
+    let (lines, rest) = short_list_at(alloc, format, 4, bytes)?;
     if !are_lines(alloc, tanks, &lines)? {
         return Err(BadSite);
     }

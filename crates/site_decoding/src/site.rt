@@ -10,7 +10,7 @@ ghost use Rattle.site_decoding.specs.declared.fault.SiteBytesFault.TheVariants.{
 
 use crate::decoding::{head_at, lines_at, parties_at, products_at, tanks_at};
 use crate::{SiteBytesFault, decoding_laws};
-use farm_site::{Lines, Parties, Products, Site, Tanks};
+use farm_site::{Lines, Parties, Products, Site, Tanks, format_needed};
 use std::alloc::Global;
 
 /// A site that is read from its bytes. `Site` is the one that is.
@@ -44,14 +44,17 @@ fn whole(alloc: Global, bytes: &[u8]) -> Result<Site, SiteBytesFault>
     ensures whole { Gives (described) result (whole_site bytes.now) }
 {
     decoding_laws();
-    let ((name, rounding), rest) = match head_at(alloc, bytes) {
+    let ((format, (name, rounding)), rest) = match head_at(alloc, bytes) {
         Ok(read) => read,
         Err(fault) => return Err(fault),
     };
-    let (products, rest) = products_at(alloc, rest)?;
-    let (parties, rest) = parties_at(alloc, rest)?;
-    let (tanks, rest) = tanks_at(alloc, &products, rest)?;
-    let (lines, rest) = lines_at(alloc, &tanks, rest)?;
+    let (products, rest) = products_at(alloc, format, rest)?;
+    let (parties, rest) = parties_at(alloc, format, rest)?;
+    let (tanks, rest) = tanks_at(alloc, format, &products, rest)?;
+    let (lines, rest) = lines_at(alloc, format, &tanks, rest)?;
+    if !format.is(format_needed(&rounding, &tanks)) {
+        return Err(SiteBytesFault::BadSite);
+    }
     if !rest.is_empty() {
         return Err(SiteBytesFault::BadSite);
     }

@@ -5,6 +5,7 @@ use Rattle.std.specs.List.{flat_map}
 use Rattle.std.proofs.lemmas.List.Concat.{flat_map-cons}
 use Rattle.farm_rounding.specs.Table.{Row}
 use Rattle.farm_vcf.specs.Grid.{Grid}
+use Rattle.farm_site.specs.declared.formats.Format.{Format}
 use Rattle.farm_site.specs.declared.items.Tank.{Tank}
 use Rattle.site_encoding.specs.Encoding.{amount_bytes, grid_bytes, natural_bytes, option_bytes, roof_bytes, row_bytes, shell_bytes, signed_bytes, tank_bytes}
 
@@ -33,8 +34,8 @@ length-grid grid =
     simp length-append (omega arith)
 
 -- the bytes of a tank
-pub length-tank : (tank : Tank) → length (tank_bytes tank) ≡ 29 + length (option_bytes roof_bytes tank.spec.roof) + 4 * length tank.table
+pub length-tank : (format : Format) (tank : Tank) → length (tank_bytes format tank) ≡ 29 + length (option_bytes (roof_bytes format) tank.spec.roof) + 4 * length tank.table
 unfolding tank_bytes shell_bytes amount_bytes
-length-tank tank =
+length-tank format tank =
     let rows = length-flat_map-even (natural_bytes w32) 4 tank.table (λ one. refl) in
     simp length-append (omega arith)

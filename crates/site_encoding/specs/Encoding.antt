@@ -6,19 +6,21 @@ use Rattle.std.specs.List.{flat_map}
 use Rattle.farm_fixed.specs.declared.records.Amount.{Amount}
 use Rattle.farm_fixed.specs.declared.records.Shell.{Shell}
 use Rattle.farm_rounding.specs.declared.mode.Mode.{Mode}
-use Rattle.farm_rounding.specs.declared.mode.Mode.TheVariants.{HalfAway, TowardZero}
+use Rattle.farm_rounding.specs.declared.mode.Mode.TheVariants.{HalfAway, TowardZero, HalfEven}
 use Rattle.farm_rounding.specs.Table.{Row}
 use Rattle.farm_vcf.specs.Grid.{Grid}
 use Rattle.gauge_maps.specs.declared.map.Field.{Field}
 use Rattle.gauge_maps.specs.declared.map.GaugeMap.{GaugeMap}
 use Rattle.gauge_maps.specs.declared.map.LineMap.{LineMap}
 use Rattle.gauge_maps.specs.declared.map.Valid.{Valid}
+use Rattle.farm_site.specs.declared.formats.Format.{Format}
+use Rattle.farm_site.specs.declared.formats.Format.TheVariants.{One, Two}
 use Rattle.farm_site.specs.declared.items.Party.{Party}
 use Rattle.farm_site.specs.declared.items.Product.{Product}
 use Rattle.farm_site.specs.declared.items.Tank.{Tank}
 use Rattle.strap_table.specs.declared.tank.Roof.{Roof}
 use Rattle.farm_site.specs.Described.{Described}
-use Rattle.site_encoding.specs.Limits.{format_byte}
+use Rattle.farm_site.specs.Formats.{format_needed, format_number}
 
 -- a number that isn't below 0
 abbrev pub natural_bytes : Width → ℤ → List ℕ
@@ -50,10 +52,11 @@ short_list_bytes item items = length items ∷ flat_map item items
 abbrev pub list_bytes : {A : Type 0} → Width → (A → List ℕ) → List A → List ℕ
 list_bytes w item items = to_be_bytes w (length items) ++ flat_map item items
 
--- half away from zero is 0, toward zero is 1
+-- half away from zero is 0, toward zero is 1, half to even is 2
 abbrev pub mode_byte : Mode → ℕ
 mode_byte HalfAway = 0
 mode_byte TowardZero = 1
+mode_byte HalfEven = 2
 
 -- a row of the rounding table: its step and its mode
 abbrev pub row_bytes : Row → List ℕ
@@ -77,19 +80,25 @@ party_bytes party = to_be_bytes w16 party.number ++ text_bytes party.name
 unfoldable pub shell_bytes : Shell → List ℕ
 shell_bytes shell = flag_byte shell.insulated ∷ natural_bytes w16 shell.coefficient ++ signed_bytes w16 shell.reference
 
--- a roof: its mass, and the low and the high end of its zone
-unfoldable pub roof_bytes : Roof → List ℕ
-roof_bytes roof = natural_bytes w32 roof.mass ++ natural_bytes w16 roof.low ++ natural_bytes w16 roof.high
+-- the reference density of a roof that may have one, which format 2 alone has
+abbrev pub reference_bytes : Format → Option ℤ → List ℕ
+reference_bytes One reference = []
+reference_bytes Two reference = option_bytes (natural_bytes w16) reference
+
+-- a roof: its mass, the low and the high end of its zone, and its reference density
+unfoldable pub roof_bytes : Format → Roof → List ℕ
+roof_bytes format roof =
+    natural_bytes w32 roof.mass ++ natural_bytes w16 roof.low ++ natural_bytes w16 roof.high ++ reference_bytes format roof.reference
 
 -- an opening stock: litres and kilograms
 unfoldable pub amount_bytes : Amount → List ℕ
 amount_bytes amount = signed_bytes w64 amount.litres ++ signed_bytes w64 amount.kg
 
 -- a tank: its number, its product, its shell, its reference height, its roof, the rows of its table and its opening stock
-unfoldable pub tank_bytes : Tank → List ℕ
-tank_bytes tank =
+unfoldable pub tank_bytes : Format → Tank → List ℕ
+tank_bytes format tank =
     to_be_bytes w16 tank.number ++ to_be_bytes w16 tank.product ++ shell_bytes tank.spec.shell ++ natural_bytes w16 tank.spec.height
-    ++ option_bytes roof_bytes tank.spec.roof ++ list_bytes w16 (natural_bytes w32) tank.table ++ amount_bytes tank.opening
+    ++ option_bytes (roof_bytes format) tank.spec.roof ++ list_bytes w16 (natural_bytes w32) tank.table ++ amount_bytes tank.opening
 
 -- how the words of a field are read: 1 where they are swapped, 2 where the number is signed, and their sum
 abbrev pub field_flags : Field → ℕ
@@ -118,8 +127,12 @@ gauge_bytes gauge =
 unfoldable pub line_bytes : LineMap → List ℕ
 line_bytes line = text_bytes line.host ++ to_be_bytes w16 line.port ++ short_list_bytes gauge_bytes line.gauges
 
--- the bytes of a site: their format, its name, how figures are rounded, its products, parties, tanks and gauge lines
+-- the bytes of a site in a format: its number, the name, how figures are rounded, the products, parties, tanks and gauge lines
+unfoldable pub encoding_in : Format → Described → List ℕ
+encoding_in format site =
+    format_number format ∷ text_bytes site.name ++ flat_map row_bytes site.rounding ++ short_list_bytes product_bytes site.products
+    ++ list_bytes w16 party_bytes site.parties ++ short_list_bytes (tank_bytes format) site.tanks ++ short_list_bytes line_bytes site.lines
+
+-- the bytes of a site: those in the format that it needs
 unfoldable pub site_encoding : Described → List ℕ
-site_encoding site =
-    format_byte ∷ text_bytes site.name ++ flat_map row_bytes site.rounding ++ short_list_bytes product_bytes site.products
-    ++ list_bytes w16 party_bytes site.parties ++ short_list_bytes tank_bytes site.tanks ++ short_list_bytes line_bytes site.lines
+site_encoding site = encoding_in (format_needed site.rounding site.tanks) site

@@ -54,7 +54,7 @@ most_party_bytes = 3 + most_name_bytes
 
 -- the most bytes of a tank
 abbrev pub most_tank_bytes : ℕ
-most_tank_bytes = 38 + 4 * most_rows
+most_tank_bytes = 41 + 4 * most_rows
 
 -- the most bytes of a gauge
 abbrev pub most_gauge_bytes : ℕ

@@ -10,6 +10,3 @@ mod site;
 
 pub use number_laws::defined_numbers;
 pub use site::{MOST_SITE_BYTES, SiteToBytes};
-
-/// The first byte of a site's bytes, which names their format.
-pub const FORMAT: u8 = 1;

@@ -4,7 +4,7 @@ ghost use Rattle.std.specs.Prelude.{◌≡◌, ◌<◌, IfOk, OnOk, length};
 ghost use Rattle.farm_site.specs.Described.{Described, IsSite};
 ghost use Rattle.farm_site.specs.Sites.{described};
 ghost use Rattle.site_encoding.specs.Buffers.{HasRoom, IsPut};
-ghost use Rattle.site_encoding.specs.Encoding.{site_encoding};
+ghost use Rattle.site_encoding.specs.Encoding.{encoding_in, site_encoding};
 ghost use Rattle.site_encoding.specs.declared.site.TheConstants.{MOST_SITE_BYTES};
 
 use crate::encoding::{
@@ -12,7 +12,7 @@ use crate::encoding::{
     put_parties, put_products, put_tanks,
 };
 use farm_base::NoMemory;
-use farm_site::Site;
+use farm_site::{Format, Site, format_needed};
 use std::alloc::Global;
 
 /// Each site has fewer bytes than this.
@@ -33,36 +33,38 @@ pub trait SiteToBytes {
 impl SiteToBytes for Site {
     ghost described = { described };
 
+    #[tactic(auto, unfolding(crate::specs::Encoding::site_encoding))]
     fn to_bytes(&self, alloc: Global) -> Result<Vec<u8>, NoMemory> {
-        let mut out = Vec::with_capacity(alloc, encoded_len(self))?;
-        put(self, &mut out);
+        let format = format_needed(&self.rounding, self.tanks.get());
+        let mut out = Vec::with_capacity(alloc, encoded_len(format, self))?;
+        put(format, self, &mut out);
         Ok(out)
     }
 }
 
-// How many bytes the site has.
-#[tactic(auto, unfolding(crate::specs::Encoding::site_encoding))]
-fn encoded_len(site: &Site) -> usize
-    ensures len { result ≡ length (site_encoding (described site.now)) }
+// How many bytes the site has in a format.
+#[tactic(auto, unfolding(crate::specs::Encoding::encoding_in))]
+fn encoded_len(format: Format, site: &Site) -> usize
+    ensures len { result ≡ length (encoding_in format (described site.now)) }
     ensures short { result < MOST_SITE_BYTES }
 {
-    len_of_head(site.name.get(), &site.rounding)
-        + len_of_products(site.products.get())
-        + len_of_parties(site.parties.get())
-        + len_of_tanks(site.tanks.get())
-        + len_of_lines(site.lines.get())
+    len_of_head(format, site.name.get(), &site.rounding)
+        + len_of_products(format, site.products.get())
+        + len_of_parties(format, site.parties.get())
+        + len_of_tanks(format, site.tanks.get())
+        + len_of_lines(format, site.lines.get())
 }
 
-// Puts the site's bytes.
-#[tactic(auto, unfolding(crate::specs::Encoding::site_encoding))]
-fn put(site: &Site, out: &mut Vec<u8>)
-    requires room { HasRoom out.old (site_encoding (described site.now)) }
-    ensures put { IsPut out.old out.new (site_encoding (described site.now)) }
+// Puts the site's bytes in a format.
+#[tactic(auto, unfolding(crate::specs::Encoding::encoding_in))]
+fn put(format: Format, site: &Site, out: &mut Vec<u8>)
+    requires room { HasRoom out.old (encoding_in format (described site.now)) }
+    ensures put { IsPut out.old out.new (encoding_in format (described site.now)) }
     ensures sound { IsSite (described site.now) }
 {
-    put_head(out, site.name.get(), &site.rounding);
-    put_products(out, site.products.get());
-    put_parties(out, site.parties.get());
-    put_tanks(out, site.tanks.get());
-    put_lines(out, site.lines.get());
+    put_head(format, out, site.name.get(), &site.rounding);
+    put_products(format, out, site.products.get());
+    put_parties(format, out, site.parties.get());
+    put_tanks(format, out, site.tanks.get());
+    put_lines(format, out, site.lines.get());
 }

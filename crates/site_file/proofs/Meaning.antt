@@ -17,7 +17,7 @@ use Rattle.site_keys.specs.Files.{content}
 use Rattle.site_keys.specs.Lists.{AreItemsAt, list_at, own_number}
 use Rattle.farm_site.specs.Numbers.{are_numbered, rises}
 use Rattle.site_keys.proofs.ListMembers.{both_went, found_there, listed_there, own_alone, same_members}
-use Rattle.site_toml.specs.declared.formats.Format.{Format}
+use Rattle.farm_site.specs.declared.formats.Format.{Format}
 use Rattle.farm_site.specs.declared.limits.TheConstants.{MOST_PARTIES, MOST_PRODUCTS, MOST_TANKS}
 use Rattle.farm_site.specs.declared.items.Party.{Party}
 use Rattle.farm_site.specs.declared.items.Product.{Product}

@@ -6,7 +6,7 @@ use Rattle.site_keys.specs.declared.fault.SiteReadFault.{SiteReadFault}
 use Rattle.site_keys.specs.declared.fault.SiteReadFault.TheVariants.{Folder, NoMemory}
 use Rattle.site_keys.specs.Keys.{Keys}
 use Rattle.site_keys.specs.Lists.{AreItemsAt}
-use Rattle.site_toml.specs.declared.formats.Format.{Format}
+use Rattle.farm_site.specs.declared.formats.Format.{Format}
 use Rattle.site_toml.specs.Formats.{format_at}
 use Rattle.site_toml.specs.Names.{name_at}
 use Rattle.farm_site.specs.Parties.{party_number}

@@ -4,7 +4,7 @@ use Rattle.std.proofs.lemmas.List.{drop_more, length-take-le, take_more_set}
 use Rattle.toml.specs.View.{view}
 use Rattle.toml.specs.declared.value.Value.{Value}
 use Rattle.farm_rounding.specs.Table.{Row, is_row, first_bad_row}
-use Rattle.site_toml.specs.declared.formats.Format.{Format}
+use Rattle.farm_site.specs.declared.formats.Format.{Format}
 use Rattle.site_toml.specs.Rounding.{row_of_value, rows_after}
 
 -- a row that may stand first, before rows that may stand after it

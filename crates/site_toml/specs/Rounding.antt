@@ -5,14 +5,14 @@ use Rattle.std.specs.Str.{bytes_eq}
 use Rattle.toml.specs.Data.{Data, as_str}
 use Rattle.farm_base.specs.Steps.{◌>>=◌}
 use Rattle.farm_rounding.specs.declared.mode.Mode.{Mode}
-use Rattle.farm_rounding.specs.declared.mode.Mode.TheVariants.{HalfAway, TowardZero}
+use Rattle.farm_rounding.specs.declared.mode.Mode.TheVariants.{HalfAway, TowardZero, HalfEven}
 use Rattle.farm_rounding.specs.Table.{Row, is_row, usual_rows}
 use Rattle.site_keys.specs.Codes.{code_of_field, code_of_range}
 use Rattle.site_keys.specs.declared.fault.SiteFault.{SiteFault}
 use Rattle.site_keys.specs.Faults.{bad, needed}
 use Rattle.site_keys.specs.Keys.{Keys, array_at, has}
-use Rattle.site_toml.specs.declared.formats.Format.{Format}
-use Rattle.site_toml.specs.declared.formats.Format.TheVariants.{One}
+use Rattle.farm_site.specs.declared.formats.Format.{Format}
+use Rattle.farm_site.specs.declared.formats.Format.TheVariants.{One, Two}
 use Rattle.farm_rounding.specs.RowNumbers.{rounding_rows}
 
 -- a step of the rounding table, as it is written
@@ -34,9 +34,14 @@ half_or_zero text =
     else if bytes_eq text (codes "zero") then Some TowardZero
     else None
 
+-- one of three modes of the rounding table, as it is written
+abbrev pub half_zero_or_even : List ℕ → Option Mode
+half_zero_or_even text = if bytes_eq text (codes "even") then Some HalfEven else half_or_zero text
+
 -- a mode of the rounding table, as the format has it written
 abbrev pub mode_of : Format → List ℕ → Option Mode
 mode_of One text = half_or_zero text
+mode_of Two text = half_zero_or_even text
 
 -- a row of a step and a mode, where both are there and the row may have them
 abbrev pub row_with : ℕ → Option ℕ → Option Mode → Option Row

@@ -14,7 +14,7 @@ use Rattle.site_keys.specs.Keys.{Keys, has, text_at, whole_at}
 use Rattle.site_keys.specs.Lists.{list_at, numbered_from, own_number, reference_at}
 use Rattle.site_tables.specs.Strappings.{strapped_file}
 use Rattle.site_tables.specs.Tables.{table_of_file}
-use Rattle.site_toml.specs.declared.formats.Format.{Format}
+use Rattle.farm_site.specs.declared.formats.Format.{Format}
 use Rattle.farm_site.specs.declared.items.Tank.{Tank}
 use Rattle.site_toml.specs.Shells.{spec_at}
 

@@ -12,7 +12,7 @@ mod rounding;
 mod shells;
 mod tanks;
 
-pub use formats::{Format, format_at};
+pub use formats::format_at;
 pub use names::name_at;
 pub use parties::parties_of;
 pub use products::products_of;

@@ -4,10 +4,10 @@ ghost use Rattle.std.specs.Prelude.{◌≡◌, ◌==◌, [], map, Ok, IfOk, IfSo
 ghost use Rattle.std.specs.List.{after_first, before_first, position};
 ghost use Rattle.toml.specs.View.{view};
 ghost use Rattle.farm_rounding.specs.Table.{IsTable, is_row};
-ghost use Rattle.site_toml.specs.Rounding.{half_or_zero, mode_of, row_in, row_of_value, rounding_at, step_of, twelve_rows};
+ghost use Rattle.site_toml.specs.Rounding.{half_or_zero, half_zero_or_even, mode_of, row_in, row_of_value, rounding_at, step_of, twelve_rows};
 
-use crate::Format;
 use farm_rounding::{FACTOR_TIES, Mode, ROUNDING_ROWS, RoundTable};
+use farm_site::Format;
 use site_keys::{FIELD, Keys, RANGE, SiteFault, bad};
 use toml::Value;
 
@@ -108,6 +108,7 @@ fn mode_of(format: Format, text: &[u8]) -> Option<Mode>
 {
     match format {
         Format::One => half_or_zero(text),
+        Format::Two => half_zero_or_even(text),
     }
 }
 
@@ -119,5 +120,15 @@ fn half_or_zero(text: &[u8]) -> Option<Mode>
         b"half" => Some(Mode::HalfAway),
         b"zero" => Some(Mode::TowardZero),
         _ => None,
+    }
+}
+
+// One of three modes, as it is written.
+fn half_zero_or_even(text: &[u8]) -> Option<Mode>
+    ensures mode { result ≡ half_zero_or_even text.now }
+{
+    match text {
+        b"even" => Some(Mode::HalfEven),
+        _ => half_or_zero(text),
     }
 }

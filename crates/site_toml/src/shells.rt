@@ -2,13 +2,14 @@
 
 ghost use Rattle.std.specs.Prelude.{◌≡◌, pos, IfOk, IsTrue, Some};
 ghost use Rattle.farm_fixed.specs.Range.{IsWithin};
-ghost use Rattle.site_toml.specs.Shells.{floating_at, roof_at, roof_of_three, shell_at, is_insulated_at, spec_at};
+ghost use Rattle.site_toml.specs.Shells.{floating_at, has_roof, reference_at, referenced_at, roof_at, roof_of_four, roof_of_three, shell_at, is_insulated_at, spec_at};
 ghost use Rattle.farm_site.specs.Tanks.{is_roof, is_spec};
 
-use crate::Format;
 use farm_fixed::{
-    HundredthDegree, Kg, MOST_COEFFICIENT, MOST_HEIGHT, MOST_ROOF_MASS, Mm, Shell, is_insulated,
+    Dens, HundredthDegree, Kg, MOST_COEFFICIENT, MOST_HEIGHT, MOST_ROOF_MASS, Mm, Shell,
+    TenthKilogramPerCubicMetre, is_insulated,
 };
+use farm_site::Format;
 use site_keys::{Keys, RANGE, SiteFault, bad};
 use strap_table::{Roof, TankSpec};
 
@@ -63,6 +64,7 @@ fn roof_at(format: Format, keys: &Keys<'_>) -> Result<Option<Roof>, SiteFault>
 {
     match format {
         Format::One => roof_of_three(keys),
+        Format::Two => roof_of_four(keys),
     }
 }
 
@@ -72,13 +74,59 @@ fn roof_of_three(keys: &Keys<'_>) -> Result<Option<Roof>, SiteFault>
     ensures roof { result ≡ roof_of_three keys.now }
     ensures sound { IfOk result (λ roof. IsTrue (is_roof roof)) }
 {
-    if keys.has("roof_kg") || keys.has("roof_low") || keys.has("roof_high") {
+    if has_roof(keys) {
         return Ok(Some(floating_at(keys)?));
     }
     Ok(None)
 }
 
-// The floating roof, once there is one.
+// The roof: a tank has all three keys of one, also if it has the fourth, the reference density; or none of the four.
+#[tactic(auto, unfolding(crate::specs::Shells::roof_of_four))]
+fn roof_of_four(keys: &Keys<'_>) -> Result<Option<Roof>, SiteFault>
+    ensures roof { result ≡ roof_of_four keys.now }
+    ensures sound { IfOk result (λ roof. IsTrue (is_roof roof)) }
+{
+    if has_roof(keys) || keys.has("roof_reference") {
+        return Ok(Some(referenced_at(keys)?));
+    }
+    Ok(None)
+}
+
+// Whether there is one of the three keys of a roof.
+fn has_roof(keys: &Keys<'_>) -> bool
+    ensures roof { result ≡ has_roof keys.now }
+{
+    keys.has("roof_kg") || keys.has("roof_low") || keys.has("roof_high")
+}
+
+// The floating roof, once there is one, with the reference density of its table.
+#[tactic(auto, unfolding(crate::specs::Shells::referenced_at))]
+fn referenced_at(keys: &Keys<'_>) -> Result<Roof, SiteFault>
+    ensures roof { result ≡ referenced_at keys.now }
+    ensures sound { IfOk result (λ roof. IsTrue (is_roof (Some roof))) }
+{
+    let roof = floating_at(keys)?;
+    let reference = reference_at(keys)?;
+    Ok(Roof {
+        mass: roof.mass,
+        low: roof.low,
+        high: roof.high,
+        reference,
+    })
+}
+
+// The density that the table's displacement of the roof was computed at, if the table includes it.
+#[tactic(auto, unfolding(crate::specs::Shells::reference_at))]
+fn reference_at(keys: &Keys<'_>) -> Result<Option<Dens>, SiteFault>
+    ensures reference { result ≡ reference_at keys.now }
+{
+    if !keys.has("roof_reference") {
+        return Ok(None);
+    }
+    Ok(Some(keys.quantity::<TenthKilogramPerCubicMetre>("roof_reference")?))
+}
+
+// The floating roof, once there is one, whose table leaves it out.
 #[tactic(auto, unfolding(crate::specs::Shells::floating_at))]
 fn floating_at(keys: &Keys<'_>) -> Result<Roof, SiteFault>
     ensures roof { result ≡ floating_at keys.now }
@@ -94,5 +142,6 @@ fn floating_at(keys: &Keys<'_>) -> Result<Roof, SiteFault>
         mass: Kg::in_range(i128::from(mass)),
         low: Mm::in_range(i128::from(low)),
         high: Mm::in_range(i128::from(high)),
+        reference: None,
     })
 }

@@ -15,12 +15,11 @@ ghost use Rattle.farm_site.specs.Products.{product_number};
 ghost use Rattle.site_toml.specs.Tanks.{file_key, is_strapped, opening_at, stock_at, table_in, tank_of, tanks_of};
 ghost use Rattle.farm_site.specs.Tanks.{is_opening, is_stock, is_tank, tank_number};
 
-use crate::Format;
 use crate::shells::spec_at;
 use farm_fixed::Amount;
 use farm_ports::Folder;
 use farm_rounding::RoundTable;
-use farm_site::{MOST_STOCK, MOST_TANKS, Product, Tank};
+use farm_site::{Format, MOST_STOCK, MOST_TANKS, Product, Tank};
 use site_keys::{
     FIELD, Keys, SiteFault, SiteReadFault, bad, content, list_at, own_number, put_by_number,
     reference,

@@ -1,7 +1,7 @@
 //! Quotients with what is left over, which are added without a division.
 
 ghost use Rattle.std.specs.Prelude.{◌≡◌, ◌≤◌, ◌<◌, ◌+◌, ◌*◌, ◌^◌};
-ghost use Rattle.farm_rounding.specs.Multiple.{steps_to};
+ghost use Rattle.farm_rounding.specs.Multiple.{rounds_up, steps_to};
 
 use farm_rounding::Mode;
 
@@ -55,14 +55,23 @@ pub(crate) fn rounded_wholes(mode: Mode, number: Quotient, whole: u64) -> u64
     ensures value { result ≡ steps_to mode (number.wholes * whole + number.left) whole }
     ensures size { result ≤ number.wholes + 1 }
 {
+    if rounds_up(mode, number, whole) {
+        number.wholes + 1
+    } else {
+        number.wholes
+    }
+}
+
+// Whether what is left of a quotient makes one whole more.
+fn rounds_up(mode: Mode, number: Quotient, whole: u64) -> bool
+    requires { number.left ≤ 10 ^ 15 }
+    ensures { result ≡ rounds_up mode number.wholes number.left whole }
+{
     match mode {
-        Mode::HalfAway => {
-            if whole <= 2 * number.left {
-                number.wholes + 1
-            } else {
-                number.wholes
-            }
+        Mode::HalfAway => whole <= 2 * number.left,
+        Mode::TowardZero => false,
+        Mode::HalfEven => {
+            whole < 2 * number.left || (2 * number.left == whole && number.wholes % 2 == 1)
         }
-        Mode::TowardZero => number.wholes,
     }
 }

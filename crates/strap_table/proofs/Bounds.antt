@@ -6,7 +6,7 @@ use Rattle.std.proofs.lemmas.Bool.Decides.{nat_tests}
 use Rattle.std.proofs.lemmas.Int.{ints}
 use Rattle.farm_fixed.specs.Range.{IsWithin, IsVolume}
 use Rattle.farm_rounding.specs.declared.mode.Mode.{Mode}
-use Rattle.farm_rounding.specs.declared.mode.Mode.TheVariants.{HalfAway, TowardZero}
+use Rattle.farm_rounding.specs.declared.mode.Mode.TheVariants.{HalfAway, TowardZero, HalfEven}
 use Rattle.farm_rounding.specs.Multiple.{is_step, rounds_up, steps_to, nearest_multiple}
 use Rattle.farm_rounding.proofs.Steps.{either_side, fewer_wholes, step_bounds}
 use Rattle.strap_table.specs.Capacity.{tenths_between}
@@ -15,6 +15,7 @@ use Rattle.strap_table.specs.Capacity.{tenths_between}
 nothing_left : (mode : Mode) (s r w : ℕ) → r ≡ 0 → 0 < w → rounds_up mode s r w ≡ false
 nothing_left HalfAway s r w none positive = grind (arith, nat_tests)
 nothing_left TowardZero s r w none positive = refl
+nothing_left HalfEven s r w none positive = grind (arith, nat_tests)
 
 -- what is left over makes one step more at most
 one_more : (b : Bool) (s : ℕ) → s + cond b 1 0 ≤ s + 1

@@ -58,14 +58,39 @@ fn a_volume_is_interpolated_between_two_rows(rt: HostRuntime) -> Result<(), Fail
 const HALF_A_LITRE: Volumes = &[
     ("a half away from zero", 5, Mode::HalfAway, Ok(501)),
     ("a half toward zero", 5, Mode::TowardZero, Ok(500)),
+    ("a half to the even litre", 5, Mode::HalfEven, Ok(500)),
 ];
+
+const A_LITRE_MORE: Volumes = &[
+    ("the next half away from zero", 5, Mode::HalfAway, Ok(502)),
+    ("the next half toward zero", 5, Mode::TowardZero, Ok(501)),
+    (
+        "the next half to the even litre",
+        5,
+        Mode::HalfEven,
+        Ok(502),
+    ),
+];
+
+// The volumes of a table of these rows are those of these rows.
+fn check_table<R: Print>(
+    checks: &mut Checks<'_, R>,
+    alloc: Global,
+    rows: &[i64],
+    volumes: Volumes,
+) -> Result<(), Fail> {
+    let table = table_of(alloc, rows)?;
+    check_volumes(checks, &table, volumes);
+    drop(table);
+    Ok(())
+}
 
 #[test]
 fn a_half_litre_goes_by_the_mode(rt: HostRuntime) -> Result<(), Fail> {
     let mut checks = Checks::new(&rt);
-    let table = table_of(rt.alloc(), &[0, 1_001])?;
-    check_volumes(&mut checks, &table, HALF_A_LITRE);
-    drop(table);
+    for (rows, volumes) in [([0, 1_001], HALF_A_LITRE), ([0, 1_003], A_LITRE_MORE)] {
+        check_table(&mut checks, rt.alloc(), &rows, volumes)?;
+    }
     Ok(checks.end()?)
 }
 
@@ -111,6 +136,7 @@ fn roof() -> Result<Roof, OutOfRange> {
         mass: Kg::new(85_000)?,
         low: Mm::new(1_500)?,
         high: Mm::new(1_800)?,
+        reference: None,
     })
 }
 

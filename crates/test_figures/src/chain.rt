@@ -8,7 +8,7 @@ use farm_chain::figures;
 use farm_fixed::{
     Centi, ChainRule, Dens, Fac5, Kg, Litres, OutOfRange, Permil5, Quantities, Sample, Shell,
 };
-use farm_rounding::RoundTable;
+use farm_rounding::{MASS, Mode, RoundTable};
 use std::test::Fail;
 use test_checks::Checks;
 
@@ -100,6 +100,47 @@ fn water_above_level_comes_before_a_negative_volume(rt: HostRuntime) -> Result<(
     ];
     for (name, (tov, fw, roof), want) in cases {
         checks.same_at(name, figures_of(tov, fw, roof)?, Err(want));
+    }
+    Ok(checks.end()?)
+}
+
+// The mass in kg of 10 litres at 15.00 C and 850.0 kg/m3, which is 8.5 kg, rounded by a mode.
+fn mass_by(mode: Mode) -> Result<Result<i64, ChainRule>, Fail> {
+    let mut rows = [(1, Mode::HalfAway); 12];
+    rows[usize::from(MASS) - 1] = (1, mode);
+    let shell = Shell {
+        insulated: true,
+        coefficient: 112,
+        reference: Centi::new(1_500)?,
+    };
+    let sample = Sample {
+        density: Dens::new(8_500)?,
+        sw: Permil5::new(0)?,
+    };
+    let figures = figures(
+        Litres::new(10)?,
+        Litres::new(0)?,
+        &shell,
+        Centi::new(1_500)?,
+        Centi::new(1_500)?,
+        Kg::new(0)?,
+        &sample,
+        Fac5::new(100_000)?,
+        &RoundTable::new(rows)?,
+    );
+    Ok(figures.map(|figures| figures.mass.get()))
+}
+
+#[test]
+fn a_half_kilogram_goes_by_the_mode(rt: HostRuntime) -> Result<(), Fail> {
+    let mut checks = Checks::new(&rt);
+    let cases = [
+        ("away from zero", Mode::HalfAway, 9),
+        ("toward zero", Mode::TowardZero, 8),
+        ("to the even kilogram", Mode::HalfEven, 8),
+    ];
+    for (name, mode, want) in cases {
+        checks.same_at(name, mass_by(mode)?, Ok(want));
     }
     Ok(checks.end()?)
 }

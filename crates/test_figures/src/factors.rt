@@ -111,6 +111,20 @@ const NEAREST: Factors = &[
         Mode::TowardZero,
         Some(99021),
     ),
+    (
+        "half a density up, even",
+        8450,
+        2000,
+        Mode::HalfEven,
+        Some(99022),
+    ),
+    (
+        "half a temperature up, even",
+        8500,
+        1750,
+        Mode::HalfEven,
+        Some(99022),
+    ),
     ("too cold", 8500, 1499, Mode::HalfAway, None),
     ("too hot", 8500, 2501, Mode::HalfAway, None),
     ("too light", 8399, 2000, Mode::TowardZero, None),
@@ -214,7 +228,8 @@ fn a_file_and_its_lists_are_one_grid(rt: HostRuntime) -> Result<(), Fail> {
 
 const OPPOSITE: Factors = &[
     ("by one mode", 8500, 0, Mode::HalfAway, Some(99900)),
-    ("by the other", 8500, 0, Mode::TowardZero, Some(99900)),
+    ("by another", 8500, 0, Mode::TowardZero, Some(99900)),
+    ("by the third", 8500, 0, Mode::HalfEven, Some(99900)),
 ];
 
 #[test]

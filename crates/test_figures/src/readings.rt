@@ -104,15 +104,16 @@ fn two_tapes_of_an_outage_give_an_innage(rt: HostRuntime) -> Result<(), Fail> {
     Ok(checks.end()?)
 }
 
-// What has a mean: three temperatures in 0.01 C, or three tapes in mm.
+// What has a mean: two or three temperatures in 0.01 C, or three tapes in mm.
 #[derive(Clone, Copy)]
-enum Three {
+enum Measured {
+    Pair([i64; 2]),
     Temperatures([i64; 3]),
     Tapes([i64; 3]),
 }
 
 // Means, each in its units.
-type Means = &'static [(&'static str, Three, i64)];
+type Means = &'static [(&'static str, Measured, i64)];
 
 // The mean of three temperatures.
 fn mean_of([first, second, third]: [i64; 3], rounding: &RoundTable) -> Result<i64, OutOfRange> {
@@ -120,16 +121,23 @@ fn mean_of([first, second, third]: [i64; 3], rounding: &RoundTable) -> Result<i6
     Ok(mean_temp(&list, rounding).get())
 }
 
-// The mean of three is that of its row.
+// The mean of two temperatures.
+fn mean_of_two([first, second]: [i64; 2], rounding: &RoundTable) -> Result<i64, OutOfRange> {
+    let list = [Centi::new(first)?, Centi::new(second)?];
+    Ok(mean_temp(&list, rounding).get())
+}
+
+// The mean of two or three is that of its row.
 fn check_mean<R: Print>(
     checks: &mut Checks<'_, R>,
     alloc: Global,
     rounding: &RoundTable,
-    (name, three, want): (&str, Three, i64),
+    (name, measured, want): (&str, Measured, i64),
 ) -> Result<(), Fail> {
-    match three {
-        Three::Temperatures(units) => checks.same_at(name, mean_of(units, rounding), Ok(want)),
-        Three::Tapes(heights) => {
+    match measured {
+        Measured::Pair(units) => checks.same_at(name, mean_of_two(units, rounding), Ok(want)),
+        Measured::Temperatures(units) => checks.same_at(name, mean_of(units, rounding), Ok(want)),
+        Measured::Tapes(heights) => {
             let reading = reading(alloc, &heights, rounding)?;
             checks.same_at(name, reading.map(Mm::get), Ok(want));
         }
@@ -158,25 +166,69 @@ fn coarse() -> Result<RoundTable, BadRow> {
     RoundTable::new(rows)
 }
 
+// Rows whose means are rounded by a mode: tapes to 2 mm, and temperatures to 0.05 C.
+fn halves_by(mode: Mode) -> Result<RoundTable, BadRow> {
+    let mut rows = [(1, Mode::HalfAway); 12];
+    rows[0] = (2, mode);
+    rows[1] = (5, mode);
+    RoundTable::new(rows)
+}
+
 // By hand: 2,503.33 is 2,505 to a step of 5 and 2,500 below it to 100, and 12,345.33 is 12,300 below it to 100.
 const USUAL_MEANS: Means = &[(
     "temperatures to a step of 5",
-    Three::Temperatures([2_500, 2_500, 2_510]),
+    Measured::Temperatures([2_500, 2_500, 2_510]),
     2_505,
 )];
 
 const COARSE_MEANS: Means = &[
     (
         "temperatures below to 100",
-        Three::Temperatures([2_500, 2_500, 2_510]),
+        Measured::Temperatures([2_500, 2_500, 2_510]),
         2_500,
     ),
     (
         "tapes below to 100",
-        Three::Tapes([12_344, 12_346, 12_346]),
+        Measured::Tapes([12_344, 12_346, 12_346]),
         12_300,
     ),
 ];
+
+// By hand: 2,502.5 lies between 500 and 501 steps of 5, and 1 between none and one step of 2.
+const HALVES_AWAY: Means = &[
+    (
+        "two temperatures halfway, away from zero",
+        Measured::Pair([2_500, 2_505]),
+        2_505,
+    ),
+    (
+        "tapes halfway, away from zero",
+        Measured::Tapes([1, 1, 1]),
+        2,
+    ),
+];
+
+const HALVES_EVEN: Means = &[
+    (
+        "two temperatures halfway, to the even step",
+        Measured::Pair([2_500, 2_505]),
+        2_500,
+    ),
+    (
+        "tapes halfway, to the even step",
+        Measured::Tapes([1, 1, 1]),
+        0,
+    ),
+];
+
+#[test]
+fn a_mean_halfway_goes_by_the_mode(rt: HostRuntime) -> Result<(), Fail> {
+    let mut checks = Checks::new(&rt);
+    for (mode, means) in [(Mode::HalfAway, HALVES_AWAY), (Mode::HalfEven, HALVES_EVEN)] {
+        check_means(&mut checks, rt.alloc(), &halves_by(mode)?, means)?;
+    }
+    Ok(checks.end()?)
+}
 
 #[test]
 fn a_mean_is_rounded_by_its_row(rt: HostRuntime) -> Result<(), Fail> {

@@ -34,6 +34,36 @@ fn nearest_ties(rt: HostRuntime) -> Result<(), Fail> {
     Ok(checks.end()?)
 }
 
+// A quotient and a step, and what each mode makes of them: half away, toward zero, half even.
+type Modes = (&'static str, (i128, i128, i64), [i128; 3]);
+
+const HALVES: &[Modes] = &[
+    ("2.5", (25, 10, 1), [3, 2, 2]),
+    ("3.5", (35, 10, 1), [4, 3, 4]),
+    ("-2.5", (-25, 10, 1), [-3, -2, -2]),
+    ("12.5 by steps of 5", (125, 10, 5), [15, 10, 10]),
+    ("37.5 by steps of 5", (375, 10, 5), [40, 35, 40]),
+    ("-1.5", (-15, 10, 1), [-2, -1, -2]),
+    ("0.5", (5, 10, 1), [1, 0, 0]),
+    ("2.6", (26, 10, 1), [3, 2, 3]),
+    ("2.4", (24, 10, 1), [2, 2, 2]),
+    ("1 by steps of 2", (1, 1, 2), [2, 0, 0]),
+    ("3 by steps of 2", (3, 1, 2), [4, 2, 4]),
+];
+
+const MODES: [Mode; 3] = [Mode::HalfAway, Mode::TowardZero, Mode::HalfEven];
+
+#[test]
+fn half_even_ties(rt: HostRuntime) -> Result<(), Fail> {
+    let mut checks = Checks::new(&rt);
+    for (name, (num, den, step), wants) in HALVES {
+        for (mode, want) in MODES.iter().zip(wants.iter()) {
+            checks.same_at(name, nearest(*num, *den, *step, *mode), *want);
+        }
+    }
+    Ok(checks.end()?)
+}
+
 #[test]
 fn usual_table_rounds_temperatures_to_five(rt: HostRuntime) -> Result<(), Fail> {
     let mut checks = Checks::new(&rt);

@@ -63,6 +63,7 @@ fn figures(alloc: Global) -> Result<Result<Quantities, ChainRule>, Fail> {
             mass: Kg::new(85_000)?,
             low: Mm::new(10)?,
             high: Mm::new(20)?,
+            reference: None,
         }),
     };
     let reading = Reading {

@@ -138,6 +138,74 @@ fn check_edits<R: Print>(checks: &mut Checks<'_, R>, alloc: Global, bytes: &mut 
     }
 }
 
+// Where the mode of the third row of the rounding table stands, and where the roof of the last tank stands and ends.
+const THIRD_MODE: usize = 14;
+
+const ROOF: usize = 30_374;
+
+const ROOF_END: usize = 30_383;
+
+// The bytes of the row site in format 2, with the mode of its third row and with what follows the zone of its roof.
+fn in_format_2(
+    alloc: Global,
+    bytes: &[u8],
+    mode: u8,
+    reference: &[u8],
+) -> Result<Vec<u8>, AllocError> {
+    let mut two = Vec::new(alloc);
+    two.extend_from_slice(&bytes[..ROOF_END.min(bytes.len())])?;
+    two.extend_from_slice(reference)?;
+    two.extend_from_slice(&bytes[ROOF_END.min(bytes.len())..])?;
+    put_all(&mut two, &[(0, 2), (THIRD_MODE, mode)]);
+    Ok(two)
+}
+
+// The mode of the third row, what follows the zone of the roof, how many bytes there are, and the roof.
+const FORMAT_2: &[(&str, u8, &[u8], usize, &[u8])] = &[
+    (
+        "a row half to even",
+        2,
+        &[0],
+        36_407,
+        &[1, 0, 1, 0x4c, 8, 5, 0xdc, 7, 8, 0],
+    ),
+    (
+        "with the reference density 840.0",
+        2,
+        &[1, 0x20, 0xd0],
+        36_409,
+        &[1, 0, 1, 0x4c, 8, 5, 0xdc, 7, 8, 1, 0x20, 0xd0],
+    ),
+];
+
+// Bytes of format 2 are as their row says, and read and written again.
+fn check_format_2<R: Print>(
+    checks: &mut Checks<'_, R>,
+    alloc: Global,
+    bytes: &[u8],
+    (name, len, roof): (&str, usize, &[u8]),
+) -> Result<(), Fail> {
+    checks.same_at(name, bytes.len(), len);
+    checks.same_at(name, part(bytes, 0, 1), Some(b"\x02".as_slice()));
+    checks.same_at(name, part(bytes, THIRD_MODE - 1, 2), Some(b"\x01\x02".as_slice()));
+    checks.same_at(name, part(bytes, ROOF, roof.len()), Some(roof));
+    check_again(checks, alloc, bytes)
+}
+
+#[test]
+fn the_row_site_in_format_2_is_read_and_written_again(rt: HostRuntime) -> Result<(), Fail> {
+    let mut checks = Checks::new(&rt);
+    let bytes = row_bytes(rt.alloc())?;
+    for (name, mode, reference, len, roof) in FORMAT_2 {
+        let two = in_format_2(rt.alloc(), &bytes, *mode, reference)?;
+        let checked = check_format_2(&mut checks, rt.alloc(), &two, (name, *len, roof));
+        drop(two);
+        checked?;
+    }
+    drop(bytes);
+    Ok(checks.end()?)
+}
+
 #[test]
 fn another_format_and_tanks_in_falling_order_are_no_site(rt: HostRuntime) -> Result<(), Fail> {
     let mut checks = Checks::new(&rt);

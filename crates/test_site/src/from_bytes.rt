@@ -19,13 +19,13 @@ const GAUGES: usize = 118;
 
 const GAUGE: usize = 119;
 
-// Some bytes of the site.
-fn bytes_from(start: usize, end: usize) -> &'static [u8] {
+/// Some bytes of the site.
+pub(crate) fn bytes_from(start: usize, end: usize) -> &'static [u8] {
     BYTES.get(start..end).unwrap_or(&[])
 }
 
-// Bytes in a row.
-fn joined(alloc: Global, parts: &[&[u8]]) -> Result<Vec<u8>, Fail> {
+/// Bytes in a row.
+pub(crate) fn joined(alloc: Global, parts: &[&[u8]]) -> Result<Vec<u8>, Fail> {
     let mut bytes = Vec::new(alloc);
     for part in parts {
         bytes.extend_from_slice(part)?;
@@ -33,13 +33,14 @@ fn joined(alloc: Global, parts: &[&[u8]]) -> Result<Vec<u8>, Fail> {
     Ok(bytes)
 }
 
-// Why these parts in a row are no site's bytes.
-fn fault_of(alloc: Global, parts: &[&[u8]]) -> Result<Option<SiteBytesFault>, Fail> {
+/// Why these parts in a row are no site's bytes.
+pub(crate) fn fault_of(alloc: Global, parts: &[&[u8]]) -> Result<Option<SiteBytesFault>, Fail> {
     let bytes = joined(alloc, parts)?;
     Ok(Site::from_bytes(alloc, &bytes).err())
 }
 
-const BAD: Option<SiteBytesFault> = Some(SiteBytesFault::BadSite);
+/// They are no site's bytes.
+pub(crate) const BAD: Option<SiteBytesFault> = Some(SiteBytesFault::BadSite);
 
 #[test]
 fn a_site_is_read_from_its_bytes_and_written_as_it_was(rt: HostRuntime) -> Result<(), Fail> {

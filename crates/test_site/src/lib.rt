@@ -13,6 +13,8 @@ mod files;
 #[cfg(test)]
 mod folders;
 #[cfg(test)]
+mod formats;
+#[cfg(test)]
 mod from_bytes;
 #[cfg(test)]
 mod gauges;

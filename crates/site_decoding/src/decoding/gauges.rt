@@ -8,6 +8,7 @@ use super::numbers::{byte_up_to, text_at};
 use crate::SiteBytesFault;
 use crate::SiteBytesFault::BadSite;
 use byte_readers::{i16_at, u8_at, u16_at, u32_at};
+use farm_site::Format;
 use gauge_maps::{Field, GaugeMap, Gauges, LineMap, Request, Valid};
 use std::alloc::Global;
 
@@ -23,13 +24,13 @@ struct Fields {
 impl Piece for LineMap {
     ghost use Rattle.site_decoding.specs.Decoding.{line_at};
 
-    ghost reads = { line_at };
+    ghost reads = { λ _. line_at };
 
     #[tactic(auto, unfolding(crate::specs::Decoding::line_at))]
-    fn read_at(alloc: Global, bytes: &[u8]) -> Result<(LineMap, &[u8]), SiteBytesFault> {
+    fn read_at(alloc: Global, format: Format, bytes: &[u8]) -> Result<(LineMap, &[u8]), SiteBytesFault> {
         let (host, rest) = text_at(alloc, bytes)?;
         let (port, rest) = u16_at(BadSite, rest)?;
-        let (gauges, rest) = short_list_at(alloc, 44, rest)?;
+        let (gauges, rest) = short_list_at(alloc, format, 44, rest)?;
         let gauges = Gauges::new(gauges);
         Ok((LineMap { host, port, gauges }, rest))
     }
@@ -38,15 +39,15 @@ impl Piece for LineMap {
 impl Piece for GaugeMap {
     ghost use Rattle.site_decoding.specs.Decoding.{gauge_at};
 
-    ghost reads = { gauge_at };
+    ghost reads = { λ _. gauge_at };
 
     #[tactic(auto, unfolding(crate::specs::Decoding::gauge_at))]
-    fn read_at(alloc: Global, bytes: &[u8]) -> Result<(GaugeMap, &[u8]), SiteBytesFault> {
+    fn read_at(alloc: Global, format: Format, bytes: &[u8]) -> Result<(GaugeMap, &[u8]), SiteBytesFault> {
         let (tank, rest) = u16_at(BadSite, bytes)?;
         let (request, rest) = request_at(rest)?;
-        let (fields, rest) = fields_at(alloc, rest)?;
+        let (fields, rest) = fields_at(alloc, format, rest)?;
         let (ambient_fixed, rest) = i16_at(BadSite, rest)?;
-        let (valid, rest) = option_at(alloc, rest)?;
+        let (valid, rest) = option_at(alloc, format, rest)?;
         let (deadband_mm, rest) = u16_at(BadSite, rest)?;
         let (deadband_centi, rest) = u16_at(BadSite, rest)?;
         let gauge = GaugeMap {
@@ -88,13 +89,13 @@ fn request_at(bytes: &[u8]) -> Result<(Request, &[u8]), SiteBytesFault>
 
 // The fields of a gauge.
 #[tactic(auto, unfolding(crate::specs::Decoding::fields_at))]
-fn fields_at(alloc: Global, bytes: &[u8]) -> Result<(Fields, &[u8]), SiteBytesFault>
+fn fields_at(alloc: Global, format: Format, bytes: &[u8]) -> Result<(Fields, &[u8]), SiteBytesFault>
     ensures reads { Gives (λ x. (x.0, x.1.now)) result (fields_at bytes.now) }
 {
-    let (level, rest) = Field::read_at(alloc, bytes)?;
-    let (temperature, rest) = Field::read_at(alloc, rest)?;
-    let (water, rest) = option_at(alloc, rest)?;
-    let (ambient, rest) = option_at(alloc, rest)?;
+    let (level, rest) = Field::read_at(alloc, format, bytes)?;
+    let (temperature, rest) = Field::read_at(alloc, format, rest)?;
+    let (water, rest) = option_at(alloc, format, rest)?;
+    let (ambient, rest) = option_at(alloc, format, rest)?;
     let fields = Fields {
         level,
         temperature,
@@ -107,10 +108,10 @@ fn fields_at(alloc: Global, bytes: &[u8]) -> Result<(Fields, &[u8]), SiteBytesFa
 impl Piece for Field {
     ghost use Rattle.site_decoding.specs.Decoding.{field_at};
 
-    ghost reads = { field_at };
+    ghost reads = { λ _. field_at };
 
     #[tactic(auto, unfolding(crate::specs::Decoding::field_at))]
-    fn read_at(_: Global, bytes: &[u8]) -> Result<(Field, &[u8]), SiteBytesFault> {
+    fn read_at(_: Global, _: Format, bytes: &[u8]) -> Result<(Field, &[u8]), SiteBytesFault> {
         let (offset, rest) = u8_at(BadSite, bytes)?;
         let (words, rest) = u8_at(BadSite, rest)?;
         let ((swapped, signed), rest) = flags_at(rest)?;
@@ -141,10 +142,10 @@ fn flags_at(bytes: &[u8]) -> Result<((bool, bool), &[u8]), SiteBytesFault>
 impl Piece for Valid {
     ghost use Rattle.site_decoding.specs.Decoding.{valid_at};
 
-    ghost reads = { valid_at };
+    ghost reads = { λ _. valid_at };
 
     #[tactic(auto, unfolding(crate::specs::Decoding::valid_at))]
-    fn read_at(_: Global, bytes: &[u8]) -> Result<(Valid, &[u8]), SiteBytesFault> {
+    fn read_at(_: Global, _: Format, bytes: &[u8]) -> Result<(Valid, &[u8]), SiteBytesFault> {
         let (offset, rest) = u8_at(BadSite, bytes)?;
         let (bit, rest) = u8_at(BadSite, rest)?;
         Ok((Valid { offset, bit }, rest))

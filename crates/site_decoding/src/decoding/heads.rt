@@ -1,29 +1,29 @@
 //! The head of a site at the front of bytes: its format, its name and its rounding table.
 
-ghost use Rattle.std.specs.Prelude.{◌≡◌, ◌==◌, Ok, Err, if◌then◌else◌, is_none};
+ghost use Rattle.std.specs.Prelude.{◌≡◌, Ok, Err, if◌then◌else◌, is_none};
 ghost use Rattle.farm_rounding.specs.Table.{first_bad_row};
-ghost use Rattle.site_decoding.specs.ByteReaders.{Gives, byte_at, counted_at, tested_at};
-ghost use Rattle.site_decoding.specs.Decoding.{mode_of, name_at, row_at, rounding_at};
-ghost use Rattle.site_encoding.specs.declared.TheConstants.{FORMAT};
+ghost use Rattle.site_decoding.specs.ByteReaders.{Gives, counted_at};
+ghost use Rattle.site_decoding.specs.Decoding.{format_at, mode_at, mode_of, most_mode_byte, name_at, row_at, rounding_at};
 
-use super::numbers::{flag_at, text_at};
+use super::numbers::{byte_up_to, text_at};
 use crate::SiteBytesFault;
 use crate::SiteBytesFault::BadSite;
 use byte_readers::u8_at;
 use farm_rounding::{Mode, ROUNDING_ROWS, RoundTable};
-use farm_site::{Name, is_name};
-use site_encoding::FORMAT;
+use farm_site::{Format, MOST_FORMAT, Name, is_name};
 use std::alloc::Global;
 
-/// The byte of the format.
-pub(crate) fn format_at(bytes: &[u8]) -> Result<(u8, &[u8]), SiteBytesFault>
-    ensures reads { Gives (λ x. (x.0, x.1.now)) result (tested_at (λ format. format == FORMAT) byte_at bytes.now) }
+/// The format of a site.
+#[tactic(auto, unfolding(crate::specs::Decoding::format_at))]
+pub(crate) fn format_at(bytes: &[u8]) -> Result<(Format, &[u8]), SiteBytesFault>
+    ensures reads { Gives (λ x. (x.0, x.1.now)) result (format_at bytes.now) }
 {
-    let (format, rest) = u8_at(BadSite, bytes)?;
-    if format != FORMAT {
+    let (byte, rest) = u8_at(BadSite, bytes)?;
+    let number = u32::from(byte);
+    if number == 0 || number > MOST_FORMAT {
         return Err(BadSite);
     }
-    Ok((format, rest))
+    Ok((Format::of(number), rest))
 }
 
 /// The name of a site.
@@ -40,21 +40,27 @@ pub(crate) fn name_at(alloc: Global, bytes: &[u8]) -> Result<(Name, &[u8]), Site
 
 /// The rounding table.
 #[tactic(auto, unfolding(crate::specs::Decoding::rounding_at))]
-pub(crate) fn rounding_at(bytes: &[u8]) -> Result<(RoundTable, &[u8]), SiteBytesFault>
-    ensures reads { Gives (λ x. (x.0, x.1.now)) result (rounding_at bytes.now) }
+pub(crate) fn rounding_at(
+    format: Format,
+    bytes: &[u8],
+) -> Result<(RoundTable, &[u8]), SiteBytesFault>
+    ensures reads { Gives (λ x. (x.0, x.1.now)) result (rounding_at format bytes.now) }
 {
-    let (rows, rest) = rows_at(bytes)?;
+    let (rows, rest) = rows_at(format, bytes)?;
     Ok((table_of(rows)?, rest))
 }
 
 // Twelve rows of a rounding table.
-fn rows_at(bytes: &[u8]) -> Result<([(u8, Mode); ROUNDING_ROWS], &[u8]), SiteBytesFault>
-    ensures reads { Gives (λ x. (x.0, x.1.now)) result (counted_at row_at ROUNDING_ROWS bytes.now) }
+fn rows_at(
+    format: Format,
+    bytes: &[u8],
+) -> Result<([(u8, Mode); ROUNDING_ROWS], &[u8]), SiteBytesFault>
+    ensures reads { Gives (λ x. (x.0, x.1.now)) result (counted_at (row_at format) ROUNDING_ROWS bytes.now) }
 {
     let mut rows = [(1, Mode::HalfAway); ROUNDING_ROWS];
     let mut rest = bytes;
     for index in 0..ROUNDING_ROWS {
-        let (row, after) = row_at(rest)?;
+        let (row, after) = row_at(format, rest)?;
         rows[index] = row;
         rest = after;
     }
@@ -63,22 +69,41 @@ fn rows_at(bytes: &[u8]) -> Result<([(u8, Mode); ROUNDING_ROWS], &[u8]), SiteByt
 
 // A row of a rounding table.
 #[tactic(auto, unfolding(crate::specs::Decoding::row_at))]
-fn row_at(bytes: &[u8]) -> Result<((u8, Mode), &[u8]), SiteBytesFault>
-    ensures reads { Gives (λ x. (x.0, x.1.now)) result (row_at bytes.now) }
+fn row_at(format: Format, bytes: &[u8]) -> Result<((u8, Mode), &[u8]), SiteBytesFault>
+    ensures reads { Gives (λ x. (x.0, x.1.now)) result (row_at format bytes.now) }
 {
     let (step, rest) = u8_at(BadSite, bytes)?;
-    let (toward_zero, rest) = flag_at(rest)?;
-    Ok(((step, mode_of(toward_zero)), rest))
+    let (mode, rest) = mode_at(format, rest)?;
+    Ok(((step, mode), rest))
 }
 
-// How a quotient is rounded.
-fn mode_of(toward_zero: bool) -> Mode
-    ensures mode { result ≡ mode_of toward_zero }
+// A mode of a format.
+#[tactic(auto, unfolding(crate::specs::Decoding::mode_at))]
+fn mode_at(format: Format, bytes: &[u8]) -> Result<(Mode, &[u8]), SiteBytesFault>
+    ensures reads { Gives (λ x. (x.0, x.1.now)) result (mode_at format bytes.now) }
 {
-    if toward_zero {
-        Mode::TowardZero
-    } else {
-        Mode::HalfAway
+    let (byte, rest) = byte_up_to(most_mode_byte(format), bytes)?;
+    Ok((mode_of(byte), rest))
+}
+
+// The last of the modes that a format has.
+fn most_mode_byte(format: Format) -> u8
+    ensures byte { result ≡ most_mode_byte format }
+{
+    match format {
+        Format::One => 1,
+        Format::Two => 2,
+    }
+}
+
+// How a quotient is rounded, by the byte of a mode.
+fn mode_of(byte: u8) -> Mode
+    ensures mode { result ≡ mode_of byte }
+{
+    match byte {
+        0 => Mode::HalfAway,
+        1 => Mode::TowardZero,
+        _ => Mode::HalfEven,
     }
 }
 

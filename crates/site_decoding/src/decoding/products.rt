@@ -11,16 +11,16 @@ use crate::SiteBytesFault;
 use crate::SiteBytesFault::BadSite;
 use byte_readers::u16_at;
 use farm_fixed::{Centi, Dens, Fac5};
-use farm_site::{Party, Product};
+use farm_site::{Format, Party, Product};
 use farm_vcf::Vcf;
 use std::alloc::Global;
 
 impl Piece for Dens {
     ghost use Rattle.site_decoding.specs.Decoding.{density_at};
 
-    ghost reads = { density_at };
+    ghost reads = { λ _. density_at };
 
-    fn read_at(_: Global, bytes: &[u8]) -> Result<(Dens, &[u8]), SiteBytesFault> {
+    fn read_at(_: Global, _: Format, bytes: &[u8]) -> Result<(Dens, &[u8]), SiteBytesFault> {
         density_at(bytes)
     }
 }
@@ -28,9 +28,9 @@ impl Piece for Dens {
 impl Piece for Centi {
     ghost use Rattle.site_decoding.specs.Decoding.{temperature_at};
 
-    ghost reads = { temperature_at };
+    ghost reads = { λ _. temperature_at };
 
-    fn read_at(_: Global, bytes: &[u8]) -> Result<(Centi, &[u8]), SiteBytesFault> {
+    fn read_at(_: Global, _: Format, bytes: &[u8]) -> Result<(Centi, &[u8]), SiteBytesFault> {
         temperature_at(bytes)
     }
 }
@@ -38,9 +38,9 @@ impl Piece for Centi {
 impl Piece for Fac5 {
     ghost use Rattle.site_decoding.specs.Decoding.{factor_at};
 
-    ghost reads = { factor_at };
+    ghost reads = { λ _. factor_at };
 
-    fn read_at(_: Global, bytes: &[u8]) -> Result<(Fac5, &[u8]), SiteBytesFault> {
+    fn read_at(_: Global, _: Format, bytes: &[u8]) -> Result<(Fac5, &[u8]), SiteBytesFault> {
         factor_at(bytes)
     }
 }
@@ -48,13 +48,13 @@ impl Piece for Fac5 {
 impl Piece for Product {
     ghost use Rattle.site_decoding.specs.Decoding.{product_at};
 
-    ghost reads = { product_at };
+    ghost reads = { λ _. product_at };
 
     #[tactic(auto, unfolding(crate::specs::Decoding::product_at))]
-    fn read_at(alloc: Global, bytes: &[u8]) -> Result<(Product, &[u8]), SiteBytesFault> {
+    fn read_at(alloc: Global, format: Format, bytes: &[u8]) -> Result<(Product, &[u8]), SiteBytesFault> {
         let (number, rest) = u16_at(BadSite, bytes)?;
         let (name, rest) = text_at(alloc, rest)?;
-        let (vcf, rest) = grid_at(alloc, rest)?;
+        let (vcf, rest) = grid_at(alloc, format, rest)?;
         Ok((Product { number, name, vcf }, rest))
     }
 }
@@ -62,10 +62,10 @@ impl Piece for Product {
 impl Piece for Party {
     ghost use Rattle.site_decoding.specs.Decoding.{party_at};
 
-    ghost reads = { party_at };
+    ghost reads = { λ _. party_at };
 
     #[tactic(auto, unfolding(crate::specs::Decoding::party_at))]
-    fn read_at(alloc: Global, bytes: &[u8]) -> Result<(Party, &[u8]), SiteBytesFault> {
+    fn read_at(alloc: Global, _: Format, bytes: &[u8]) -> Result<(Party, &[u8]), SiteBytesFault> {
         let (number, rest) = u16_at(BadSite, bytes)?;
         let (name, rest) = text_at(alloc, rest)?;
         Ok((Party { number, name }, rest))
@@ -74,13 +74,13 @@ impl Piece for Party {
 
 // The factors of a product.
 #[tactic(auto, unfolding(crate::specs::Decoding::grid_at))]
-fn grid_at(alloc: Global, bytes: &[u8]) -> Result<(Vcf, &[u8]), SiteBytesFault>
+fn grid_at(alloc: Global, format: Format, bytes: &[u8]) -> Result<(Vcf, &[u8]), SiteBytesFault>
     ensures reads { Gives (λ x. (x.0, x.1.now)) result (grid_at bytes.now) }
 {
-    let (densities, rest) = list32_at::<Dens>(alloc, 2, bytes)?;
-    let (temperatures, rest) = list32_at::<Centi>(alloc, 2, rest)?;
+    let (densities, rest) = list32_at::<Dens>(alloc, format, 2, bytes)?;
+    let (temperatures, rest) = list32_at::<Centi>(alloc, format, 2, rest)?;
     let count = densities.len() * temperatures.len();
-    let (factors, rest) = counted_at::<Fac5>(alloc, count, 4, rest)?;
+    let (factors, rest) = counted_at::<Fac5>(alloc, format, count, 4, rest)?;
     Ok((grid_of(densities, temperatures, factors)?, rest))
 }
 

@@ -3,15 +3,15 @@
 ghost use Rattle.std.specs.Prelude.{◌≡◌, Ok, Err, if◌then◌else◌, is_none};
 ghost use Rattle.strap_table.specs.Faults.{first_fault};
 ghost use Rattle.site_decoding.specs.ByteReaders.{Gives};
-ghost use Rattle.site_decoding.specs.Decoding.{amount_at, shell_at, spec_at, table_at};
+ghost use Rattle.site_decoding.specs.Decoding.{amount_at, reference_at, shell_at, spec_at, table_at};
 
 use super::lists::{Piece, list16_at, option_at};
 use super::numbers::{flag_at, height_at, natural16_at, natural32_at, temperature_at};
 use crate::SiteBytesFault;
 use crate::SiteBytesFault::BadSite;
 use byte_readers::{i64_at, u16_at, u32_at};
-use farm_fixed::{Amount, Kg, Shell};
-use farm_site::Tank;
+use farm_fixed::{Amount, Dens, Kg, Shell};
+use farm_site::{Format, Tank};
 use std::alloc::Global;
 use strap_table::{CapTable, Roof, TankSpec};
 
@@ -21,14 +21,18 @@ impl Piece for Tank {
     ghost reads = { tank_at };
 
     #[tactic(auto, unfolding(crate::specs::Decoding::tank_at))]
-    fn read_at(alloc: Global, bytes: &[u8]) -> Result<(Tank, &[u8]), SiteBytesFault> {
+    fn read_at(
+        alloc: Global,
+        format: Format,
+        bytes: &[u8],
+    ) -> Result<(Tank, &[u8]), SiteBytesFault> {
         let (number, rest) = u16_at(BadSite, bytes)?;
         let (product, rest) = u16_at(BadSite, rest)?;
-        let (spec, rest) = match spec_at(alloc, rest) {
+        let (spec, rest) = match spec_at(alloc, format, rest) {
             Ok(read) => read,
             Err(fault) => return Err(fault),
         };
-        let (table, rest) = table_at(alloc, rest)?;
+        let (table, rest) = table_at(alloc, format, rest)?;
         let (opening, rest) = amount_at(rest)?;
         let tank = Tank {
             number,
@@ -43,8 +47,12 @@ impl Piece for Tank {
 
 // What is fixed of a tank.
 #[tactic(auto, unfolding(crate::specs::Decoding::spec_at))]
-fn spec_at(alloc: Global, bytes: &[u8]) -> Result<(TankSpec, &[u8]), SiteBytesFault>
-    ensures reads { Gives (λ x. (x.0, x.1.now)) result (spec_at bytes.now) }
+fn spec_at(
+    alloc: Global,
+    format: Format,
+    bytes: &[u8],
+) -> Result<(TankSpec, &[u8]), SiteBytesFault>
+    ensures reads { Gives (λ x. (x.0, x.1.now)) result (spec_at format bytes.now) }
 {
     let (shell, rest) = match shell_at(bytes) {
         Ok(read) => read,
@@ -54,7 +62,7 @@ fn spec_at(alloc: Global, bytes: &[u8]) -> Result<(TankSpec, &[u8]), SiteBytesFa
         Ok(read) => read,
         Err(fault) => return Err(fault),
     };
-    match option_at(alloc, rest) {
+    match option_at(alloc, format, rest) {
         Ok((roof, rest)) => {
             let spec = TankSpec {
                 shell,
@@ -93,17 +101,47 @@ impl Piece for Roof {
     ghost reads = { roof_at };
 
     #[tactic(auto, unfolding(crate::specs::Decoding::roof_at, crate::specs::ByteReaders::natural_at))]
-    fn read_at(_: Global, bytes: &[u8]) -> Result<(Roof, &[u8]), SiteBytesFault> {
+    fn read_at(
+        alloc: Global,
+        format: Format,
+        bytes: &[u8],
+    ) -> Result<(Roof, &[u8]), SiteBytesFault> {
         let (mass, rest) = u32_at(BadSite, bytes)?;
         let mass = Kg::in_range(i128::from(mass));
         let (low, rest) = match height_at(rest) {
             Ok(read) => read,
             Err(fault) => return Err(fault),
         };
-        match height_at(rest) {
-            Ok((high, rest)) => Ok((Roof { mass, low, high }, rest)),
+        let (high, rest) = match height_at(rest) {
+            Ok(read) => read,
+            Err(fault) => return Err(fault),
+        };
+        match reference_at(alloc, format, rest) {
+            Ok((reference, rest)) => {
+                let roof = Roof {
+                    mass,
+                    low,
+                    high,
+                    reference,
+                };
+                Ok((roof, rest))
+            }
             Err(fault) => Err(fault),
         }
+    }
+}
+
+// The reference density of a roof that may have one, which format 2 alone has.
+fn reference_at(
+    alloc: Global,
+    format: Format,
+    bytes: &[u8],
+) -> Result<(Option<Dens>, &[u8]), SiteBytesFault>
+    ensures reads { Gives (λ x. (x.0, x.1.now)) result (reference_at format bytes.now) }
+{
+    match format {
+        Format::One => Ok((None, bytes)),
+        Format::Two => option_at(alloc, format, bytes),
     }
 }
 
@@ -112,19 +150,23 @@ impl Piece for i64 {
     ghost use Rattle.std.specs.Int.{w32};
     ghost use Rattle.site_decoding.specs.ByteReaders.{natural_at};
 
-    ghost reads = { natural_at w32 };
+    ghost reads = { λ _. natural_at w32 };
 
-    fn read_at(_: Global, bytes: &[u8]) -> Result<(i64, &[u8]), SiteBytesFault> {
+    fn read_at(_: Global, _: Format, bytes: &[u8]) -> Result<(i64, &[u8]), SiteBytesFault> {
         natural32_at(bytes)
     }
 }
 
 // A capacity table.
 #[tactic(auto, unfolding(crate::specs::Decoding::table_at))]
-fn table_at(alloc: Global, bytes: &[u8]) -> Result<(CapTable, &[u8]), SiteBytesFault>
+fn table_at(
+    alloc: Global,
+    format: Format,
+    bytes: &[u8],
+) -> Result<(CapTable, &[u8]), SiteBytesFault>
     ensures reads { Gives (λ x. (x.0, x.1.now)) result (table_at bytes.now) }
 {
-    let (rows, rest) = list16_at::<i64>(alloc, 4, bytes)?;
+    let (rows, rest) = list16_at::<i64>(alloc, format, 4, bytes)?;
     Ok((table_of(rows)?, rest))
 }
 

@@ -7,44 +7,45 @@ ghost use Rattle.site_encoding.specs.Encoding.{natural_bytes, signed_bytes};
 
 use crate::encoding::encoded::{Encoded, put};
 use farm_fixed::{Centi, Dens, Fac5};
+use farm_site::Format;
 
 impl Encoded for Dens {
-    ghost bytes = { natural_bytes w16 };
+    ghost bytes = { λ _. natural_bytes w16 };
 
     ghost typed = { IsWithin LEAST_DENSITY MOST_DENSITY };
 
-    fn put(&self, out: &mut Vec<u8>) {
+    fn put(&self, _format: Format, out: &mut Vec<u8>) {
         put(out, &(self.get() as u16).to_be_bytes());
     }
 }
 
 impl Encoded for Centi {
-    ghost bytes = { signed_bytes w16 };
+    ghost bytes = { λ _. signed_bytes w16 };
 
     ghost typed = { IsWithin LEAST_TEMPERATURE MOST_TEMPERATURE };
 
-    fn put(&self, out: &mut Vec<u8>) {
+    fn put(&self, _format: Format, out: &mut Vec<u8>) {
         put(out, &(self.get() as i16).to_be_bytes());
     }
 }
 
 impl Encoded for Fac5 {
-    ghost bytes = { natural_bytes w32 };
+    ghost bytes = { λ _. natural_bytes w32 };
 
     ghost typed = { IsWithin LEAST_FACTOR MOST_FACTOR };
 
-    fn put(&self, out: &mut Vec<u8>) {
+    fn put(&self, _format: Format, out: &mut Vec<u8>) {
         put(out, &(self.get() as u32).to_be_bytes());
     }
 }
 
 /// A row of a capacity table, in litres.
 impl Encoded for i64 {
-    ghost bytes = { natural_bytes w32 };
+    ghost bytes = { λ _. natural_bytes w32 };
 
     ghost fits = { IsVolume };
 
-    fn put(&self, out: &mut Vec<u8>) {
+    fn put(&self, _format: Format, out: &mut Vec<u8>) {
         put(out, &(*self as u32).to_be_bytes());
     }
 }

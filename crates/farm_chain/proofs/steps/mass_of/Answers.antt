@@ -6,5 +6,5 @@ use Rattle.farm_chain.proofs.steps.mass_of.Goals as goal
 
 pub returns-clause-range : goal.returns-clause-range
 returns-clause-range c =
-    product_rounded c.args.nsv c.args.density c.product-tenths.result c.in_range.result 10000 2700000420
+    product_rounded c.args.nsv c.args.density c.product-tenths.result c.in_range.result 10000 2745000600
     c.requires.low (omega (arith, ints)) (search rules) (omega (arith, ints)) (search rules) (search rules)

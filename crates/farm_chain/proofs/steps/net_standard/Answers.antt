@@ -12,5 +12,5 @@ in_range-requires c =
 
 pub returns-clause-range : goal.returns-clause-range
 returns-clause-range c =
-    product_rounded c.args.gsv (pos 100000 -ℤ c.args.sw) c.product-net.result c.in_range.result 100000 2250000250
+    product_rounded c.args.gsv (pos 100000 -ℤ c.args.sw) c.product-net.result c.in_range.result 100000 2287500400
     c.requires.low (omega (arith, ints)) (search rules) (omega (arith, ints)) (search rules) (search rules)

@@ -1,5 +1,6 @@
 -- Answers to the open goals of `roof_adjustment`.
-use Rattle.std.proofs.Common.{◌≡◌, ◌^◌, false, List, ℤ, to_z, of_z, pos, neg_ℤ, ◌*ℤ◌, ◌≤ℤ◌, ap, ◌∙◌, arith, rules}
+use Rattle.std.proofs.Common.{◌≡◌, ◌+◌, ◌*◌, ◌/◌, ◌≤◌, ◌^◌, false, List, ℤ, to_z, of_z, pos, neg_ℤ, ◌*ℤ◌, ◌≤ℤ◌, subst, sym, ap, ◌∙◌, arith, rules}
+use Rattle.std.proofs.Math.Nat.{div-le_of_le-mul}
 use Rattle.std.proofs.lemmas.Int.{ints, to_z-of_z}
 use Rattle.std.specs.Int.{w128}
 use Rattle.std.specs.Int.RustNames.{unsigned_abs}
@@ -7,6 +8,7 @@ use Rattle.std.specs.Ordering.{int_eq}
 use Rattle.farm_rounding.specs.Table.{Row, rounded}
 use Rattle.farm_rounding.specs.declared.table.TheConstants.{ROOF_ADJUSTMENT}
 use Rattle.farm_chain.specs.Steps.{roof_adjustment}
+use Rattle.farm_chain.proofs.Shares.{product_at_least}
 use Rattle.farm_chain.proofs.steps.roof_adjustment.Goals as goal
 
 -- what the body computes for a roof
@@ -36,3 +38,18 @@ returns-clause-never_adds c =
     let mass : pos 0 ≤ℤ c.product-mass.result = omega (arith, ints) in
     let share : pos 0 ≤ℤ c.round.result = c.round.ensures.sign (search rules) in
     omega (arith, ints)
+
+pub returns-clause-range : goal.returns-clause-range
+returns-clause-range c =
+    let mass : pos 0 ≤ℤ c.product-mass.result = omega (arith, ints) in
+    let share : pos 0 ≤ℤ c.round.result = c.round.ensures.sign (search rules) in
+    let large : unsigned_abs c.product-mass.result ≤ 10000000 * 1000000000 = c.product-mass.ensures.size in
+    let observed_is : c.product-observed.result ≡ c.args.density *ℤ c.args.vcf = search rules in
+    let product : pos (4000 * 50000) ≤ℤ (c.args.density *ℤ c.args.vcf) = product_at_least 4000 50000 c.args.density c.args.vcf (omega (arith, ints)) (omega (arith, ints)) in
+    let observed : pos (4000 * 50000) ≤ℤ c.product-observed.result = subst (λ o. pos (4000 * 50000) ≤ℤ o) (sym observed_is) product in
+    let wholes : unsigned_abs c.product-mass.result ≤ unsigned_abs c.product-observed.result * 50000000 = omega (arith, ints, large, observed) in
+    let quotient : unsigned_abs c.product-mass.result / unsigned_abs c.product-observed.result ≤ 50000000 = div-le_of_le-mul (unsigned_abs c.product-observed.result) wholes in
+    let near : unsigned_abs c.round.result ≤ unsigned_abs c.product-mass.result / unsigned_abs c.product-observed.result + 100 = search rules in
+    let size : unsigned_abs c.round.result ≤ 50000100 = omega arith in
+    let answer : c.in_range-2.result ≡ neg_ℤ c.round.result = search rules in
+    record { low = omega (arith, ints, size, share, answer); high = omega (arith, ints, share, answer) }

@@ -1,5 +1,5 @@
 -- Answers to the open goals of `rounded_mean`.
-use Rattle.std.proofs.Common.{rules, ℤ, pos, negsuc, sym, subst}
+use Rattle.std.proofs.Common.{rules, ℤ, pos, negsuc, sym, ◌∙◌, subst}
 use Rattle.std.specs.Int.{w128}
 use Rattle.std.specs.Int.RustNames.{unsigned_abs}
 use Rattle.std.proofs.lemmas.Int.{to_z-of_z}
@@ -16,3 +16,11 @@ in_range-requires c =
     let kept = to_z-of_z w128 c.nearest.result (search rules) in
     let P : ℤ → Type 0 = λ x. IsWithin LEAST_TEMPERATURE MOST_TEMPERATURE x in
     subst P (sym kept) (mean_temperature_within c.args.mode c.args.total c.args.count step c.nearest.result c.requires.some c.requires.step.1 c.requires.low c.requires.high meaning)
+
+pub returns-clause-meaning : goal.returns-clause-meaning
+returns-clause-meaning c =
+    let step = unsigned_abs c.args.step in
+    let meaning : IsNearest c.args.mode c.args.total c.args.count step c.nearest.result = search rules in
+    let kept = to_z-of_z w128 c.nearest.result (search rules) in
+    let P : ℤ → Type 0 = λ x. IsNearest c.args.mode c.args.total c.args.count step x in
+    subst P (sym (c.in_range.ensures.units ∙ kept)) meaning

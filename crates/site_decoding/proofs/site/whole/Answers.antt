@@ -14,7 +14,7 @@ invariant_of-result c =
     let parties = c.in_ok-parties in
     let tanks = c.in_ok-tanks in
     let lines = c.in_ok-lines in
-    let tanks_read : tanks_at products.products.items parties.rest.now ≡ Ok (tanks.tanks.items, tanks.rest.now) = rw c.deref.ensures.value at tanks.ensures.reads in
+    let tanks_read : tanks_at c.in-Ok.read.0.0 products.products.items parties.rest.now ≡ Ok (tanks.tanks.items, tanks.rest.now) = rw c.deref.ensures.value at tanks.ensures.reads in
     let lines_read : lines_at tanks.tanks.items tanks.rest.now ≡ Ok (lines.lines.items, lines.rest.now) = rw c.deref-2.ensures.value at lines.ensures.reads in
     let site =
     parts_read laws c.args.bytes.now fits c.in-Ok.read.0 c.in-Ok.read.1.now c.in-Ok.ensures.reads products.products.items products.rest.now products.ensures.reads

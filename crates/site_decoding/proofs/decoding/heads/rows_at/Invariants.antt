@@ -8,6 +8,6 @@ use Rattle.site_decoding.proofs.decoding.heads.rows_at.Given as goal
 -- the rows so far and those that follow are all of them
 abbrev pub invariant-loop-index : goal.invariant-loop-index
 invariant-loop-index l = record {
-  whole : with_front (take l.index l.rows) (counted_at row_at (12 - l.index) l.rest) ≡ counted_at row_at 12 l.bytes;
+  whole : with_front (take l.index l.rows) (counted_at (row_at l.format) (12 - l.index) l.rest) ≡ counted_at (row_at l.format) 12 l.bytes;
   twelve : length l.rows ≡ 12;
 }

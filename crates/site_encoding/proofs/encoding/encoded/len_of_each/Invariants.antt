@@ -6,6 +6,6 @@ use Rattle.site_encoding.proofs.encoding.encoded.len_of_each.Given as goal
 -- the bytes of the items so far were counted
 abbrev pub invariant-loop-item : goal.invariant-loop-item
 invariant-loop-item g l = record {
-  counted : l.total ≡ length (flat_map g.T.Encoded.bytes (take l.item-index l.items));
+  counted : l.total ≡ length (flat_map (g.T.Encoded.bytes l.format) (take l.item-index l.items));
   few : l.total ≤ l.item-index * g.T.Measured.most;
 }

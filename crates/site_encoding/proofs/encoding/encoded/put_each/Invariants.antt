@@ -7,6 +7,6 @@ use Rattle.site_encoding.proofs.encoding.encoded.put_each.Given as goal
 -- the items so far were put, and the numbers of each are of their types
 abbrev pub invariant-loop-item : goal.invariant-loop-item
 invariant-loop-item g l = record {
-  put : IsPut l.fn.out l.out (flat_map g.T.Encoded.bytes (take l.item-index l.items));
+  put : IsPut l.fn.out l.out (flat_map (g.T.Encoded.bytes l.format) (take l.item-index l.items));
   typed : All g.T.Encoded.typed (take l.item-index l.items);
 }

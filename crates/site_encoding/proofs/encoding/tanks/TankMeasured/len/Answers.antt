@@ -5,4 +5,4 @@ use Rattle.site_encoding.proofs.encoding.tanks.TankMeasured.len.Goals as goal
 
 pub returns-clause-len : goal.returns-clause-len
 returns-clause-len c =
-    omega (arith, length-tank c.args.self.now, ap length c.rows.ensures.rows, c.len_of_option.ensures.len)
+    omega (arith, length-tank c.args.format c.args.self.now, ap length c.rows.ensures.rows, c.len_of_option.ensures.len)
