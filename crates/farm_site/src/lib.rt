@@ -21,7 +21,8 @@ pub use formats::{Format, format_needed};
 pub use hosts::is_host;
 pub use items::{Party, Product, Tank};
 pub use limits::{
-    MOST_FORMAT, MOST_LINES, MOST_NAME_BYTES, MOST_NUMBER, MOST_PARTIES, MOST_PRODUCTS, MOST_STOCK, MOST_TANKS,
+    MOST_FORMAT, MOST_LINES, MOST_NAME_BYTES, MOST_NUMBER, MOST_PARTIES, MOST_PRODUCTS, MOST_STOCK,
+    MOST_TANKS,
 };
 pub use lists::{Lines, Parties, Products, Tanks};
 pub use names::{Name, is_name};

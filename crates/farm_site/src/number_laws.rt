@@ -4,7 +4,8 @@ ghost use Rattle.std.specs.Prelude.{◌≡◌};
 ghost use Rattle.farm_site.specs.Limits.{most_format, most_number, most_name_bytes, most_lines, most_parties, most_products, most_stock, most_tanks};
 
 use crate::limits::{
-    MOST_FORMAT, MOST_LINES, MOST_NAME_BYTES, MOST_NUMBER, MOST_PARTIES, MOST_PRODUCTS, MOST_STOCK, MOST_TANKS,
+    MOST_FORMAT, MOST_LINES, MOST_NAME_BYTES, MOST_NUMBER, MOST_PARTIES, MOST_PRODUCTS, MOST_STOCK,
+    MOST_TANKS,
 };
 
 /// Does nothing: its contract is that each number that the definitions state is the code's.

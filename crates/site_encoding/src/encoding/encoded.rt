@@ -58,11 +58,7 @@ pub(crate) fn put_text(out: &mut Vec<u8>, text: &[u8])
 }
 
 /// Puts 0 for nothing, or 1 and the bytes of the item that is there.
-pub(crate) fn put_option<T: Encoded>(
-    format: Format,
-    out: &mut Vec<u8>,
-    option: &Option<T>,
-)
+pub(crate) fn put_option<T: Encoded>(format: Format, out: &mut Vec<u8>, option: &Option<T>)
     requires fits { IfSome option.now T.fits }
     requires room { HasRoom out.old (option_bytes (T.bytes format) option.now) }
     ensures put { IsPut out.old out.new (option_bytes (T.bytes format) option.now) }
@@ -91,11 +87,7 @@ pub(crate) fn len_of_option<T: Measured>(format: Format, option: &Option<T>) -> 
 }
 
 /// Puts the bytes of items, one after another.
-pub(crate) fn put_each<T: Encoded>(
-    format: Format,
-    out: &mut Vec<u8>,
-    items: &[T],
-)
+pub(crate) fn put_each<T: Encoded>(format: Format, out: &mut Vec<u8>, items: &[T])
     requires fits { All T.fits items.now }
     requires room { HasRoom out.old (flat_map (T.bytes format) items.now) }
     ensures put { IsPut out.old out.new (flat_map (T.bytes format) items.now) }
@@ -121,11 +113,7 @@ pub(crate) fn len_of_each<T: Measured>(format: Format, items: &[T]) -> usize
 }
 
 /// Puts items after their count of one byte.
-pub(crate) fn put_short_list<T: Encoded>(
-    format: Format,
-    out: &mut Vec<u8>,
-    items: &[T],
-)
+pub(crate) fn put_short_list<T: Encoded>(format: Format, out: &mut Vec<u8>, items: &[T])
     requires fits { All T.fits items.now }
     requires few { length items.now < 256 }
     requires room { HasRoom out.old (short_list_bytes (T.bytes format) items.now) }
@@ -137,11 +125,7 @@ pub(crate) fn put_short_list<T: Encoded>(
 }
 
 /// Puts items after their count of two bytes.
-pub(crate) fn put_list<T: Encoded>(
-    format: Format,
-    out: &mut Vec<u8>,
-    items: &[T],
-)
+pub(crate) fn put_list<T: Encoded>(format: Format, out: &mut Vec<u8>, items: &[T])
     requires fits { All T.fits items.now }
     requires few { length items.now < 65536 }
     requires room { HasRoom out.old (list_bytes w16 (T.bytes format) items.now) }
@@ -153,11 +137,7 @@ pub(crate) fn put_list<T: Encoded>(
 }
 
 /// Puts items after their count of four bytes.
-pub(crate) fn put_long_list<T: Encoded>(
-    format: Format,
-    out: &mut Vec<u8>,
-    items: &[T],
-)
+pub(crate) fn put_long_list<T: Encoded>(format: Format, out: &mut Vec<u8>, items: &[T])
     requires fits { All T.fits items.now }
     requires few { length items.now < 4294967296 }
     requires room { HasRoom out.old (list_bytes w32 (T.bytes format) items.now) }

@@ -42,7 +42,13 @@ impl Measured for Tank {
 
     #[tactic(auto, unfolding(crate::specs::Encoding::tank_bytes))]
     fn len(&self, format: Format) -> usize {
-        2 + 2 + 5 + 2 + len_of_option(format, &self.spec.roof) + 2 + 4 * self.table.rows().len() + 16
+        2 + 2
+            + 5
+            + 2
+            + len_of_option(format, &self.spec.roof)
+            + 2
+            + 4 * self.table.rows().len()
+            + 16
     }
 }
 
