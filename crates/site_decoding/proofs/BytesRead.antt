@@ -1,5 +1,5 @@
 -- The reader of sites: what is read is a site's bytes, and what is a site's bytes is read.
-use Rattle.std.proofs.Common.{◌≡◌, ℕ, ◌==◌, cond, List, [], ◌∷◌, ◌++◌, length, Result, Ok, Err, refl, sym, ap, subst, ◌∙◌, append_assoc, append-nil, map}
+use Rattle.std.proofs.Common.{◌≡◌, ℕ, ◌==◌, cond, true, List, [], ◌∷◌, ◌++◌, length, Result, Ok, Err, refl, sym, ap, subst, ◌∙◌, append_assoc, append-nil, map}
 use Rattle.std.specs.Prelude.{MatchResult}
 use Rattle.std.specs.Int.{w16}
 use Rattle.std.specs.List.{flat_map}

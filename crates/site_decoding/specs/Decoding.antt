@@ -1,6 +1,6 @@
 -- Reading the items of a site from left to right. A reader gives an item and the bytes after it, and `BadSite` where bytes begin with
 -- no such item.
-use Rattle.std.specs.Prelude.{ℕ, ◌*◌, ◌==◌, ◌&&◌, ◌||◌, Bool, true, false, nat_le, if◌then◌else◌, List, [], ◌∷◌, length, map, Option, None, is_none, Ok, ℤ, pos}
+use Rattle.std.specs.Prelude.{ℕ, ◌*◌, ◌==◌, ◌&&◌, ◌||◌, Bool, true, nat_le, if◌then◌else◌, List, [], ◌∷◌, length, map, Option, None, is_none, Ok, ℤ, pos}
 use Rattle.std.specs.Int.{w16, w32, w64}
 use Rattle.std.specs.Int.RustNames.{int_lt}
 use Rattle.farm_fixed.specs.Range.{is_within, is_between}

@@ -39,7 +39,7 @@ impl SiteFromBytes for Site {
 }
 
 // The same, as it is read part by part.
-#[tactic(auto, unfolding(crate::specs::Sites::whole_site, crate::specs::Sites::site_at))]
+#[tactic(auto, unfolding(crate::specs::Sites::whole_site, crate::specs::Sites::site_at, crate::specs::Sites::parts_at))]
 fn whole(alloc: Global, bytes: &[u8]) -> Result<Site, SiteBytesFault>
     ensures whole { Gives (described) result (whole_site bytes.now) }
 {

@@ -35,9 +35,9 @@ fn nearest_ties(rt: HostRuntime) -> Result<(), Fail> {
 }
 
 // A quotient and a step, and what each mode makes of them: half away, toward zero, half even.
-type Modes = (&'static str, (i128, i128, i64), [i128; 3]);
+type Halves = &'static [(&'static str, (i64, i64, i64), [i128; 3])];
 
-const HALVES: &[Modes] = &[
+const HALVES: Halves = &[
     ("2.5", (25, 10, 1), [3, 2, 2]),
     ("3.5", (35, 10, 1), [4, 3, 4]),
     ("-2.5", (-25, 10, 1), [-3, -2, -2]),
@@ -51,15 +51,35 @@ const HALVES: &[Modes] = &[
     ("3 by steps of 2", (3, 1, 2), [4, 2, 4]),
 ];
 
-const MODES: [Mode; 3] = [Mode::HalfAway, Mode::TowardZero, Mode::HalfEven];
+// What is wanted of a mode.
+fn wanted(mode: Mode, [away, zero, even]: [i128; 3]) -> i128 {
+    match mode {
+        Mode::HalfAway => away,
+        Mode::TowardZero => zero,
+        Mode::HalfEven => even,
+    }
+}
+
+// A quotient rounded to a step, if the divisor is above zero and the step 1, 2 or 5.
+fn rounded((num, den, step): (i64, i64, i64), mode: Mode) -> Option<i128> {
+    if den < 1 || !matches!(step, 1 | 2 | 5) {
+        return None;
+    }
+    Some(nearest(i128::from(num), i128::from(den), step, mode))
+}
+
+// Each quotient is rounded as a mode is to do.
+fn check_halves<R: Print>(checks: &mut Checks<'_, R>, mode: Mode) {
+    for (name, quotient, wants) in HALVES {
+        checks.same_at(name, rounded(*quotient, mode), Some(wanted(mode, *wants)));
+    }
+}
 
 #[test]
 fn half_even_ties(rt: HostRuntime) -> Result<(), Fail> {
     let mut checks = Checks::new(&rt);
-    for (name, (num, den, step), wants) in HALVES {
-        for (mode, want) in MODES.iter().zip(wants.iter()) {
-            checks.same_at(name, nearest(*num, *den, *step, *mode), *want);
-        }
+    for mode in [Mode::HalfAway, Mode::TowardZero, Mode::HalfEven] {
+        check_halves(&mut checks, mode);
     }
     Ok(checks.end()?)
 }

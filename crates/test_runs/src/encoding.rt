@@ -187,7 +187,11 @@ fn check_format_2<R: Print>(
 ) -> Result<(), Fail> {
     checks.same_at(name, bytes.len(), len);
     checks.same_at(name, part(bytes, 0, 1), Some(b"\x02".as_slice()));
-    checks.same_at(name, part(bytes, THIRD_MODE - 1, 2), Some(b"\x01\x02".as_slice()));
+    checks.same_at(
+        name,
+        part(bytes, THIRD_MODE - 1, 2),
+        Some(b"\x01\x02".as_slice()),
+    );
     checks.same_at(name, part(bytes, ROOF, roof.len()), Some(roof));
     check_again(checks, alloc, bytes)
 }

@@ -27,7 +27,11 @@ impl Piece for LineMap {
     ghost reads = { λ _. line_at };
 
     #[tactic(auto, unfolding(crate::specs::Decoding::line_at))]
-    fn read_at(alloc: Global, format: Format, bytes: &[u8]) -> Result<(LineMap, &[u8]), SiteBytesFault> {
+    fn read_at(
+        alloc: Global,
+        format: Format,
+        bytes: &[u8],
+    ) -> Result<(LineMap, &[u8]), SiteBytesFault> {
         let (host, rest) = text_at(alloc, bytes)?;
         let (port, rest) = u16_at(BadSite, rest)?;
         let (gauges, rest) = short_list_at(alloc, format, 44, rest)?;
@@ -42,7 +46,11 @@ impl Piece for GaugeMap {
     ghost reads = { λ _. gauge_at };
 
     #[tactic(auto, unfolding(crate::specs::Decoding::gauge_at))]
-    fn read_at(alloc: Global, format: Format, bytes: &[u8]) -> Result<(GaugeMap, &[u8]), SiteBytesFault> {
+    fn read_at(
+        alloc: Global,
+        format: Format,
+        bytes: &[u8],
+    ) -> Result<(GaugeMap, &[u8]), SiteBytesFault> {
         let (tank, rest) = u16_at(BadSite, bytes)?;
         let (request, rest) = request_at(rest)?;
         let (fields, rest) = fields_at(alloc, format, rest)?;

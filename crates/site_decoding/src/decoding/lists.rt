@@ -20,11 +20,7 @@ pub trait Piece: Drop {
     ghost reads: { Format → List ℕ → Result (Self × List ℕ) SiteBytesFault };
 
     /// The thing at the front of bytes of a format, and the bytes after it.
-    fn read_at(
-        alloc: Global,
-        format: Format,
-        bytes: &[u8],
-    ) -> Result<(Self, &[u8]), SiteBytesFault>
+    fn read_at(alloc: Global, format: Format, bytes: &[u8]) -> Result<(Self, &[u8]), SiteBytesFault>
         ensures reads { Gives (λ x. (x.0, x.1.now)) result (reads format bytes.now) };
 }
 

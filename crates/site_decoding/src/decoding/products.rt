@@ -51,7 +51,11 @@ impl Piece for Product {
     ghost reads = { λ _. product_at };
 
     #[tactic(auto, unfolding(crate::specs::Decoding::product_at))]
-    fn read_at(alloc: Global, format: Format, bytes: &[u8]) -> Result<(Product, &[u8]), SiteBytesFault> {
+    fn read_at(
+        alloc: Global,
+        format: Format,
+        bytes: &[u8],
+    ) -> Result<(Product, &[u8]), SiteBytesFault> {
         let (number, rest) = u16_at(BadSite, bytes)?;
         let (name, rest) = text_at(alloc, rest)?;
         let (vcf, rest) = grid_at(alloc, format, rest)?;

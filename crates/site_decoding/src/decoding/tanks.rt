@@ -47,11 +47,7 @@ impl Piece for Tank {
 
 // What is fixed of a tank.
 #[tactic(auto, unfolding(crate::specs::Decoding::spec_at))]
-fn spec_at(
-    alloc: Global,
-    format: Format,
-    bytes: &[u8],
-) -> Result<(TankSpec, &[u8]), SiteBytesFault>
+fn spec_at(alloc: Global, format: Format, bytes: &[u8]) -> Result<(TankSpec, &[u8]), SiteBytesFault>
     ensures reads { Gives (λ x. (x.0, x.1.now)) result (spec_at format bytes.now) }
 {
     let (shell, rest) = match shell_at(bytes) {

@@ -1,5 +1,5 @@
 -- Answers to the open goals of `rounded_mean`.
-use Rattle.std.proofs.Common.{rules, ℤ, pos, negsuc, sym, ◌∙◌, subst}
+use Rattle.std.proofs.Common.{rules, ℤ, sym, ◌∙◌, subst}
 use Rattle.std.specs.Int.{w128}
 use Rattle.std.specs.Int.RustNames.{unsigned_abs}
 use Rattle.std.proofs.lemmas.Int.{to_z-of_z}
