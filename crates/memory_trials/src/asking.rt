@@ -48,7 +48,7 @@ pub fn put_text<R: Print>(rt: &R, bytes: &[u8]) -> io::Result<()> {
 // The text of a reply, and a line feed.
 fn text_of(alloc: Global, reply: Reply) -> Result<Vec<u8>, Why> {
     let mut text = Vec::new(alloc);
-    let written = body(alloc, &Page::Reply(reply), &mut text);
+    let written = body(&Page::Reply(reply), &mut text);
     if written.is_ok() && text.push(b'\n').is_ok() {
         return Ok(text);
     }
