@@ -10,7 +10,7 @@ use farm_history::{Ask, Command, Gauged, Plan, Query, Reply, Rule};
 pub const NOW: i64 = 1_700_000_000;
 
 /// How many entries are before the eighth.
-pub const BEFORE: usize = 7;
+pub const BEFORE: u8 = 7;
 
 /// The eighth command of the account 1, which is accepted.
 #[derive(Clone, Copy, Debug, PartialEq, Eq)]
@@ -25,7 +25,7 @@ pub enum Eighth {
 #[derive(Clone, Copy, Debug, PartialEq, Eq)]
 pub enum Asked {
     /// One of the seven commands before the eighth.
-    Before(usize),
+    Before(u8),
     /// The eighth command, by its caller.
     Eighth,
     /// The same for the same account, by another caller.
@@ -92,7 +92,7 @@ const CLOSING: Command = Command::Closing {
 };
 
 // The commands before the eighth, by their places less one.
-fn command_before(index: usize) -> Command
+fn command_before(index: u8) -> Command
     ensures { IsWellFormedCommand result }
 {
     match index {
@@ -129,7 +129,7 @@ pub(crate) fn ask_of(eighth: Eighth, asked: Asked) -> (u32, Ask)
     ensures well_formed { IsWellFormedAsk result.1 }
 {
     match asked {
-        Asked::Before(index) => (0, doing(1, index as u64, command_before(index))),
+        Asked::Before(index) => (0, doing(1, u64::from(index), command_before(index))),
         Asked::Eighth => (0, doing(1, 8, eighth_command(eighth))),
         Asked::Repeat => (1, doing(1, 8, eighth_command(eighth))),
         Asked::Total | Asked::Met => (1, Ask::Look(Query::Total)),
@@ -156,7 +156,7 @@ fn total_after(eighth: Eighth) -> Amount {
 /// The reply once the eighth entry stands, whose own reply is given.
 pub(crate) fn reply_to(eighth: Eighth, asked: Asked, own: Reply) -> Reply {
     match asked {
-        Asked::Before(index) => Reply::Placed((index as u32).saturating_add(1)),
+        Asked::Before(index) => Reply::Placed(u32::from(index).saturating_add(1)),
         Asked::Eighth | Asked::Repeat => own,
         Asked::Total | Asked::Met => Reply::Total {
             entries: 8,

@@ -55,7 +55,7 @@ fn check_ask<R: Print>(
     index: u64,
     ask: &Ask,
 ) -> Result<(), Fail> {
-    let at = NOW.saturating_add(index as i64);
+    let at = NOW.saturating_add(index.min(REQUESTS) as i64);
     let caller = (index % 3) as u32;
     let said = run.rules.answer(caller, at, ask)?;
     let answer = desk.ask(caller, at, ask);

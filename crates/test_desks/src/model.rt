@@ -123,17 +123,24 @@ impl Rules {
         !self.doubt || self.opens_gate()
     }
 
+    // How many entries there are.
+    fn count(&self) -> u32 {
+        u32::try_from(self.entries.len()).unwrap_or(u32::MAX)
+    }
+
     // The place of the last reading or sample of a tank, 0 for none.
     fn last_of(&self, tank: u16, sampled: bool) -> u32 {
         let mut last = 0;
-        for (index, entry) in self.entries.iter().enumerate() {
+        let mut place: u32 = 0;
+        for entry in &self.entries {
+            place = place.saturating_add(1);
             let is_one = match entry.cmd {
                 Command::Sample { tank: of, .. } => sampled && of == tank,
                 Command::Gauge { tank: of, .. } => !sampled && of == tank,
                 _ => false,
             };
             if is_one {
-                last = (index as u32).saturating_add(1);
+                last = place;
             }
         }
         last
@@ -160,7 +167,7 @@ impl Rules {
             Query::Ticket(_) => Reply::Refused(Rule::UnknownTicket),
             Query::Stock(tank) => self.stock(*tank),
             Query::Total => Reply::Total {
-                entries: self.entries.len() as u32,
+                entries: self.count(),
                 amount: BOTH_TANKS,
             },
         }
@@ -168,9 +175,11 @@ impl Rules {
 
     // The entry of a key, and its place.
     fn entry_of(&self, account: u32, key: u64) -> Option<(u32, Command)> {
-        for (index, entry) in self.entries.iter().enumerate() {
+        let mut place: u32 = 0;
+        for entry in &self.entries {
+            place = place.saturating_add(1);
             if entry.account == account && entry.key == key {
-                return Some(((index as u32).saturating_add(1), entry.cmd));
+                return Some((place, entry.cmd));
             }
         }
         None
@@ -201,7 +210,7 @@ impl Rules {
         self.entries.push(entry)?;
         self.doubt = true;
         self.written = false;
-        let place = self.entries.len() as u32;
+        let place = self.count();
         Ok(if self.opens_gate() {
             Some(Reply::Placed(place))
         } else {
