@@ -13,7 +13,7 @@ import sys
 from pathlib import Path
 
 TOP = Path(__file__).resolve().parent.parent
-LEFT_OUT = re.compile(r"test_|case_|farm_cases|shared_log|sample_site")
+LEFT_OUT = re.compile(r"test_|case_|farm_cases|shared_log|memory_trials|sample_site")
 NAME = re.compile(r"`([^`]+)`")
 
 
