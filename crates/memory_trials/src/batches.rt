@@ -54,15 +54,24 @@ fn answers_of(alloc: Global, desk: &mut DayDesk, lines: &str) -> Result<Gather, 
     Err(why)
 }
 
+// Runs a batch of these lines, and prints the answers if each line is answered.
+fn put_once<R: Print>(
+    rt: &R,
+    alloc: Global,
+    desk: &mut DayDesk,
+    lines: &str,
+) -> Result<io::Result<()>, Why> {
+    let sink = answers_of(alloc, desk, lines)?;
+    let put = put_text(rt, sink.bytes());
+    drop(sink);
+    Ok(put)
+}
+
 // Runs a batch of these lines until each is answered, and prints the answers.
 fn put_batch<R: Print>(rt: &R, alloc: Global, desk: &mut DayDesk, lines: &str) -> io::Result<()> {
     for _ in 0..TRIES {
-        match answers_of(alloc, desk, lines) {
-            Ok(sink) => {
-                let put = put_text(rt, sink.bytes());
-                drop(sink);
-                return put;
-            }
+        match put_once(rt, alloc, desk, lines) {
+            Ok(put) => return put,
             Err(why) => say_refused(rt, why)?,
         }
     }

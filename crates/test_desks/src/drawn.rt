@@ -116,6 +116,22 @@ fn check_moments<R: Print>(
     checked
 }
 
+// What the end of a desk leaves is as the rules say. From then on its moments are those of the next desk.
+fn check_end<R: Print>(
+    checks: &mut Checks<'_, R>,
+    alloc: Global,
+    disk: &MemDisk,
+    doubt: bool,
+    run: &mut Run,
+) -> Result<(), Fail> {
+    checks.same_at(run.seed, doubt, !run.rules.settles());
+    let stand = disk.stand();
+    checks.same_at(run.seed, (stand.moment, stand.faults), run.rules.stand());
+    check_moments(checks, alloc, disk, run)?;
+    run.moments.clear();
+    Ok(())
+}
+
 // The desk ends as the rules say. Answers its disk.
 fn ended<R: Print>(
     checks: &mut Checks<'_, R>,
@@ -124,12 +140,7 @@ fn ended<R: Print>(
     run: &mut Run,
 ) -> Result<MemDisk, Fail> {
     let (disk, doubt) = desk.finish();
-    checks.same_at(run.seed, doubt, !run.rules.settles());
-    let stand = disk.stand();
-    checks.same_at(run.seed, (stand.moment, stand.faults), run.rules.stand());
-    let checked = check_moments(checks, alloc, &disk, run);
-    run.moments.clear();
-    match checked {
+    match check_end(checks, alloc, &disk, doubt, run) {
         Ok(()) => Ok(disk),
         Err(fail) => {
             drop(disk);
@@ -163,7 +174,18 @@ fn reopened<R: Print>(
     Err("a disk that always fails")?
 }
 
-// Asks the requests up to the Stop, and the Stop; the desk ends and is recovered.
+// Asks the requests up to the Stop, and the Stop.
+fn ask_to_stop<R: Print>(
+    checks: &mut Checks<'_, R>,
+    desk: &mut SmallDesk,
+    run: &mut Run,
+    stop_at: u64,
+) -> Result<(), Fail> {
+    ask_drawn(checks, desk, run, 0..stop_at)?;
+    check_ask(checks, desk, run, stop_at, &stop())
+}
+
+// Asks them; then the desk ends and is recovered.
 fn stopped<R: Print>(
     checks: &mut Checks<'_, R>,
     alloc: Global,
@@ -172,8 +194,10 @@ fn stopped<R: Print>(
     stop_at: u64,
 ) -> Result<SmallDesk, Fail> {
     let mut desk = desk;
-    ask_drawn(checks, &mut desk, run, 0..stop_at)?;
-    check_ask(checks, &mut desk, run, stop_at, &stop())?;
+    if let Err(fail) = ask_to_stop(checks, &mut desk, run, stop_at) {
+        drop(desk);
+        return Err(fail);
+    }
     let disk = ended(checks, alloc, desk, run)?;
     reopened(checks, alloc, disk, run)
 }
@@ -194,10 +218,9 @@ fn check_run<R: Print>(
 
 // The run of a seed, and its desk.
 fn run_of(alloc: Global, seed: u64) -> Result<(SmallDesk, Run), Fail> {
-    let site = small_site(alloc)?;
     let mut draw = Draw { number: seed };
     let fails = draw.fails(alloc)?;
-    let desk = new_desk(alloc, site, &fails)?;
+    let desk = new_desk(alloc, small_site(alloc)?, &fails)?;
     let run = Run {
         seed,
         draw,
