@@ -1,6 +1,8 @@
 //! Runs of a desk that are drawn: 40 requests each, up to six calls of the disk that fail, and a Stop, at which the desk ends and is
 //! recovered from its disk.
 
+ghost use Rattle.farm_history.specs.Desk.{IsWellFormedAsk};
+
 use crate::disks::new_desk;
 use crate::drawing::{Draw, drawn, stop};
 use crate::images::{LIMIT, Last, Left, Reopened, check_moment, none_yet};
@@ -54,7 +56,9 @@ fn check_ask<R: Print>(
     run: &mut Run,
     index: u64,
     ask: &Ask,
-) -> Result<(), Fail> {
+) -> Result<(), Fail>
+    requires { IsWellFormedAsk ask.now }
+{
     let at = NOW.saturating_add(index.min(REQUESTS) as i64);
     let caller = (index % 3) as u32;
     let said = run.rules.answer(caller, at, ask)?;
