@@ -1,5 +1,5 @@
-//! Tests of rounding, quantities, manual gauging, factors, the custody calculation, capacity tables and strapped tanks: what no clause
-//! of `farm_rounding`, `farm_fixed`, `farm_readings`, `farm_vcf`, `farm_chain`, `strap_table` and `strap_courses` says.
+//! Tests of rounding, quantities, manual gauging, factors, the custody calculation and capacity tables: what no clause of
+//! `farm_rounding`, `farm_fixed`, `farm_readings`, `farm_vcf`, `farm_chain` and `strap_table` says.
 #![tactic(auto)]
 
 #[cfg(test)]
@@ -20,12 +20,6 @@ mod records;
 mod roofs;
 #[cfg(test)]
 mod rounding;
-#[cfg(test)]
-mod strap_faults;
-#[cfg(test)]
-mod strapped_rows;
-#[cfg(test)]
-mod strapping;
 #[cfg(test)]
 mod ten_figures;
 #[cfg(test)]

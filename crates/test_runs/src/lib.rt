@@ -21,8 +21,6 @@ mod desks;
 #[cfg(test)]
 mod doubt;
 #[cfg(test)]
-mod encoding;
-#[cfg(test)]
 mod limit;
 #[cfg(test)]
 mod lines;

@@ -20,3 +20,5 @@ mod from_bytes;
 mod gauges;
 #[cfg(test)]
 mod parts;
+#[cfg(test)]
+mod row_site;

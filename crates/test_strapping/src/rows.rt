@@ -1,6 +1,6 @@
 //! Rows of strapped tanks of several courses and deadwoods.
 
-use crate::strapping::{FLAT, Figures, Rows, check_rows, tank_of};
+use crate::tanks::{FLAT, Figures, Rows, check_rows, tank_of};
 use farm_rounding::{BadRow, DEADWOOD_PART, Mode, RoundTable, STRAPPED_ROW};
 use std::alloc::Global;
 use std::test::Fail;

@@ -1,6 +1,6 @@
 //! The first fault of a strapping or of its rows.
 
-use crate::strapping::{Figures, rows_of, tank_of};
+use crate::tanks::{Figures, rows_of, tank_of};
 use farm_rounding::RoundTable;
 use std::alloc::Global;
 use std::test::Fail;
