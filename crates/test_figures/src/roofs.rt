@@ -1,5 +1,10 @@
 //! The figures of a reading under a floating roof, and their refusals in order.
 
+ghost use Rattle.std.specs.Prelude.{IfOk, pos};
+ghost use Rattle.farm_fixed.specs.Limits.{most_roof_mass};
+ghost use Rattle.farm_fixed.specs.Range.{IsWithin};
+ghost use Rattle.strap_table.specs.Roofs.{IsFloatingRoof};
+
 use crate::factors::grid_of;
 use crate::ten_figures::{Figure, Figures, check_figures};
 use farm_chain::quantities;
@@ -56,7 +61,11 @@ type Gauged = (i64, i64, i64);
 type Floating = (i64, Option<i64>);
 
 // A roof with its zone from 1,500 to 1,800 mm.
-fn roof_of((mass, reference): Floating) -> Result<Roof, OutOfRange> {
+fn roof_of(floating: Floating) -> Result<Roof, OutOfRange>
+    requires { IsWithin (pos 0) most_roof_mass floating.0 }
+    ensures { IfOk result IsFloatingRoof }
+{
+    let (mass, reference) = floating;
     let reference = match reference {
         None => None,
         Some(density) => Some(Dens::new(density)?),
@@ -80,7 +89,9 @@ fn figures_under(
     floating: Floating,
     temperature: i64,
     (level, water, density): Gauged,
-) -> Result<Result<Quantities, ChainRule>, Fail> {
+) -> Result<Result<Quantities, ChainRule>, Fail>
+    requires { IsWithin (pos 0) most_roof_mass floating.0 }
+{
     let tank = TankSpec {
         shell: Shell {
             insulated: false,
