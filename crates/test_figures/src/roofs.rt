@@ -88,10 +88,11 @@ fn figures_under(
     alloc: Global,
     floating: Floating,
     temperature: i64,
-    (level, water, density): Gauged,
+    gauged: Gauged,
 ) -> Result<Result<Quantities, ChainRule>, Fail>
     requires { IsWithin (pos 0) most_roof_mass floating.0 }
 {
+    let (level, water, density) = gauged;
     let tank = TankSpec {
         shell: Shell {
             insulated: false,
