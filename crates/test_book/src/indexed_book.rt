@@ -99,7 +99,8 @@ impl<const LIMIT: usize> IndexedBook<LIMIT> {
         }
         let past = self.book.past();
         let figured = Figured::of(&past, &entry.cmd);
-        self.indexes.enter(&past, &entry, &figured);
+        let ticket = self.indexes.issued(&past, &entry, &figured);
+        self.indexes.enter(&past, &entry, &figured, &ticket);
         self.book.commit(entry);
         Ok(())
     }

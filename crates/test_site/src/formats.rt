@@ -25,7 +25,7 @@ fn parts_of(said: &Said) -> [&[u8]; 6] {
         bytes_from(1, THIRD_MODE),
         std::slice::from_ref(mode),
         bytes_from(THIRD_MODE + 1, ROOF_END),
-        reference,
+        &reference[..],
         bytes_from(ROOF_END, BYTES.len()),
     ]
 }
