@@ -1,7 +1,7 @@
 //! The bytes of a site in its two formats.
 
 use crate::bytes::BYTES;
-use crate::from_bytes::{BAD, bytes_from, fault_of, joined};
+use crate::from_bytes::{BAD, bytes_from, fault_of};
 use farm_site::Site;
 use site_decoding::{SiteBytesFault, SiteFromBytes};
 use site_encoding::SiteToBytes;
@@ -17,17 +17,34 @@ const ROOF_END: usize = 87;
 // A format, the mode of the third row, and what follows the zone of the roof.
 type Said = (u8, u8, &'static [u8]);
 
-// The bytes of the site, as they say it.
-fn parts_of(said: &Said) -> [&[u8]; 6] {
+// Appends the bytes of the site, as they say it.
+fn push_said(bytes: &mut Vec<u8>, said: Said) -> Result<(), Fail> {
     let (format, mode, reference) = said;
-    [
-        std::slice::from_ref(format),
-        bytes_from(1, THIRD_MODE),
-        std::slice::from_ref(mode),
-        bytes_from(THIRD_MODE + 1, ROOF_END),
-        &reference[..],
-        bytes_from(ROOF_END, BYTES.len()),
-    ]
+    bytes.push(format)?;
+    bytes.extend_from_slice(bytes_from(1, THIRD_MODE))?;
+    bytes.push(mode)?;
+    bytes.extend_from_slice(bytes_from(THIRD_MODE + 1, ROOF_END))?;
+    bytes.extend_from_slice(reference)?;
+    bytes.extend_from_slice(bytes_from(ROOF_END, BYTES.len()))?;
+    Ok(())
+}
+
+// The bytes of the site, as they say it.
+fn bytes_of(alloc: Global, said: Said) -> Result<Vec<u8>, Fail> {
+    let mut bytes = Vec::new(alloc);
+    if let Err(fail) = push_said(&mut bytes, said) {
+        drop(bytes);
+        return Err(fail);
+    }
+    Ok(bytes)
+}
+
+// Why the first bytes of those that say it, this many, are no site's.
+fn fault_of_first(alloc: Global, said: Said, count: usize) -> Result<Option<SiteBytesFault>, Fail> {
+    let bytes = bytes_of(alloc, said)?;
+    let fault = fault_of(alloc, &[bytes.get(..count).unwrap_or(&[])]);
+    drop(bytes);
+    fault
 }
 
 // What bytes say, how many they are, and why they are no site's.
@@ -55,8 +72,8 @@ const FORMATS: [(&str, Said, usize, Option<SiteBytesFault>); 18] = [
 #[test]
 fn a_site_is_read_in_the_format_that_it_needs(rt: HostRuntime) -> Result<(), Fail> {
     let mut checks = Checks::new(&rt);
-    for (name, said, _, want) in FORMATS {
-        let fault = fault_of(rt.alloc(), &parts_of(&said))?;
+    for (name, said, count, want) in FORMATS {
+        let fault = fault_of_first(rt.alloc(), said, count)?;
         checks.same_at(name, fault, want);
     }
     Ok(checks.end()?)
@@ -71,8 +88,8 @@ fn written(alloc: Global, bytes: &[u8]) -> Result<Vec<u8>, Fail> {
 }
 
 // Whether a site is written again as the bytes that say it, of which there are this many.
-fn is_written_again(alloc: Global, said: &Said, count: usize) -> Result<bool, Fail> {
-    let bytes = joined(alloc, &parts_of(said))?;
+fn is_written_again(alloc: Global, said: Said, count: usize) -> Result<bool, Fail> {
+    let bytes = bytes_of(alloc, said)?;
     let again = written(alloc, &bytes)?;
     let same = bytes.len() == count && again.as_slice() == bytes.as_slice();
     drop(again);
@@ -85,26 +102,18 @@ fn a_site_is_written_in_the_format_that_it_needs(rt: HostRuntime) -> Result<(), 
     let mut checks = Checks::new(&rt);
     for (name, said, count, fault) in FORMATS {
         if fault.is_none() {
-            let again = is_written_again(rt.alloc(), &said, count)?;
+            let again = is_written_again(rt.alloc(), said, count)?;
             checks.same_at(name, again, true);
         }
     }
     Ok(checks.end()?)
 }
 
-// Why the first bytes of a site of format 2 with both are no site's.
-fn fault_of_first(alloc: Global, count: usize) -> Result<Option<SiteBytesFault>, Fail> {
-    let bytes = joined(alloc, &parts_of(&(2, 2, &[1, 0x20, 0xd0])))?;
-    let fault = fault_of(alloc, &[bytes.get(..count).unwrap_or(&[])]);
-    drop(bytes);
-    fault
-}
-
 #[test]
 fn bytes_of_format_2_are_not_missing(rt: HostRuntime) -> Result<(), Fail> {
     let mut checks = Checks::new(&rt);
     for count in 0..162 {
-        let fault = fault_of_first(rt.alloc(), count)?;
+        let fault = fault_of_first(rt.alloc(), (2, 2, &[1, 0x20, 0xd0]), count)?;
         checks.same_at(count, fault, BAD);
     }
     Ok(checks.end()?)
