@@ -5,6 +5,7 @@ ghost use Rattle.std.specs.Int.{w16, w32, w64};
 ghost use Rattle.byte_readers.specs.ByteReaders.{Gives, byte_at, number_at, signed_at};
 
 /// A number of 8 bits: a byte.
+#[inline(always)]
 pub fn u8_at<F: Copy>(short: F, bytes: &[u8]) -> Result<(u8, &[u8]), F>
     ensures reads { Gives (λ x. (x.0, x.1.now)) result (byte_at short bytes.now) }
 {
@@ -15,6 +16,7 @@ pub fn u8_at<F: Copy>(short: F, bytes: &[u8]) -> Result<(u8, &[u8]), F>
 }
 
 /// A number of 16 bits.
+#[inline(always)]
 pub fn u16_at<F: Copy>(short: F, bytes: &[u8]) -> Result<(u16, &[u8]), F>
     ensures reads { Gives (λ x. (x.0, x.1.now)) result (number_at short w16 bytes.now) }
 {
@@ -26,6 +28,7 @@ pub fn u16_at<F: Copy>(short: F, bytes: &[u8]) -> Result<(u16, &[u8]), F>
 }
 
 /// A number of 32 bits.
+#[inline(always)]
 pub fn u32_at<F: Copy>(short: F, bytes: &[u8]) -> Result<(u32, &[u8]), F>
     ensures reads { Gives (λ x. (x.0, x.1.now)) result (number_at short w32 bytes.now) }
 {
@@ -38,6 +41,7 @@ pub fn u32_at<F: Copy>(short: F, bytes: &[u8]) -> Result<(u32, &[u8]), F>
 }
 
 /// A number of 64 bits.
+#[inline(always)]
 pub fn u64_at<F: Copy>(short: F, bytes: &[u8]) -> Result<(u64, &[u8]), F>
     ensures reads { Gives (λ x. (x.0, x.1.now)) result (number_at short w64 bytes.now) }
 {
@@ -53,6 +57,7 @@ pub fn u64_at<F: Copy>(short: F, bytes: &[u8]) -> Result<(u64, &[u8]), F>
 
 /// A signed number of 16 bits, in two's complement.
 #[tactic(auto, unfolding(crate::specs::ByteReaders::signed_at))]
+#[inline(always)]
 pub fn i16_at<F: Copy>(short: F, bytes: &[u8]) -> Result<(i16, &[u8]), F>
     ensures reads { Gives (λ x. (x.0, x.1.now)) result (signed_at short w16 bytes.now) }
 {
@@ -62,6 +67,7 @@ pub fn i16_at<F: Copy>(short: F, bytes: &[u8]) -> Result<(i16, &[u8]), F>
 
 /// A signed number of 64 bits, in two's complement.
 #[tactic(auto, unfolding(crate::specs::ByteReaders::signed_at))]
+#[inline(always)]
 pub fn i64_at<F: Copy>(short: F, bytes: &[u8]) -> Result<(i64, &[u8]), F>
     ensures reads { Gives (λ x. (x.0, x.1.now)) result (signed_at short w64 bytes.now) }
 {

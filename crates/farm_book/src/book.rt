@@ -127,6 +127,7 @@ impl<const LIMIT: usize> Book<LIMIT> {
     }
 
     // The ticket that an accepted entry issues, on the figures that it names.
+    #[inline(always)]
     pub(crate) fn issued(&self, entry: &Entry, figured: &Figured) -> Option<Ticket>
         requires next { IsNext LIMIT self.now.history entry.now }
         requires figures { AreFiguresOf self.now.history entry.now.cmd figured.now }

@@ -39,6 +39,7 @@ impl Entry {
 
 // The entry that bytes are, or how many are left from the first bad one on.
 #[tactic(auto, unfolding(crate::specs::Decoding::whole_entry))]
+#[inline(always)]
 fn whole_entry(bytes: &[u8]) -> Result<Entry, usize>
     ensures whole { Gives (λ x. x) result (whole_entry bytes.now) }
 {
@@ -51,6 +52,7 @@ fn whole_entry(bytes: &[u8]) -> Result<Entry, usize>
 
 // An entry.
 #[tactic(auto, unfolding(crate::specs::Decoding::entry_at))]
+#[inline(always)]
 fn entry_at(bytes: &[u8]) -> Result<(Entry, &[u8]), usize>
     ensures entry { Gives (λ x. (x.0, x.1.now)) result (entry_at bytes.now) }
 {
@@ -71,6 +73,7 @@ fn entry_at(bytes: &[u8]) -> Result<(Entry, &[u8]), usize>
 
 // A command: its tag and its fields.
 #[tactic(auto, unfolding(crate::specs::Decoding::command_at, crate::specs::Decoding::fields_at))]
+#[inline(always)]
 fn command_at(bytes: &[u8]) -> Result<(Command, &[u8]), usize>
     ensures command { Gives (λ x. (x.0, x.1.now)) result (command_at bytes.now) }
 {
@@ -91,6 +94,7 @@ fn command_at(bytes: &[u8]) -> Result<(Command, &[u8]), usize>
 
 // The fields of a gauge reading.
 #[tactic(auto, unfolding(crate::specs::Decoding::gauge_at))]
+#[inline(always)]
 fn gauge_at(bytes: &[u8]) -> Result<(Command, &[u8]), usize>
     ensures gauge { Gives (λ x. (x.0, x.1.now)) result (gauge_at bytes.now) }
 {
@@ -111,6 +115,7 @@ fn gauge_at(bytes: &[u8]) -> Result<(Command, &[u8]), usize>
 
 // The fields of a dip.
 #[tactic(auto, unfolding(crate::specs::Decoding::dip_at))]
+#[inline(always)]
 fn dip_at(bytes: &[u8]) -> Result<(Command, &[u8]), usize>
     ensures dip { Gives (λ x. (x.0, x.1.now)) result (dip_at bytes.now) }
 {
@@ -133,6 +138,7 @@ fn dip_at(bytes: &[u8]) -> Result<(Command, &[u8]), usize>
 
 // The fields of a sample.
 #[tactic(auto, unfolding(crate::specs::Decoding::sample_at))]
+#[inline(always)]
 fn sample_at(bytes: &[u8]) -> Result<(Command, &[u8]), usize>
     ensures sample { Gives (λ x. (x.0, x.1.now)) result (sample_at bytes.now) }
 {
@@ -144,6 +150,7 @@ fn sample_at(bytes: &[u8]) -> Result<(Command, &[u8]), usize>
 
 // The plan of an Opening.
 #[tactic(auto, unfolding(crate::specs::Decoding::opening_at))]
+#[inline(always)]
 fn opening_at(bytes: &[u8]) -> Result<(Command, &[u8]), usize>
     ensures opening { Gives (λ x. (x.0, x.1.now)) result (opening_at bytes.now) }
 {
@@ -153,6 +160,7 @@ fn opening_at(bytes: &[u8]) -> Result<(Command, &[u8]), usize>
 
 // The fields of a Closing.
 #[tactic(auto, unfolding(crate::specs::Decoding::closing_at))]
+#[inline(always)]
 fn closing_at(bytes: &[u8]) -> Result<(Command, &[u8]), usize>
     ensures closing { Gives (λ x. (x.0, x.1.now)) result (closing_at bytes.now) }
 {
@@ -169,6 +177,7 @@ fn closing_at(bytes: &[u8]) -> Result<(Command, &[u8]), usize>
 
 // The movement of a Cancel.
 #[tactic(auto, unfolding(crate::specs::Decoding::cancel_at))]
+#[inline(always)]
 fn cancel_at(bytes: &[u8]) -> Result<(Command, &[u8]), usize>
     ensures cancel { Gives (λ x. (x.0, x.1.now)) result (cancel_at bytes.now) }
 {
@@ -178,6 +187,7 @@ fn cancel_at(bytes: &[u8]) -> Result<(Command, &[u8]), usize>
 
 // The fields of a Settle.
 #[tactic(auto, unfolding(crate::specs::Decoding::settle_at))]
+#[inline(always)]
 fn settle_at(bytes: &[u8]) -> Result<(Command, &[u8]), usize>
     ensures settle { Gives (λ x. (x.0, x.1.now)) result (settle_at bytes.now) }
 {
@@ -188,6 +198,7 @@ fn settle_at(bytes: &[u8]) -> Result<(Command, &[u8]), usize>
 
 // The ticket of a Reverse.
 #[tactic(auto, unfolding(crate::specs::Decoding::reverse_at))]
+#[inline(always)]
 fn reverse_at(bytes: &[u8]) -> Result<(Command, &[u8]), usize>
     ensures reverse { Gives (λ x. (x.0, x.1.now)) result (reverse_at bytes.now) }
 {

@@ -47,6 +47,7 @@ impl<'p> Indexed<'p> {
 impl PastFacts for Indexed<'_> {
     ghost history = { λ indexed. indexed };
 
+    #[inline(always)]
     fn past(&self) -> Past<'_> {
         Past {
             site: self.past.site,
@@ -54,15 +55,18 @@ impl PastFacts for Indexed<'_> {
         }
     }
 
+    #[inline(always)]
     fn place_of(&self, account: u32, key: u64) -> Option<u32> {
         self.indexes.keys.place_of(account, key)
     }
 
+    #[inline(always)]
     fn holding_movement(&self, tank: u16) -> Option<u32> {
         self.indexes.states.of_tank(tank).held_by
     }
 
     #[tactic(auto, unfolding(farm_history::specs::Movements::open_movement))]
+    #[inline(always)]
     fn open_movement(&self, place: u32) -> Option<Plan> {
         let plan = self.past.opened_at(place)?;
         let state = self.indexes.states.of_tank(first_tank(&plan));
@@ -72,38 +76,46 @@ impl PastFacts for Indexed<'_> {
         None
     }
 
+    #[inline(always)]
     fn movement_at(&self, place: u32) -> Option<OpenMove> {
         let plan = self.open_movement(place)?;
         self.indexes.moves.of_tank(first_tank(&plan))
     }
 
+    #[inline(always)]
     fn used_reading(&self, tank: u16) -> Option<u32> {
         self.indexes.states.of_tank(tank).used
     }
 
+    #[inline(always)]
     fn last_reading(&self, tank: u16) -> Option<u32> {
         self.indexes.states.of_tank(tank).reading
     }
 
+    #[inline(always)]
     fn last_sample(&self, tank: u16) -> Option<u32> {
         self.indexes.states.of_tank(tank).sample
     }
 
+    #[inline(always)]
     fn last_settlement(&self, tank: u16) -> Option<u32> {
         self.indexes.states.of_tank(tank).settled
     }
 
+    #[inline(always)]
     fn reversal_of(&self, ticket: u32) -> Option<u32> {
         self.indexes.notes.reversal_of(ticket)
     }
 
     #[tactic(auto, unfolding(farm_history::specs::Tickets::ticket_at))]
+    #[inline(always)]
     fn ticket_at(&self, place: u32) -> Option<Ticket> {
         let number = self.indexes.notes.number_at(place)?;
         self.past.ticket_numbered(place, number)
     }
 
     #[tactic(auto, unfolding(farm_history::specs::Tickets::ticket_at, farm_history::specs::Tickets::closing_ticket))]
+    #[inline(always)]
     fn closing_ticket(&self, place: u32) -> Option<Ticket> {
         let entry = self.past.entry_at(place)?;
         match &entry.cmd {
@@ -112,14 +124,17 @@ impl PastFacts for Indexed<'_> {
         }
     }
 
+    #[inline(always)]
     fn gain_at(&self, place: u32) -> Option<Amount> {
         self.indexes.notes.gain_at(place)
     }
 
+    #[inline(always)]
     fn book_of(&self, tank: u16) -> Option<Amount> {
         self.indexes.ledger.book_of(tank)
     }
 
+    #[inline(always)]
     fn total(&self) -> Amount {
         self.indexes.ledger.total()
     }

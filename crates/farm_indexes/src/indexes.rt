@@ -72,6 +72,7 @@ impl Indexes {
 
     /// The ticket that an entry issues which comes next after a past, on the figures that it names. `None` for one that is no Closing and no
     /// Reverse.
+    #[inline(always)]
     pub fn issued(&self, past: &Past<'_>, entry: &Entry, figured: &Figured) -> Option<Ticket>
         requires follows { MayFollow past.now entry.now }
         requires readable { IsReadable past.now }

@@ -20,6 +20,7 @@ use farm_ticket::Ticket;
 use history_lookups::{Ledger, Past, Posted, closed, postings_of_ticket};
 
 /// The ticket, with this number, that an entry issues which comes next. `None` for one that is no Closing and no Reverse.
+#[inline(always)]
 pub(crate) fn issued_on(
     facts: &Indexed<'_>,
     number: u32,
@@ -49,6 +50,7 @@ pub(crate) fn issued_on(
 }
 
 /// What an entry posts which comes next and issues this ticket, if the ledger has the books before it.
+#[inline(always)]
 pub(crate) fn posted_on(
     past: &Past<'_>,
     ledger: &Ledger,
@@ -73,6 +75,7 @@ pub(crate) fn posted_on(
 }
 
 // The ticket, with this number, of what is closed at a place on these figures.
+#[inline(always)]
 fn closed_on(
     place: u32,
     number: u32,
@@ -91,6 +94,7 @@ fn closed_on(
 }
 
 // Whether there are figures of the second side if and only if there is a second side.
+#[inline(always)]
 fn is_of_sides(second: &Option<Leg>, figures: &Option<Quantities>) -> bool
     ensures sides { result ≡ is_of_sides second.now figures.now }
 {

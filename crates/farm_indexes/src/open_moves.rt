@@ -56,6 +56,7 @@ impl OpenMoves {
     }
 
     /// The movement that was opened last on a tank. `None` if none was, and for a tank that the site doesn't have.
+    #[inline(always)]
     pub fn of_tank(&self, tank: u16) -> Option<OpenMove>
         ensures movement { result ≡ move_in tank self.now }
     {
@@ -63,6 +64,7 @@ impl OpenMoves {
     }
 
     /// Takes an entry in that comes next after a past, on the figures that it names. It takes no memory.
+    #[inline(always)]
     pub fn enter(&mut self, past: &Past<'_>, entry: &Entry, figured: &Figured)
         requires follows { MayFollow past.now entry.now }
         requires readable { IsReadable past.now }
@@ -79,6 +81,7 @@ impl OpenMoves {
 }
 
 // Keeps a movement for each tank on which a command opens it.
+#[inline(always)]
 fn keep(moves: &mut [TankMove], command: &Command, movement: &Option<OpenMove>)
     ensures moves { moves.new ≡ map (kept_after command.now movement.now) moves.old }
 {
@@ -107,6 +110,7 @@ fn no_moves(alloc: Global, tanks: &[Tank]) -> Result<Vec<TankMove>, AllocError>
 }
 
 // The movement of the first of these that is of a tank.
+#[inline(always)]
 fn move_in(moves: &[TankMove], tank: u16) -> Option<OpenMove>
     ensures movement { result ≡ move_in tank moves.now }
 {
@@ -119,6 +123,7 @@ fn move_in(moves: &[TankMove], tank: u16) -> Option<OpenMove>
 }
 
 // The movement that a plan opens at a place on these figures. `None` if a figure is missing.
+#[inline(always)]
 fn opened_on(place: u32, plan: &Plan, figured: &Figured) -> Option<OpenMove>
     ensures movement { result ≡ opened_on place plan.now figured.now.first figured.now.second }
 {
@@ -144,6 +149,7 @@ fn opened_on(place: u32, plan: &Plan, figured: &Figured) -> Option<OpenMove>
 }
 
 // A side of a movement at its opening, on these figures.
+#[inline(always)]
 fn leg_on(way: Way, tank: u16, gauged: &Gauged, opening: Quantities) -> Leg
     ensures leg { result ≡ leg_on way tank gauged.now opening }
 {

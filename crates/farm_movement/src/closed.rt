@@ -30,6 +30,7 @@ impl Model for ClosedMove {
 
 impl ClosedMove {
     /// The ticket.
+    #[inline(always)]
     pub fn ticket(&self) -> Ticket
         ensures ticket { result ≡ self.now }
         ensures balanced { IsBalanced result }
@@ -86,6 +87,7 @@ impl OpenMove {
 
 // The side that a leg becomes on these figures.
 #[tactic(auto, unfolding(crate::specs::Closing::side_of, farm_ticket::specs::Amounts::moved))]
+#[inline(always)]
 fn side_of(leg: &Leg, closing: &Quantities) -> Result<Side, WrongWay>
     ensures side { IfOk result (λ side. side ≡ side_of leg.now closing.now) }
     ensures right { IfOk result IsRight }
@@ -103,6 +105,7 @@ fn side_of(leg: &Leg, closing: &Quantities) -> Result<Side, WrongWay>
 
 // The second side, where there is a second leg.
 #[tactic(auto, unfolding(crate::specs::Closing::side_of))]
+#[inline(always)]
 fn second_side(leg: &Option<Leg>, closing: &Option<Quantities>) -> Result<Option<Side>, WrongWay>
     requires sides { IsSome closing.now ↔ IsSome leg.now }
     ensures side { IfOk result (λ side. side ≡ second_side leg.now closing.now) }

@@ -16,6 +16,7 @@ pub struct WrongWay;
 ///
 /// Only the net standard volume decides that a side went the wrong way: the others may have either sign. Takes no memory.
 #[tactic(auto, unfolding(crate::specs::Amounts::differences, crate::specs::Amounts::moved))]
+#[inline(always)]
 pub fn moved(opening: &Quantities, closing: &Quantities, way: Way) -> Result<Moved, WrongWay>
     ensures moved { IfOk result (IsMoved way opening.now closing.now) }
     ensures wrong_way { IsErr result ↔ IsWrongWay way opening.now closing.now }

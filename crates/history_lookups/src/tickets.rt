@@ -225,6 +225,7 @@ impl Past<'_> {
 }
 
 /// The ticket of a movement that is closed at a place, with this number. `None` exactly where a side goes the wrong way.
+#[inline(always)]
 pub fn closed(
     place: u32,
     number: u32,

@@ -13,6 +13,7 @@ use byte_readers::i64_at;
 pub const MISSING: usize = 0;
 
 // A byte that is at most this.
+#[inline(always)]
 fn byte_up_to(most: u8, bytes: &[u8]) -> Result<(u8, &[u8]), usize>
     ensures byte { Gives (λ x. (x.0, x.1.now)) result (byte_at (λ byte. nat_le byte most) bytes.now) }
 {
@@ -25,6 +26,7 @@ fn byte_up_to(most: u8, bytes: &[u8]) -> Result<(u8, &[u8]), usize>
 
 /// Whether a dip is of outages.
 #[tactic(auto, unfolding(crate::specs::Decoding::kind_at))]
+#[inline(always)]
 pub(crate) fn kind_at(bytes: &[u8]) -> Result<(bool, &[u8]), usize>
     ensures kind { Gives (λ x. (x.0, x.1.now)) result (kind_at bytes.now) }
 {
@@ -34,6 +36,7 @@ pub(crate) fn kind_at(bytes: &[u8]) -> Result<(bool, &[u8]), usize>
 
 /// A moment that an entry may have.
 #[tactic(auto, unfolding(crate::specs::Decoding::moment_at))]
+#[inline(always)]
 pub(crate) fn moment_at(bytes: &[u8]) -> Result<(i64, &[u8]), usize>
     ensures moment { Gives (λ x. (x.0, x.1.now)) result (moment_at bytes.now) }
 {
@@ -44,6 +47,7 @@ pub(crate) fn moment_at(bytes: &[u8]) -> Result<(i64, &[u8]), usize>
 }
 
 // How many bytes are left at the first that makes a number greater than the greatest, whatever follows.
+#[inline(always)]
 fn first_above(most: &[u8], bytes: &[u8]) -> Option<usize>
     ensures above { result ≡ first_above most.now bytes.now }
 {
@@ -63,6 +67,7 @@ fn first_above(most: &[u8], bytes: &[u8]) -> Option<usize>
 
 /// A short list.
 #[tactic(auto, unfolding(crate::specs::Decoding::list_at))]
+#[inline(always)]
 pub(crate) fn list_at(bytes: &[u8]) -> Result<(Few, &[u8]), usize>
     ensures list { Gives (λ x. (x.0, x.1.now)) result (list_at bytes.now) }
 {
@@ -72,6 +77,7 @@ pub(crate) fn list_at(bytes: &[u8]) -> Result<(Few, &[u8]), usize>
 }
 
 // This many numbers, and zeros after them.
+#[inline(always)]
 fn values_at(count: u8, bytes: &[u8]) -> Result<([i64; 8], &[u8]), usize>
     requires few { count ≤ MOST_IN_LIST }
     ensures values { Gives (λ x. (x.0, x.1.now)) result (made_at (λ numbers. padded count numbers) (numbers_at count) bytes.now) }

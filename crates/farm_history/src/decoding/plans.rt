@@ -10,6 +10,7 @@ use farm_ticket::Way;
 
 /// A reading and a sample that are named.
 #[tactic(auto, unfolding(crate::specs::Decoding::gauged_at))]
+#[inline(always)]
 pub(crate) fn gauged_at(bytes: &[u8]) -> Result<(Gauged, &[u8]), usize>
     ensures gauged { Gives (λ x. (x.0, x.1.now)) result (gauged_at bytes.now) }
 {
@@ -20,6 +21,7 @@ pub(crate) fn gauged_at(bytes: &[u8]) -> Result<(Gauged, &[u8]), usize>
 
 /// A plan: its way, and its fields.
 #[tactic(auto, unfolding(crate::specs::Decoding::plan_at))]
+#[inline(always)]
 pub(crate) fn plan_at(bytes: &[u8]) -> Result<(Plan, &[u8]), usize>
     ensures plan { Gives (λ x. (x.0, x.1.now)) result (plan_at bytes.now) }
 {
@@ -34,6 +36,7 @@ pub(crate) fn plan_at(bytes: &[u8]) -> Result<(Plan, &[u8]), usize>
 
 // A receipt or a delivery after its way.
 #[tactic(auto, unfolding(crate::specs::Decoding::outside_at))]
+#[inline(always)]
 fn outside_at(way: Way, bytes: &[u8]) -> Result<(Plan, &[u8]), usize>
     ensures outside { Gives (λ x. (x.0, x.1.now)) result (outside_at way bytes.now) }
 {
@@ -51,6 +54,7 @@ fn outside_at(way: Way, bytes: &[u8]) -> Result<(Plan, &[u8]), usize>
 
 // A transfer after its way.
 #[tactic(auto, unfolding(crate::specs::Decoding::transfer_at))]
+#[inline(always)]
 fn transfer_at(bytes: &[u8]) -> Result<(Plan, &[u8]), usize>
     ensures transfer { Gives (λ x. (x.0, x.1.now)) result (transfer_at bytes.now) }
 {
@@ -69,6 +73,7 @@ fn transfer_at(bytes: &[u8]) -> Result<(Plan, &[u8]), usize>
 
 /// What is named for a second tank, after a byte that says whether anything is.
 #[tactic(auto, unfolding(crate::specs::Decoding::second_at))]
+#[inline(always)]
 pub(crate) fn second_at(bytes: &[u8]) -> Result<(Option<Gauged>, &[u8]), usize>
     ensures second { Gives (λ x. (x.0, x.1.now)) result (second_at bytes.now) }
 {
