@@ -90,6 +90,7 @@ impl<const LIMIT: usize> Book<LIMIT> {
     }
 
     /// Makes room for one entry more. It fails only where there was no room and no memory for it.
+    #[inline(always)]
     pub fn reserve(&mut self) -> Result<(), NoMemory>
         ensures room { OnOk result (1 ≤ self.new.spare) }
         ensures history { self.new.history ≡ self.old.history }
@@ -139,6 +140,7 @@ impl<const LIMIT: usize> Book<LIMIT> {
     }
 
     // Takes an accepted entry in at the end that issues this ticket, on the figures that it names.
+    #[inline(always)]
     pub(crate) fn take_in(&mut self, entry: Entry, figured: &Figured, ticket: &Option<Ticket>)
         requires next { IsNext LIMIT self.old.history entry }
         requires room { 1 ≤ self.old.spare }

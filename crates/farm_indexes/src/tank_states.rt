@@ -130,6 +130,7 @@ fn state_in(states: &[TankState], tank: u16) -> TankState
 
 // The state of a tank after an entry that follows a past.
 #[tactic(auto, unfolding(crate::specs::TankStates::state_after))]
+#[inline(always)]
 fn state_after(past: &Past<'_>, entry: &Entry, state: TankState) -> TankState
     requires readable { IsReadable past.now }
     ensures state { result ≡ state_after past.now entry.now state }

@@ -52,6 +52,7 @@ impl OpenMove {
     /// The movement closed at a place on these figures, with a ticket of this number; or the movement as it was, where a side
     /// would have gone the wrong way.
     #[tactic(auto, unfolding(crate::specs::Closing::ticket_of))]
+    #[inline(always)]
     pub fn close(
         self,
         place: u32,

@@ -33,6 +33,7 @@ impl Model for OpenMove {
 
 impl OpenMove {
     /// The movement that was opened at a place, for a party, on these legs.
+    #[inline(always)]
     pub fn new(place: u32, party: u16, first: Leg, second: Option<Leg>) -> OpenMove
         ensures opened { result ≡ record { place = place; party = party; first = first; second = second } }
     {

@@ -31,6 +31,7 @@ pub fn moved(opening: &Quantities, closing: &Quantities, way: Way) -> Result<Mov
 
 // The differences of the figures, in the way of the side.
 #[tactic(auto, unfolding(crate::specs::Amounts::differences))]
+#[inline(always)]
 fn differences(opening: &Quantities, closing: &Quantities, way: Way) -> Moved
     ensures value { result ≡ differences way opening.now closing.now }
     ensures moved { IsMoved way opening.now closing.now result }

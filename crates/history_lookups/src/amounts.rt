@@ -8,6 +8,7 @@ use farm_fixed::{Amount, Quantities};
 use farm_ticket::Moved;
 
 // What moved on a side.
+#[inline(always)]
 pub(crate) fn amount_moved(moved: &Moved) -> Amount
     ensures amount { result ≡ amount_moved moved.now }
 {
@@ -28,6 +29,7 @@ pub(crate) fn amount_held(figures: &Quantities) -> Amount
 }
 
 // The amount of opposite sign.
+#[inline(always)]
 pub(crate) fn opposite(amount: Amount) -> Amount
     requires small { IsAtMost most_posted amount }
     ensures amount { result ≡ opposite amount }

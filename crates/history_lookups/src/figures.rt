@@ -78,6 +78,7 @@ impl Past<'_> {
 
     /// The ten figures of a tank on what is named for it. `None` exactly where they aren't calculated, or are refused.
     #[tactic(auto, unfolding(farm_history::specs::Figures::figures_at))]
+    #[inline(always)]
     pub fn figures_at(&self, pair: &Named) -> Option<Quantities>
         requires readable { IsReadable self.now }
         ensures figures { result ≡ figures_at self.now pair.now }
@@ -91,6 +92,7 @@ impl Past<'_> {
 
     /// What a command names for its tanks.
     #[tactic(auto, unfolding(farm_history::specs::Figures::named_by))]
+    #[inline(always)]
     pub fn named_by(&self, command: &Command) -> Pairs
         ensures named { listed result ≡ named_by self.now command.now }
         ensures in_order { result.first ≡ None → result.second ≡ None }
@@ -121,6 +123,7 @@ impl Past<'_> {
 }
 
 // What a plan names for its tanks.
+#[inline(always)]
 fn named_at_opening(plan: &Plan) -> Pairs
     ensures named { listed result ≡ named_at_opening plan.now }
     ensures in_order { result.first ≡ None → result.second ≡ None }
@@ -143,6 +146,7 @@ fn named_at_opening(plan: &Plan) -> Pairs
 }
 
 // What a Closing names for the tanks of a plan.
+#[inline(always)]
 fn named_at_closing(first: &Gauged, second: &Option<Gauged>, plan: &Plan) -> Pairs
     ensures named { listed result ≡ named_at_closing first.now second.now plan.now }
     ensures in_order { result.first ≡ None → result.second ≡ None }
@@ -164,6 +168,7 @@ fn named_at_closing(first: &Gauged, second: &Option<Gauged>, plan: &Plan) -> Pai
 }
 
 // A tank, with what is named for it.
+#[inline(always)]
 pub(crate) fn named(tank: u16, gauged: &Gauged) -> Named
     ensures named { result ≡ record { tank = tank; gauged = gauged.now } }
 {

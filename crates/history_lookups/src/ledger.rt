@@ -55,6 +55,7 @@ impl Ledger {
     }
 
     /// Adds what an entry posts to the books of its tanks.
+    #[inline(always)]
     pub fn post(&mut self, posted: &Posted)
         requires books { HoldAtMost most_posted self.old }
         requires postings { PostAtMost most_posted (listed_postings posted.now) }
@@ -88,6 +89,7 @@ impl Ledger {
 }
 
 // Adds postings to the books of their tanks.
+#[inline(always)]
 fn post_all(books: &mut [TankBook], posted: &Posted)
     requires books { HoldAtMost most_posted books.old }
     requires postings { PostAtMost most_posted (listed_postings posted.now) }
@@ -109,6 +111,7 @@ fn post_all(books: &mut [TankBook], posted: &Posted)
 }
 
 // Adds a posting to the book of its tank.
+#[inline(always)]
 fn post_one(books: &mut [TankBook], posting: &Posting)
     requires books { HoldAtMost (10 ^ 18) books.old }
     requires posting { IsAtMost most_posted posting.now.amount }

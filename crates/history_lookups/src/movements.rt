@@ -14,6 +14,7 @@ use farm_history::{Command, Entry, Gauged, Plan};
 impl Past<'_> {
     /// The plan of the Opening at a place. `None` exactly where no Opening stands there.
     #[tactic(auto, unfolding(farm_history::specs::Movements::opened_at))]
+    #[inline(always)]
     pub fn opened_at(&self, place: u32) -> Option<Plan>
         ensures opened { result ≡ opened_at self.now place }
     {
@@ -110,6 +111,7 @@ fn latest(before: Option<u32>, here: Option<u32>) -> Option<u32>
 }
 
 // The plan of an Opening.
+#[inline(always)]
 fn plan_of(command: &Command) -> Option<Plan>
     ensures plan { result ≡ plan_of command.now }
 {

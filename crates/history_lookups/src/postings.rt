@@ -40,6 +40,7 @@ impl Past<'_> {
     /// What a command posts after these entries, if the ledger has the books after them. But for a gain each posting is of at most twice
     /// what a tank holds by its figures.
     #[tactic(auto, unfolding(farm_history::specs::Postings::posted_by))]
+    #[inline(always)]
     pub fn posted_by(&self, ledger: &Ledger, command: &Command) -> Posted
         requires readable { IsReadable self.now }
         requires books { AreBooksOf self.now ledger.now }
@@ -57,6 +58,7 @@ impl Past<'_> {
     }
 
     // What a Closing posts after these entries. The place and the number of its ticket don't matter, so no entries are counted for it.
+    #[inline(always)]
     fn posted_by_closing(&self, command: &Command) -> Posted
         requires readable { IsReadable self.now }
         ensures posted { (place : ℕ) → listed_postings result ≡ postings_issued (issued_by_closing self.now place command.now) }
@@ -69,6 +71,7 @@ impl Past<'_> {
     }
 
     // The ticket that a Closing issues after these entries, but for its place and its number.
+    #[inline(always)]
     fn unnumbered_ticket(&self, command: &Command) -> Option<Ticket>
         requires readable { IsReadable self.now }
         ensures ticket { (place : ℕ) → postings_issued result ≡ postings_issued (issued_by_closing self.now place command.now) }
@@ -125,6 +128,7 @@ impl Past<'_> {
 }
 
 /// The postings of a ticket.
+#[inline(always)]
 pub fn postings_of_ticket(ticket: &Ticket) -> Posted
     requires small { IsSmallTicket ticket.now }
     ensures posted { listed_postings result ≡ postings_of_ticket ticket.now }
@@ -175,6 +179,7 @@ fn opposite_posting(posting: &Posting) -> Posting
 }
 
 // The posting of a receipt or a delivery.
+#[inline(always)]
 fn outside_posting(party: u16, side: &Side) -> Posting
     requires small { IsSmallSide side.now }
     ensures posting { result ≡ outside_posting party side.now.tank side.now.way (amount_moved side.now.moved) }
@@ -193,6 +198,7 @@ fn outside_posting(party: u16, side: &Side) -> Posting
 }
 
 // The posting of an amount for which no party is named.
+#[inline(always)]
 fn unnamed(tank: u16, kind: Kind, amount: Amount) -> Posting
     ensures posting { result ≡ unnamed tank kind amount }
 {

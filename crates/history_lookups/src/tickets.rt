@@ -34,6 +34,7 @@ impl Past<'_> {
 
     /// The ticket of the entry at a place, if its number is this: `None` as for `ticket_at`. No entries are counted for it.
     #[tactic(auto, unfolding(farm_history::specs::Tickets::ticket_at))]
+    #[inline(always)]
     pub fn ticket_numbered(&self, place: u32, number: u32) -> Option<Ticket>
         requires readable { IsReadable self.now }
         ensures ticket { number ≡ next_number (before self.now place) → result ≡ ticket_at self.now place }
@@ -47,6 +48,7 @@ impl Past<'_> {
     }
 
     // The ticket that a Closing issues at a place with this number, after these entries. `None` for another command.
+    #[inline(always)]
     fn closing_numbered(&self, place: u32, number: u32, command: &Command) -> Option<Ticket>
         requires readable { IsReadable self.now }
         ensures ticket { result ≡ option_and_then (closed place number) (closed_by self.now command.now) }
@@ -94,6 +96,7 @@ impl Past<'_> {
     }
 
     // The ticket that a Closing issues at a place, after these entries.
+    #[inline(always)]
     fn issued_by_closing(&self, place: u32, command: &Command) -> Option<Ticket>
         requires readable { IsReadable self.now }
         ensures ticket { result ≡ issued_by_closing self.now place command.now }
@@ -105,6 +108,7 @@ impl Past<'_> {
 
     // The movement that a Closing names, and the figures that it closes it on. `None` where one of these isn't there, and for a command
     // that is no Closing.
+    #[inline(always)]
     pub(crate) fn closed_by(&self, command: &Command) -> Option<ToClose>
         requires readable { IsReadable self.now }
         ensures closed_by { result ≡ closed_by self.now command.now }
@@ -137,6 +141,7 @@ impl Past<'_> {
 
     // The movement that a Closing names, and the figures that it closes it on. `None` where one of these isn't there.
     #[tactic(auto, unfolding(farm_history::specs::Tickets::to_close))]
+    #[inline(always)]
     fn to_close(&self, movement: u32, first: &Gauged, second: &Option<Gauged>) -> Option<ToClose>
         requires readable { IsReadable self.now }
         ensures to_close { result ≡ to_close self.now movement first.now second.now }
@@ -151,6 +156,7 @@ impl Past<'_> {
 
     /// The movement that a plan opens at a place. `None` if a figure of its tanks isn't calculated.
     #[tactic(auto, unfolding(farm_history::specs::Tickets::movement_of))]
+    #[inline(always)]
     pub fn movement_of(&self, place: u32, plan: &Plan) -> Option<OpenMove>
         requires readable { IsReadable self.now }
         ensures movement { result ≡ movement_of self.now place plan.now }
@@ -181,6 +187,7 @@ impl Past<'_> {
 
     // A side of a movement at its opening.
     #[tactic(auto, unfolding(farm_history::specs::Tickets::leg_at))]
+    #[inline(always)]
     fn leg_at(&self, way: Way, pair: &Named) -> Option<Leg>
         requires readable { IsReadable self.now }
         ensures leg { result ≡ leg_at self.now way pair.now }
@@ -198,6 +205,7 @@ impl Past<'_> {
 
     // The figures on what a Closing names for the tanks of a plan.
     #[tactic(auto, unfolding(farm_history::specs::Tickets::figures_at_closing))]
+    #[inline(always)]
     fn figures_at_closing(
         &self,
         first: &Gauged,
