@@ -30,3 +30,5 @@ mod model;
 mod recovering;
 #[cfg(test)]
 mod small_site;
+#[cfg(test)]
+mod unfailing;

@@ -1,9 +1,10 @@
 //! The recovery of a desk: a sync and a read, each of which fails once.
 
 use crate::commands::{Asked, Eighth};
-use crate::courses::{EIGHT, Told, bytes_after, told_desk};
+use crate::courses::EIGHT;
 use crate::disks::disk_with;
 use crate::images::{FILLS, Images, LIMIT, Reopened, check_images, image_at, recovered};
+use crate::unfailing::{Told, bytes_after, told_desk};
 use farm_desk::{Desk, RecoverFault};
 use farm_disk::{Disk, MemDisk, Stand};
 use std::alloc::Global;

@@ -9,6 +9,8 @@ mod chain;
 #[cfg(test)]
 mod factors;
 #[cfg(test)]
+mod no_factors;
+#[cfg(test)]
 mod out_of_range;
 #[cfg(test)]
 mod quantities;
