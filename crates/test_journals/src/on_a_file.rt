@@ -47,7 +47,7 @@ fn kept(rt: &HostRuntime, path: &str) -> Result<(Vec<u8>, Vec<u8>), Fail> {
 fn a_journal_is_recovered_from_its_file(rt: HostRuntime) -> Result<(), Fail> {
     let mut checks = Checks::new(&rt);
     let path = "out/journal";
-    fs::create_dir_all(&rt, "out")?;
+    let _ = fs::create_dir(&rt, "out");
     let _ = fs::remove_file(&rt, path);
     let (first, then) = kept(&rt, path)?;
     checks.same_at("a journal on a file", first.as_slice(), ONE);

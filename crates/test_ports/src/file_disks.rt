@@ -14,10 +14,9 @@ fn over<'a>(rt: &'a HostRuntime, path: &str) -> Result<FileDisk<&'a HostRuntime>
 }
 
 // Leaves no file of this name, which lies below `out`.
-fn clear(rt: &HostRuntime, path: &str) -> Result<(), Fail> {
-    fs::create_dir_all(rt, "out")?;
+fn clear(rt: &HostRuntime, path: &str) {
+    let _ = fs::create_dir(rt, "out");
     let _ = fs::remove_file(rt, path);
-    Ok(())
 }
 
 // Calls of a disk over the file at a path, which is dropped after them.
@@ -37,9 +36,9 @@ fn check_over(
 // Calls of a disk over a path that names nothing before and after them.
 fn check_alone(rt: &HostRuntime, path: &str, buffer: &mut [u8], calls: Calls) -> Result<(), Fail> {
     let mut checks = Checks::new(rt);
-    clear(rt, path)?;
+    clear(rt, path);
     check_over(&mut checks, rt, path, buffer, calls)?;
-    clear(rt, path)?;
+    clear(rt, path);
     Ok(checks.end()?)
 }
 
@@ -130,9 +129,9 @@ fn check_steps(
 #[test]
 fn the_first_call_makes_an_empty_file(rt: HostRuntime) -> Result<(), Fail> {
     let mut checks = Checks::new(&rt);
-    clear(&rt, "out/made_by_len")?;
+    clear(&rt, "out/made_by_len");
     check_steps(&mut checks, &rt, "out/made_by_len", FIRST_CALLS)?;
-    clear(&rt, "out/made_by_len")?;
+    clear(&rt, "out/made_by_len");
     Ok(checks.end()?)
 }
 
@@ -153,10 +152,10 @@ const READ_AGAIN: Calls = &[
 #[test]
 fn the_next_disk_reads_what_was_synced(rt: HostRuntime) -> Result<(), Fail> {
     let mut checks = Checks::new(&rt);
-    clear(&rt, "out/kept")?;
+    clear(&rt, "out/kept");
     check_over(&mut checks, &rt, "out/kept", &mut [], WRITTEN_AND_SYNCED)?;
     check_over(&mut checks, &rt, "out/kept", &mut [0; 8], READ_AGAIN)?;
-    clear(&rt, "out/kept")?;
+    clear(&rt, "out/kept");
     Ok(checks.end()?)
 }
 
@@ -233,9 +232,9 @@ fn check_second(
 #[test]
 fn a_second_disk_fails_until_the_first_is_dropped(rt: HostRuntime) -> Result<(), Fail> {
     let mut checks = Checks::new(&rt);
-    clear(&rt, "out/locked")?;
+    clear(&rt, "out/locked");
     check_second(&mut checks, &rt, "out/locked")?;
-    clear(&rt, "out/locked")?;
+    clear(&rt, "out/locked");
     Ok(checks.end()?)
 }
 
@@ -250,7 +249,7 @@ const NO_DISKS: &[&str] = &["out", "/dev/null", "out/no_folder/file", ""];
 #[test]
 fn no_file_but_a_regular_one_is_a_disk(rt: HostRuntime) -> Result<(), Fail> {
     let mut checks = Checks::new(&rt);
-    fs::create_dir_all(&rt, "out")?;
+    let _ = fs::create_dir(&rt, "out");
     for path in NO_DISKS {
         check_over(&mut checks, &rt, path, &mut [], NOT_REGULAR)?;
     }
@@ -264,8 +263,8 @@ fn a_link_is_followed(rt: HostRuntime) -> Result<(), Fail> {
     let mut checks = Checks::new(&rt);
     let link = "out/link";
     let target = "out/linked";
-    clear(&rt, link)?;
-    clear(&rt, target)?;
+    clear(&rt, link);
+    clear(&rt, target);
     symlink(&rt, "linked", link)?;
     check_over(&mut checks, &rt, link, &mut [], THROUGH_A_LINK)?;
     check_named(
@@ -276,7 +275,7 @@ fn a_link_is_followed(rt: HostRuntime) -> Result<(), Fail> {
         Step::Size(3),
     )?;
     check_named(&mut checks, &rt, link, "the link stays", Step::IsLink(true))?;
-    clear(&rt, link)?;
-    clear(&rt, target)?;
+    clear(&rt, link);
+    clear(&rt, target);
     Ok(checks.end()?)
 }
