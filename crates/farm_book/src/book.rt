@@ -6,6 +6,7 @@ ghost use Rattle.farm_stock.specs.Postings.{amount_of, at_tank};
 ghost use Rattle.farm_book.specs.Kept.{IsSound};
 ghost use Rattle.farm_book.specs.Replies.{IsGainReply, IsTicketReply, IssuesAt, SettlesAt};
 ghost use Rattle.farm_indexes.specs.Figured.{AreFiguresOf};
+ghost use Rattle.farm_indexes.specs.Issuing.{IsPostedBy};
 ghost use Rattle.history_lookups.specs.Bounds.{IsSmallTicket};
 ghost use Rattle.history_lookups.specs.Pasts.{IsReadable};
 ghost use Rattle.farm_history.specs.Commands.{is_settle, issues_ticket};
@@ -29,7 +30,7 @@ use farm_history::{Entry, Reply, Verdict, history_laws};
 use farm_indexes::{Figured, Indexed, Indexes, PastFacts};
 use farm_site::Site;
 use farm_ticket::Ticket;
-use history_lookups::Past;
+use history_lookups::{Past, Posted};
 use std::alloc::Global;
 use std::marker::Model;
 
@@ -123,7 +124,8 @@ impl<const LIMIT: usize> Book<LIMIT> {
     {
         let figured = Figured::of(&self.past(), &entry.cmd);
         let ticket = self.issued(&entry, &figured);
-        self.take_in(entry, &figured, &ticket);
+        let posted = self.indexes.posted_on(&self.past(), &entry, &ticket);
+        self.take_in(entry, &figured, &posted);
         self.reply_with(self.entries.len() as u32, ticket)
     }
 
@@ -139,14 +141,23 @@ impl<const LIMIT: usize> Book<LIMIT> {
         self.indexes.issued(&self.past(), entry, figured)
     }
 
-    // Takes an accepted entry in at the end that issues this ticket, on the figures that it names.
+    // What an accepted entry posts, on the figures that it names.
     #[inline(always)]
-    pub(crate) fn take_in(&mut self, entry: Entry, figured: &Figured, ticket: &Option<Ticket>)
+    pub(crate) fn posted(&self, entry: &Entry, figured: &Figured) -> Posted
+        requires next { IsNext LIMIT self.now.history entry.now }
+        requires figures { AreFiguresOf self.now.history entry.now.cmd figured.now }
+        ensures posted { IsPostedBy self.now.history entry.now.cmd result }
+    {
+        self.indexes.posted(&self.past(), entry, figured)
+    }
+
+    // Takes an accepted entry in at the end that posts this, on the figures that it names.
+    #[inline(always)]
+    pub(crate) fn take_in(&mut self, entry: Entry, figured: &Figured, posted: &Posted)
         requires next { IsNext LIMIT self.old.history entry }
         requires room { 1 ≤ self.old.spare }
         requires figures { AreFiguresOf self.old.history entry.cmd figured.now }
-        requires ticket { ticket.now ≡ issued_by self.old.history (last_place self.old.history + 1) entry.cmd }
-        requires small { IsTrue (is_closing entry.cmd) → IfSome ticket.now IsSmallTicket }
+        requires posted { IsPostedBy self.old.history entry.cmd posted.now }
         ensures entered { self.new.history ≡ with_entry self.old.history entry }
         ensures sound { IsSound LIMIT self.new.history }
         ensures rising { AreRising self.old.history.site }
@@ -156,7 +167,7 @@ impl<const LIMIT: usize> Book<LIMIT> {
             site: &self.site,
             entries: &self.entries,
         };
-        self.indexes.enter(&past, &entry, figured, ticket);
+        self.indexes.enter(&past, &entry, figured, posted);
         self.entries.push_reserved(entry);
         self.room -= 1;
     }

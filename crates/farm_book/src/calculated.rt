@@ -11,8 +11,8 @@ ghost use Rattle.history_lookups.specs.Pasts.{IsReadable};
 
 use farm_fixed::{ChainRule, Quantities};
 use farm_history::{Command, Named};
-use farm_indexes::Figured;
-use history_lookups::{Pairs, Past};
+use farm_indexes::{Figured, PastFacts};
+use history_lookups::Pairs;
 
 /// The calculation on what is named for a tank: its figures, or why it is refused. `None` if nothing is named for it, or what is named
 /// isn't recorded.
@@ -31,15 +31,15 @@ pub(crate) struct Calculated {
 
 impl Calculated {
     /// What a command names that comes next after a past, and the calculation on each.
-    pub fn of(past: &Past<'_>, command: &Command) -> Calculated
-        requires readable { IsReadable past.now }
-        ensures calculated { AreCalculatedOn past.now command.now result }
+    pub fn of<F: PastFacts>(facts: &F, command: &Command) -> Calculated
+        requires readable { IsReadable (F.history facts.now) }
+        ensures calculated { AreCalculatedOn (F.history facts.now) command.now result }
     {
-        let pairs = past.named_by(command);
+        let pairs = facts.past().named_by(command);
         Calculated {
             pairs,
-            first: calculation_on(past, &pairs.first),
-            second: calculation_on(past, &pairs.second),
+            first: calculation_on(facts, &pairs.first),
+            second: calculation_on(facts, &pairs.second),
         }
     }
 
@@ -56,14 +56,14 @@ impl Calculated {
 }
 
 // The calculation on what is named for a tank.
-fn calculation_on(past: &Past<'_>, pair: &Option<Named>) -> Calculation
-    requires readable { IsReadable past.now }
-    ensures calculated { result ≡ option_and_then (calculated_at past.now) pair.now }
+fn calculation_on<F: PastFacts>(facts: &F, pair: &Option<Named>) -> Calculation
+    requires readable { IsReadable (F.history facts.now) }
+    ensures calculated { result ≡ option_and_then (calculated_at (F.history facts.now)) pair.now }
     ensures range { IfSome result (λ calculated. IfOk calculated AreInRange) }
-    ensures refused { (test : ChainRule → Bool) → is_refused_with test result ≡ list_any (λ pair. is_refused_with test (calculated_at past.now pair)) (listed_one pair.now) }
+    ensures refused { (test : ChainRule → Bool) → is_refused_with test result ≡ list_any (λ pair. is_refused_with test (calculated_at (F.history facts.now) pair)) (listed_one pair.now) }
 {
     match pair {
-        Some(pair) => past.calculated_at(pair),
+        Some(pair) => facts.calculated_at(pair),
         None => None,
     }
 }

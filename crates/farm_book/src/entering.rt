@@ -13,7 +13,6 @@ use crate::judging::judged;
 use farm_base::NoMemory;
 use farm_history::Entry;
 use farm_indexes::Figured;
-use history_lookups::issues_ticket;
 use thiserror::Error;
 
 /// Why bytes weren't entered.
@@ -62,8 +61,7 @@ impl<const LIMIT: usize> Book<LIMIT> {
         }
     }
 
-    // Takes an accepted entry in at the end, on the figures that it names. Room for a ticket is cleared only for one that issues a ticket.
-    #[tactic(auto, unfolding(farm_history::specs::Tickets::issued_by))]
+    // Takes an accepted entry in at the end, on the figures that it names.
     #[inline(always)]
     fn take_accepted(&mut self, entry: Entry, figured: &Figured)
         requires next { IsNext LIMIT self.old.history entry }
@@ -74,24 +72,7 @@ impl<const LIMIT: usize> Book<LIMIT> {
         ensures rising { AreRising self.old.history.site }
         ensures spare { self.new.spare + 1 ≡ self.old.spare }
     {
-        if issues_ticket(&entry.cmd) {
-            self.take_issuing(entry, figured);
-        } else {
-            self.take_in(entry, figured, &None);
-        }
-    }
-
-    // Takes an accepted entry in at the end, and the ticket that it issues.
-    fn take_issuing(&mut self, entry: Entry, figured: &Figured)
-        requires next { IsNext LIMIT self.old.history entry }
-        requires room { 1 ≤ self.old.spare }
-        requires figures { AreFiguresOf self.old.history entry.cmd figured.now }
-        ensures entered { self.new.history ≡ with_entry self.old.history entry }
-        ensures sound { IsSound LIMIT self.new.history }
-        ensures rising { AreRising self.old.history.site }
-        ensures spare { self.new.spare + 1 ≡ self.old.spare }
-    {
-        let ticket = self.issued(&entry, figured);
-        self.take_in(entry, figured, &ticket);
+        let posted = self.posted(&entry, figured);
+        self.take_in(entry, figured, &posted);
     }
 }

@@ -44,7 +44,7 @@ pub(crate) fn judged<F: PastFacts>(
     if is_full(limit, past.entries.len(), entry.cmd.is_stop()) {
         return Err(Verdict::Refused(Rule::HistoryFull));
     }
-    let calculated = Calculated::of(&past, &entry.cmd);
+    let calculated = Calculated::of(facts, &entry.cmd);
     match judge_command(facts, &entry.cmd, &calculated) {
         Ok(()) => Ok(calculated.figured()),
         Err(rule) => Err(Verdict::Refused(rule)),

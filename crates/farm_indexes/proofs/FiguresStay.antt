@@ -13,7 +13,6 @@ use Rattle.farm_ticket.specs.declared.side.Way.{Way}
 use Rattle.farm_ticket.specs.declared.side.Way.TheVariants.{Inward, Outward}
 use Rattle.farm_history.specs.declared.command.Command.TheVariants.{Opening}
 use Rattle.farm_history.specs.declared.entry.Entry.{Entry}
-use Rattle.farm_history.specs.declared.plan.Gauged.{Gauged}
 use Rattle.farm_history.specs.declared.plan.Named.{Named}
 use Rattle.farm_history.specs.declared.plan.Plan.{Plan}
 use Rattle.farm_history.specs.declared.plan.Plan.TheVariants.{Outside, Transfer}
@@ -25,16 +24,12 @@ use Rattle.farm_history.specs.History.{History, entry_at, followed_by, last_plac
 use Rattle.farm_history.specs.Movements.{opened_at}
 use Rattle.farm_history.specs.Tickets.{leg_at, movement_of}
 use Rattle.farm_history.specs.Verdicts.{IsLegal, verdict}
+use Rattle.farm_indexes.specs.LastFigures.{IsRecorded}
 use Rattle.farm_history.proofs.Accepted.{IsSound, kept}
 use Rattle.farm_history.proofs.At.{between_of}
 use Rattle.farm_history.proofs.FiguresStand.{there_of, within_of}
 use Rattle.farm_history.proofs.OpenMovements.{opens_at}
 use Rattle.farm_history.proofs.Stays.{before_stays, entry_stays}
-
--- the reading and the sample that are named stand at places of a history
-record IsRecorded (history : History) (gauged : Gauged) : Type 0 where
-  reading : gauged.reading ≤ last_place history
-  sample : gauged.sample ≤ last_place history
 
 -- so do all that a plan names
 abbrev IsPlanRecorded : History → Plan → Type 0
@@ -59,7 +54,7 @@ sample_stays history more place within =
     ap (option_and_then of_entry) (entry_stays history more place within)
 
 -- so do the figures on them
-figures_stay : (history : History) (more : List Entry) (pair : Named) → IsRecorded history pair.gauged →
+pub figures_stay : (history : History) (more : List Entry) (pair : Named) → IsRecorded history pair.gauged →
     figures_at (followed_by history more) pair ≡ figures_at history pair
 unfolding figures_at calculated_at tank_after
 figures_stay history more pair recorded =
@@ -96,7 +91,7 @@ plan_stays history more place (Transfer from to from_gauged to_gauged) recorded 
     ap₂ made (leg_stays history more Outward (named from from_gauged) recorded.0) (leg_stays history more Inward (named to to_gauged) recorded.1)
 
 -- what is named soundly is recorded
-sound_recorded : (history : History) (pair : Named) → IsSound history pair → IsRecorded history pair.gauged
+pub sound_recorded : (history : History) (pair : Named) → IsSound history pair → IsRecorded history pair.gauged
 sound_recorded history pair sound =
     let read = there_of (is_gauging_of pair.tank) (entry_at history pair.gauged.reading) sound.reading in
     let sampled = there_of (is_sample_of pair.tank) (entry_at history pair.gauged.sample) sound.sample in

@@ -1,5 +1,6 @@
 -- The lemmas of `farm_indexes`, by topic.
 pub mod Books
+pub mod FiguresKept
 pub mod FiguresStay
 pub mod FirstPlaces
 pub mod Held

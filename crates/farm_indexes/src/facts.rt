@@ -1,7 +1,9 @@
 //! What the rules and look-ups ask of a history.
 
-ghost use Rattle.std.specs.Prelude.{◌≡◌, IfSome};
+ghost use Rattle.std.specs.Prelude.{◌≡◌, IfOk, IfSome};
+ghost use Rattle.farm_chain.specs.Volumes.{AreInRange};
 ghost use Rattle.farm_history.specs.Conservation.{IsBoundedBook};
+ghost use Rattle.farm_history.specs.Figures.{calculated_at};
 ghost use Rattle.farm_history.specs.History.{History, last_place};
 ghost use Rattle.farm_history.specs.Movements.{holding_movement, last_settlement, open_movement, reversal_of, used_reading};
 ghost use Rattle.farm_history.specs.Places.{first_place};
@@ -12,8 +14,8 @@ ghost use Rattle.farm_indexes.specs.OpenMoves.{movement_at};
 ghost use Rattle.history_lookups.specs.Bounds.{IsOpenedInRange};
 ghost use Rattle.history_lookups.specs.Pasts.{IsReadable};
 
-use farm_fixed::Amount;
-use farm_history::Plan;
+use farm_fixed::{Amount, ChainRule, Quantities};
+use farm_history::{Named, Plan};
 use farm_movement::OpenMove;
 use farm_ticket::Ticket;
 use history_lookups::Past;
@@ -48,6 +50,12 @@ pub trait PastFacts {
         requires readable { IsReadable (Self.history self.now) }
         ensures movement { result ≡ movement_at (Self.history self.now) place }
         ensures range { IfSome result IsOpenedInRange };
+
+    /// The custody calculation of a tank on the reading and the sample that are named for it. `None` as for `Past::calculated_at`.
+    fn calculated_at(&self, pair: &Named) -> Option<Result<Quantities, ChainRule>>
+        requires readable { IsReadable (Self.history self.now) }
+        ensures calculated { result ≡ calculated_at (Self.history self.now) pair.now }
+        ensures range { IfSome result (λ calculated. IfOk calculated AreInRange) };
 
     /// The place of the reading that the last Closing or Settle of a tank used for it. `None` if and only if there is no such entry.
     fn used_reading(&self, tank: u16) -> Option<u32>

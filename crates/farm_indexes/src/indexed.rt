@@ -7,8 +7,8 @@ ghost use Rattle.farm_indexes.specs.Indexing.{AreIndexesOf};
 
 use crate::PastFacts;
 use crate::indexes::Indexes;
-use farm_fixed::Amount;
-use farm_history::{Command, Plan};
+use farm_fixed::{Amount, ChainRule, Quantities};
+use farm_history::{Command, Named, Plan};
 use farm_movement::OpenMove;
 use farm_ticket::Ticket;
 use history_lookups::Past;
@@ -80,6 +80,14 @@ impl PastFacts for Indexed<'_> {
     fn movement_at(&self, place: u32) -> Option<OpenMove> {
         let plan = self.open_movement(place)?;
         self.indexes.moves.of_tank(first_tank(&plan))
+    }
+
+    #[inline(always)]
+    fn calculated_at(&self, pair: &Named) -> Option<Result<Quantities, ChainRule>> {
+        match self.indexes.figures.on(pair) {
+            Some(figures) => Some(Ok(figures)),
+            None => self.past.calculated_at(pair),
+        }
     }
 
     #[inline(always)]

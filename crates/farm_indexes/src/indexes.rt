@@ -7,20 +7,22 @@ ghost use Rattle.farm_history.specs.Tickets.{issued_by, ticket_at};
 ghost use Rattle.farm_indexes.specs.Figured.{AreFiguresOf};
 ghost use Rattle.farm_indexes.specs.Following.{MayFollow};
 ghost use Rattle.farm_indexes.specs.Indexing.{AreIndexesOf, room};
+ghost use Rattle.farm_indexes.specs.Issuing.{IsPostedBy};
 ghost use Rattle.farm_site.specs.Sites.{described};
 ghost use Rattle.history_lookups.specs.Bounds.{IsSmallTicket};
 ghost use Rattle.history_lookups.specs.Pasts.{IsReadable};
 
 use crate::issuing::{issued_on, posted_on};
+use crate::last_figures::LastFigures;
 use crate::notes::Notes;
 use crate::open_moves::OpenMoves;
 use crate::tank_states::TankStates;
 use crate::{Figured, Indexed, PastFacts};
 use farm_base::NoMemory;
-use farm_history::Entry;
+use farm_history::{Command, Entry};
 use farm_site::Site;
 use farm_ticket::Ticket;
-use history_lookups::{Ledger, Past};
+use history_lookups::{Ledger, Past, Posted};
 use key_index::KeyIndex;
 use std::alloc::Global;
 
@@ -37,6 +39,8 @@ pub struct Indexes {
     pub(crate) states: TankStates,
     // The movement that was opened last on each tank.
     pub(crate) moves: OpenMoves,
+    // The figures that were calculated last on each tank.
+    pub(crate) figures: LastFigures,
     // The book of each tank.
     pub(crate) ledger: Ledger,
 }
@@ -48,11 +52,13 @@ impl Indexes {
     {
         let states = TankStates::new(alloc, site)?;
         let moves = OpenMoves::new(alloc, site)?;
+        let figures = LastFigures::new(alloc, site)?;
         Ok(Indexes {
             keys: KeyIndex::new(alloc),
             notes: Notes::new(alloc),
             states,
             moves,
+            figures,
             ledger: Ledger::opened(site.tanks.get()),
         })
     }
@@ -86,32 +92,51 @@ impl Indexes {
         issued_on(&facts, self.notes.next_number(), entry, figured)
     }
 
-    /// Takes an entry in that comes next after a past and issues this ticket, on the figures that it names. It can't fail, and takes no
-    /// memory.
-    #[tactic(auto, unfolding(crate::specs::Indexing::room))]
-    pub fn enter(
-        &mut self,
-        past: &Past<'_>,
-        entry: &Entry,
-        figured: &Figured,
-        ticket: &Option<Ticket>,
-    )
+    /// What an entry posts that comes next after a past, on the figures that it names.
+    #[inline(always)]
+    pub fn posted(&self, past: &Past<'_>, entry: &Entry, figured: &Figured) -> Posted
         requires follows { MayFollow past.now entry.now }
         requires readable { IsReadable past.now }
         requires figures { AreFiguresOf past.now entry.now.cmd figured.now }
+        requires indexes { AreIndexesOf past.now self.now }
+        ensures posted { IsPostedBy past.now entry.now.cmd result }
+    {
+        if let Command::Closing { .. } = &entry.cmd {
+            return self.posted_on(past, entry, &self.issued(past, entry, figured));
+        }
+        past.posted_by(&self.ledger, &entry.cmd)
+    }
+
+    /// What an entry posts that comes next after a past and issues this ticket.
+    #[inline(always)]
+    pub fn posted_on(&self, past: &Past<'_>, entry: &Entry, ticket: &Option<Ticket>) -> Posted
+        requires readable { IsReadable past.now }
         requires ticket { ticket.now ≡ issued_by past.now (last_place past.now + 1) entry.now.cmd }
         requires small { IsTrue (is_closing entry.now.cmd) → IfSome ticket.now IsSmallTicket }
+        requires indexes { AreIndexesOf past.now self.now }
+        ensures posted { IsPostedBy past.now entry.now.cmd result }
+    {
+        posted_on(past, &self.ledger, entry, ticket)
+    }
+
+    /// Takes an entry in that comes next after a past and posts this, on the figures that it names. It can't fail, and takes no memory.
+    #[tactic(auto, unfolding(crate::specs::Indexing::room))]
+    pub fn enter(&mut self, past: &Past<'_>, entry: &Entry, figured: &Figured, posted: &Posted)
+        requires follows { MayFollow past.now entry.now }
+        requires readable { IsReadable past.now }
+        requires figures { AreFiguresOf past.now entry.now.cmd figured.now }
+        requires posted { IsPostedBy past.now entry.now.cmd posted.now }
         requires indexes { AreIndexesOf past.now self.old }
         requires room { 1 ≤ room self.old }
         ensures indexes { AreIndexesOf (with_entry past.now entry.now) self.new }
         ensures room { room self.old ≤ room self.new + 1 }
     {
         let place = past.entries.len() as u32 + 1;
-        let posted = posted_on(past, &self.ledger, entry, ticket);
         self.keys.enter(entry.account, entry.key, place);
-        self.notes.enter(past, entry, &posted);
+        self.notes.enter(past, entry, posted);
         self.states.enter(past, entry);
         self.moves.enter(past, entry, figured);
-        self.ledger.post(&posted);
+        self.figures.enter(past, entry, figured);
+        self.ledger.post(posted);
     }
 }

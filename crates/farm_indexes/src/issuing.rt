@@ -75,7 +75,7 @@ pub(crate) fn posted_on(
 }
 
 // The ticket, with this number, of what is closed at a place on these figures.
-#[inline(never)]
+#[inline(always)]
 fn closed_on(
     place: u32,
     number: u32,

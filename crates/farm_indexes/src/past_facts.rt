@@ -3,8 +3,8 @@
 ghost use Rattle.std.specs.Prelude.{◌≡◌};
 
 use crate::PastFacts;
-use farm_fixed::Amount;
-use farm_history::Plan;
+use farm_fixed::{Amount, ChainRule, Quantities};
+use farm_history::{Named, Plan};
 use farm_movement::OpenMove;
 use farm_ticket::Ticket;
 use history_lookups::Past;
@@ -39,6 +39,10 @@ impl PastFacts for Past<'_> {
     fn movement_at(&self, place: u32) -> Option<OpenMove> {
         let plan = self.open_movement(place)?;
         self.movement_of(place, &plan)
+    }
+
+    fn calculated_at(&self, pair: &Named) -> Option<Result<Quantities, ChainRule>> {
+        self.calculated_at(pair)
     }
 
     fn used_reading(&self, tank: u16) -> Option<u32> {

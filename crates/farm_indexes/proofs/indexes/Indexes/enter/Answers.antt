@@ -1,9 +1,9 @@
 -- Answers to the open goals of `enter`.
-use Rattle.std.proofs.Common.{◌≡◌, ◌+◌, ℕ, length, Some, if◌then◌else◌, ap, subst}
+use Rattle.std.proofs.Common.{◌≡◌, ◌+◌, ℕ, length, Some, if◌then◌else◌, ap, sym, subst}
 use Rattle.key_index.specs.Keys.{is_under, place_under}
-use Rattle.farm_history.specs.History.{History}
+use Rattle.farm_history.specs.History.{History, last_place}
 use Rattle.farm_history.proofs.Repeats.{new_key}
-use Rattle.history_lookups.specs.Ledgers.{listed_postings}
+use Rattle.history_lookups.specs.Ledgers.{AreBounded, books_after, listed_postings}
 use Rattle.farm_indexes.proofs.Books.{books_more}
 use Rattle.farm_indexes.proofs.Keys.{more_indexed}
 use Rattle.farm_indexes.proofs.indexes.Indexes.enter.Goals as goal
@@ -25,7 +25,10 @@ returns-clause-indexes c =
       notes = c.enter-2.ensures.notes;
       states = c.enter-3.ensures.states;
       moves = c.enter-4.ensures.moves;
+      figures = c.enter-5.ensures.last;
       books =
-          books_more history entry old.ledger c.post.new.self (listed_postings c.posted_on-posted.result) c.requires.indexes.books
-          c.posted_on-posted.ensures.posted c.post.ensures.posted c.posted_on-posted.ensures.bounded;
+          books_more history entry old.ledger c.post.new.self (listed_postings c.args.posted.now) c.requires.indexes.books
+          c.requires.posted.listed c.post.ensures.posted
+          (subst (λ books. AreBounded (last_place history + 1) (books_after (listed_postings c.args.posted.now) books))
+          (sym c.requires.indexes.books.of_tanks) c.requires.posted.bounded);
     }

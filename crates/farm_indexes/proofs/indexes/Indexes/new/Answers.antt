@@ -14,10 +14,11 @@ returns c =
     let opened = c.opened.ensures.opened ∙ ap (λ (tanks : List Tank). books_with tanks []) c.get.ensures.items in
     record {
       indexes = record {
-        keys = record { places = c.new-3.ensures.empty };
-        notes = c.new-4.ensures.notes (described site);
+        keys = record { places = c.new-4.ensures.empty };
+        notes = c.new-5.ensures.notes (described site);
         states = c.in_ok-states.ensures.states;
         moves = c.in_ok-moves.ensures.moves;
+        figures = c.in_ok-figures.ensures.figures;
         books = subst (λ (books : List TankBook). AreBooksTo (history_of site []) 0 books) (sym opened) (books_at_start site []);
       };
     }
