@@ -124,14 +124,14 @@ impl<const LIMIT: usize> Book<LIMIT> {
     {
         let figured = Figured::of(&self.past(), &entry.cmd);
         let ticket = self.issued(&entry, &figured);
-        let posted = self.indexes.posted_on(&self.past(), &entry, &ticket);
+        let posted = self.posted_on(&entry, &ticket);
         self.take_in(entry, &figured, &posted);
         self.reply_with(self.entries.len() as u32, ticket)
     }
 
     // The ticket that an accepted entry issues, on the figures that it names.
     #[inline(always)]
-    pub(crate) fn issued(&self, entry: &Entry, figured: &Figured) -> Option<Ticket>
+    fn issued(&self, entry: &Entry, figured: &Figured) -> Option<Ticket>
         requires next { IsNext LIMIT self.now.history entry.now }
         requires figures { AreFiguresOf self.now.history entry.now.cmd figured.now }
         ensures ticket { result ≡ issued_by self.now.history (last_place self.now.history + 1) entry.now.cmd }
@@ -139,6 +139,16 @@ impl<const LIMIT: usize> Book<LIMIT> {
         ensures small { IsTrue (is_closing entry.now.cmd) → IfSome result IsSmallTicket }
     {
         self.indexes.issued(&self.past(), entry, figured)
+    }
+
+    // What an accepted entry posts that issues this ticket.
+    #[inline(always)]
+    fn posted_on(&self, entry: &Entry, ticket: &Option<Ticket>) -> Posted
+        requires ticket { ticket.now ≡ issued_by self.now.history (last_place self.now.history + 1) entry.now.cmd }
+        requires small { IsTrue (is_closing entry.now.cmd) → IfSome ticket.now IsSmallTicket }
+        ensures posted { IsPostedBy self.now.history entry.now.cmd result }
+    {
+        self.indexes.posted_on(&self.past(), entry, ticket)
     }
 
     // What an accepted entry posts, on the figures that it names.

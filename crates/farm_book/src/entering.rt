@@ -1,18 +1,12 @@
 //! Entering an entry from its bytes, as a journal is recovered.
 
-ghost use Rattle.std.specs.Prelude.{◌≡◌, ◌+◌, ◌≤◌, Err, OnErr, OnOk};
+ghost use Rattle.std.specs.Prelude.{◌≡◌, Err, OnErr, OnOk};
 ghost use Rattle.farm_book.specs.Entering.{Enters, IsNextEncoding};
-ghost use Rattle.farm_book.specs.Kept.{IsSound};
-ghost use Rattle.farm_history.specs.History.{with_entry};
-ghost use Rattle.farm_history.specs.Sites.{AreRising};
-ghost use Rattle.farm_history.specs.Verdicts.{IsNext};
-ghost use Rattle.farm_indexes.specs.Figured.{AreFiguresOf};
 
 use crate::Book;
 use crate::judging::judged;
 use farm_base::NoMemory;
 use farm_history::Entry;
-use farm_indexes::Figured;
 use thiserror::Error;
 
 /// Why bytes weren't entered.
@@ -54,25 +48,11 @@ impl<const LIMIT: usize> Book<LIMIT> {
         match judged(LIMIT, &self.facts(), &entry) {
             Ok(figured) => {
                 self.reserve()?;
-                self.take_accepted(entry, &figured);
+                let posted = self.posted(&entry, &figured);
+                self.take_in(entry, &figured, &posted);
                 Ok(())
             }
             Err(_) => Err(EnterFault::NotNext),
         }
-    }
-
-    // Takes an accepted entry in at the end, on the figures that it names.
-    #[inline(always)]
-    fn take_accepted(&mut self, entry: Entry, figured: &Figured)
-        requires next { IsNext LIMIT self.old.history entry }
-        requires room { 1 ≤ self.old.spare }
-        requires figures { AreFiguresOf self.old.history entry.cmd figured.now }
-        ensures entered { self.new.history ≡ with_entry self.old.history entry }
-        ensures sound { IsSound LIMIT self.new.history }
-        ensures rising { AreRising self.old.history.site }
-        ensures spare { self.new.spare + 1 ≡ self.old.spare }
-    {
-        let posted = self.posted(&entry, figured);
-        self.take_in(entry, figured, &posted);
     }
 }

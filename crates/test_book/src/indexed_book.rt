@@ -99,8 +99,8 @@ impl<const LIMIT: usize> IndexedBook<LIMIT> {
         }
         let past = self.book.past();
         let figured = Figured::of(&past, &entry.cmd);
-        let ticket = self.indexes.issued(&past, &entry, &figured);
-        self.indexes.enter(&past, &entry, &figured, &ticket);
+        let posted = self.indexes.posted(&past, &entry, &figured);
+        self.indexes.enter(&past, &entry, &figured, &posted);
         self.book.commit(entry);
         Ok(())
     }

@@ -2,7 +2,7 @@
 
 ghost use Rattle.history_lookups.specs.Pasts.{IsReadable};
 
-use farm_history::Entry;
+use farm_history::{Entry, Named};
 use farm_indexes::PastFacts;
 
 // The tanks of the row site, and one that it doesn't have.
@@ -42,6 +42,26 @@ fn is_same_of_key<F: PastFacts, G: PastFacts>(facts: &F, others: &G, account: u3
     facts.place_of(account, key) == others.place_of(account, key)
 }
 
+// Whether they give the same calculation on what an entry names.
+fn is_same_of_named<F: PastFacts, G: PastFacts>(facts: &F, others: &G, entry: &Entry) -> bool
+    requires readable { IsReadable (F.history facts.now) }
+    requires others { IsReadable (G.history others.now) }
+{
+    let pairs = facts.past().named_by(&entry.cmd);
+    is_same_on(facts, others, &pairs.first) && is_same_on(facts, others, &pairs.second)
+}
+
+// Whether they give the same calculation on what is named for a tank, if something is.
+fn is_same_on<F: PastFacts, G: PastFacts>(facts: &F, others: &G, pair: &Option<Named>) -> bool
+    requires readable { IsReadable (F.history facts.now) }
+    requires others { IsReadable (G.history others.now) }
+{
+    match pair {
+        Some(pair) => facts.calculated_at(pair) == others.calculated_at(pair),
+        None => true,
+    }
+}
+
 // Of how many tanks they differ.
 fn differing_tanks<F: PastFacts, G: PastFacts>(facts: &F, others: &G) -> u64
     requires readable { IsReadable (F.history facts.now) }
@@ -70,14 +90,16 @@ fn differing_places<F: PastFacts, G: PastFacts>(facts: &F, others: &G, end: u32)
     count
 }
 
-// Of how many accounts and keys of entries they differ.
-fn differing_keys<F: PastFacts, G: PastFacts>(facts: &F, others: &G, entries: &[Entry]) -> u64
+// Of how many entries they differ: of the account and the key, or of the calculations on what the entry names.
+fn differing_entries<F: PastFacts, G: PastFacts>(facts: &F, others: &G, entries: &[Entry]) -> u64
     requires readable { IsReadable (F.history facts.now) }
     requires others { IsReadable (G.history others.now) }
 {
     let mut count: u64 = 0;
     for entry in entries {
-        if !is_same_of_key(facts, others, entry.account, entry.key) {
+        if !is_same_of_key(facts, others, entry.account, entry.key)
+            || !is_same_of_named(facts, others, entry)
+        {
             count = count.saturating_add(1);
         }
     }
@@ -88,7 +110,7 @@ fn differing_keys<F: PastFacts, G: PastFacts>(facts: &F, others: &G, entries: &[
 const UNUSED: (u32, u64) = (999_999, 9_223_372_036_854_775_807);
 
 /// How many facts differ: of each tank of the row site and one that it doesn't have, each place from 0 to one beyond the last, each
-/// account and key of an entry and one of none, and the total.
+/// account and key of an entry and one of none, the calculations on what each entry names, and the total.
 pub(crate) fn differing<F: PastFacts, G: PastFacts>(facts: &F, others: &G) -> u64
     requires readable { IsReadable (F.history facts.now) }
     requires others { IsReadable (G.history others.now) }
@@ -97,7 +119,7 @@ pub(crate) fn differing<F: PastFacts, G: PastFacts>(facts: &F, others: &G) -> u6
     let end = (entries.len() as u32).saturating_add(2);
     differing_tanks(facts, others)
         .saturating_add(differing_places(facts, others, end))
-        .saturating_add(differing_keys(facts, others, entries))
+        .saturating_add(differing_entries(facts, others, entries))
         .saturating_add(u64::from(!is_same_of_key(facts, others, UNUSED.0, UNUSED.1)))
         .saturating_add(u64::from(facts.total() != others.total()))
 }

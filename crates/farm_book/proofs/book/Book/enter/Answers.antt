@@ -9,5 +9,5 @@ returns-in_ok-reserve-in-Ok-judged-clause-entered g c =
     let next : IsNext g.row.LIMIT c.args.self.now.history c.in-Ok.entry = search rules in
     record {
       is_next = record { entry = c.in-Ok.entry; typed = c.in-Ok.ensures.typed; encoded = c.in-Ok.ensures.found.1; next = next };
-      grown = c.take_accepted.ensures.entered ∙ ap (λ (history : History). with_entry history c.in-Ok.entry) c.reserve.ensures.history;
+      grown = c.take_in.ensures.entered ∙ ap (λ (history : History). with_entry history c.in-Ok.entry) c.reserve.ensures.history;
     }
